@@ -129,13 +129,13 @@ end-moves e n t h =
 
 fenced-moves : (s : Setting) (t : At) (n : ℕ) → suc 1 ≤ n → (tag second : List ℕ) →
     tag ≡ codes "<pre>" ++ second → IsOpening second → (inner : List Piece) →
-    Prints s (IsRaw s.p tag) inner → Moves s.context.ending n 0 0 (fenced t tag inner)
+    Prints s (IsRaw tag) inner → Moves s.context.ending n 0 0 (fenced t tag inner)
 fenced-moves s t n room tag second is opens inner a =
     let e : List ℕ = s.context.ending in
     let inside : Moves e n 2 2 inner =
-    adds-quiet e n 2 inner (adds-weaker e (IsRaw s.p tag) (λ x. list_all no_angle x ≡ true) inner
-    (λ x raw. subst (λ x. list_all no_angle x ≡ true) (sym raw.whole)
-    (all-append raw.attributes (62 ∷ raw.body) (info-quiet tag raw.attributes raw.info)
+    adds-quiet e n 2 inner (adds-weaker (λ x raw.
+    subst (λ x. list_all no_angle x ≡ true) (sym raw.whole) (all-append raw.attributes
+    (62 ∷ raw.body) (info-quiet tag raw.attributes raw.info)
     (escaped-angle raw.body raw.escaped))) a) in
     let first : Moves e n 0 2 (Text tag ∷ []) =
     subst (λ tag. Moves e n 0 2 (Text tag ∷ [])) (sym is) (code-opens e n room second opens) in

@@ -21,7 +21,7 @@ use Rattle.md_content.specs.Built.{Blocks, is_part, is_source, may_stand, conten
 use Rattle.md_content.specs.Built.{content_inside}
 use Rattle.md_content.specs.Built.{IsBuilt}
 use Rattle.md_safe.proofs.Contents.{after-blocks}
-use Rattle.md_safe.proofs.Insides.{is_blocks}
+use Rattle.md_safe.proofs.Insides.{is_blocks, is_blocks-same}
 use Rattle.md_safe.proofs.Following.{second}
 use Rattle.md_safe.proofs.Nodes.{not_part}
 use Rattle.md_safe.proofs.Findings.{AreFound}
@@ -29,8 +29,8 @@ use Rattle.md_safe.proofs.Forests.{Ready, Means, ready-inside, ready-after, mean
 use Rattle.md_safe.proofs.Forests.{inside-means}
 use Rattle.md_safe.proofs.Spot.{Setting, Inside}
 use Rattle.md_safe.proofs.Costs.{Document, read_in, Place, here_of, inner_around, inner_before}
-use Rattle.md_safe.proofs.Costs.{inner_of, at_of, through-node}
-use Rattle.md_safe.proofs.PlainCosts.{is_blocks-same, no_footnotes}
+use Rattle.md_safe.proofs.Costs.{inner_of, at_of, place_at, through-node}
+use Rattle.md_safe.proofs.PlainCosts.{no_footnotes}
 use Rattle.md_depth.specs.Depth.{height}
 use Rattle.md_depth.proofs.Machine.{Leads, leads-quiet, leads-kept}
 use Rattle.md_depth.proofs.Moves.{Moves, ◌▸◌, none, laid}
@@ -118,10 +118,9 @@ heading-here t _ n x solid h = tt
 -- a node that isn't transparent
 solid : (d : Document) (p : Place) (name : Name) (n : ℕ) → is_transparent name ≡ false →
     suc (suc (n - 2)) ≤ n → IsBuilt d.context.bytes Blocks
-    (Node name p.start p.end p.children p.rest)
-    → Ready (read_in d) p.around p.before Blocks → Waits n p.before.heading →
-    Means (read_in d) (inner_around d p name) (content_inside Blocks name) p.children
-    (inner_of d p name) →
+    (Node name p.start p.end p.children p.rest) → Ready (read_in d) p.around p.before Blocks →
+    Waits n p.before.heading → Means (read_in d) (inner_around d p name)
+    (content_inside Blocks name) p.children (inner_of d p name) →
     (is_blocks (content_of name Blocks) ≡ true → Opens d (n - 2) (inner_of d p name)) →
     Opens d n (here_of d p name)
 solid d p name n e room built ready waits known below =
@@ -129,24 +128,21 @@ solid d p name n e room built ready waits known below =
     let t : At = at_of d p name in
     let inner : Outcome = inner_of d p name in
     let stands = second (is_transparent name) (may_stand Blocks name) e built.0 in
-    let a : Inside s t Blocks name inner.pieces =
-    inside-means s t Blocks name inner e built.0 built.1 built.2 known in
+    let a : Inside s t Blocks name inner.pieces = inside-means t Blocks name e built.0 built.1
+    built.2 known in
     record {
-      prints = node-moves s t (n - 2) n room name ready.suits e
+      prints = node-moves s t (n - 2) n room name ready.suits.0 e
           (not_part (is_part name || is_source name) stands) built.1
           (λ _. (n - 1, omega (arith, room), waits)) known.found.resource inner.pieces a
           (λ is. (below is).prints);
-      heading = heading-here t name n (layout d.context.ending inner.pieces) e (λ is.
-          leads-kept 0 (n - 2) (n - 1) (layout d.context.ending inner.pieces)
-          (laid d.context.ending (n - 2) inner.pieces (below is).prints) (omega (arith, room)));
-      texts = texts-append n inner.footnotes
-          (when (named GfmFootnoteDefinition name) (own d p name ∷ []))
-          (inside (is_blocks (content_of name Blocks)) refl)
-          (cond_both (named GfmFootnoteDefinition name) (own d p name ∷ []) [] (TextsLead n)
-          (λ is. (
-            leads-kept 0 (n - 2) n (layout d.context.ending inner.pieces)
-                (laid d.context.ending (n - 2) inner.pieces
-                (below (footnote-blocks name is)).prints)
+      heading = heading-here t name n (layout d.context.ending inner.pieces) e (λ is. leads-kept 0
+          (n - 2) (n - 1) (layout d.context.ending inner.pieces) (laid d.context.ending (n - 2)
+          inner.pieces (below is).prints) (omega (arith, room)));
+      texts = texts-append n inner.footnotes (when (named GfmFootnoteDefinition name)
+          (own d p name ∷ [])) (inside (is_blocks (content_of name Blocks)) refl) (cond_both
+          (named GfmFootnoteDefinition name) (own d p name ∷ []) [] (TextsLead n) (λ is. (
+            leads-kept 0 (n - 2) n (layout d.context.ending inner.pieces) (laid d.context.ending
+                (n - 2) inner.pieces (below (footnote-blocks name is)).prints)
                 (omega (arith, room)),
             tt,
           )) (λ _. tt));
@@ -157,43 +153,32 @@ solid d p name n e room built ready waits known below =
     inside true is = texts-more (n - 2) n (inner_of d p name).footnotes (omega (arith, room))
         (below is).texts
     inside false is =
-        let same : is_blocks (content_inside Blocks name) ≡ is_blocks (content_of name Blocks) =
-        ap (λ b. is_blocks (cond b Blocks (content_of name Blocks))) e in
+        let same : is_blocks (content_inside Blocks name) ≡ is_blocks (content_of name Blocks) = ap
+        (λ b. is_blocks (cond b Blocks (content_of name Blocks))) e in
         subst (TextsLead n) (sym (no_footnotes d (content_inside Blocks name) p.children
         (inner_around d p name) (inner_before p name) (same ∙ is) built.2)) tt
 
 -- what some blocks mean
 pub opens : (d : Document) (forest : Forest) (around : Surroundings) (before : Before) (n : ℕ) →
     Fits d around before n forest → Opens d n (outcome d.context around before forest)
-opens d Empty around before n f =
-    record { prints = none d.context.ending n 0; heading = tt; texts = tt }
+opens d Empty around before n f = record { prints = none d.context.ending n 0; heading = tt; texts =
+    tt }
 opens d (Node name start end children rest) around before n f =
-    let p : Place = record {
-      around = around;
-      before = before;
-      start = start;
-      end = end;
-      children = children;
-      rest = rest;
-    } in
+    let p : Place = place_at around before start end children rest in
     let t : At = at_of d p name in
     let here : Outcome = here_of d p name in
     let next : Before = before_next t name here in
     let others : Outcome = outcome d.context around next rest in
     let within : Ready (read_in d) (inner_around d p name) (inner_before p name)
-    (content_inside Blocks name) =
-    ready-inside (read_in d) around before Blocks name children f.built.0 f.ready in
+    (content_inside Blocks name) = ready-inside name children f.built.0 f.ready in
     let known : Means (read_in d) (inner_around d p name) (content_inside Blocks name) children
-    (inner_of d p name) =
-    means (read_in d) children (inner_around d p name) (inner_before p name)
+    (inner_of d p name) = means (read_in d) children (inner_around d p name) (inner_before p name)
     (content_inside Blocks name) f.built.2 within in
-    let found : AreFound (read_in d) Blocks here.found =
-    found-at (read_in d) t Blocks name (inner_of d p name).pieces f.built.0 f.built.1 f.ready.suits
-    f.built.2 known.prints known.found in
+    let found : AreFound (read_in d) Blocks here.found = found-at t name (inner_of d p name).pieces
+    f.built.0 f.built.1 f.ready.suits f.built.2 known.prints known.found in
     let below : (k : ℕ) → 2 * height children ≤ k → Waits k (inner_before p name).heading →
     is_blocks (content_inside Blocks name) ≡ true → Opens d k (inner_of d p name) =
-    λ k room waits is.
-    opens d children (inner_around d p name) (inner_before p name) k (record {
+    λ k room waits is. opens d children (inner_around d p name) (inner_before p name) k (record {
       built = subst (λ c. IsBuilt d.context.bytes c children)
           (is_blocks-same (content_inside Blocks name) is) f.built.2;
       ready = subst (Ready (read_in d) (inner_around d p name) (inner_before p name))
@@ -201,13 +186,12 @@ opens d (Node name start end children rest) around before n f =
       waits = waits;
       room = room;
     }) in
-    let one : Opens d n here =
-    by (is_transparent name) refl p n f.room f.built f.ready f.waits known below in
-    let later : Opens d n others =
-    opens d rest around next n (record {
+    let one : Opens d n here = by (is_transparent name) refl p n f.room f.built f.ready f.waits
+    known below in
+    let later : Opens d n others = opens d rest around next n (record {
       built = subst (λ c. IsBuilt d.context.bytes c rest) (after-blocks name children) f.built.3;
       ready = subst (Ready (read_in d) around next) (after-blocks name children)
-          (ready-after (read_in d) t Blocks name here f.built.0 f.built.2 found f.ready);
+          (ready-after t name here f.built.0 f.built.2 found f.ready);
       waits = waits-next n here.found.heading before.heading one.heading f.waits;
       room = least (height children) (height rest) n f.room;
     }) in
@@ -223,23 +207,22 @@ opens d (Node name start end children rest) around before n f =
     by : (through_it : Bool) → is_transparent name ≡ through_it → (p : Place) (n : ℕ) →
         2 * max (suc (height p.children)) (height p.rest) ≤ n →
         IsBuilt d.context.bytes Blocks (Node name p.start p.end p.children p.rest) →
-        Ready (read_in d) p.around p.before Blocks → Waits n p.before.heading →
-        Means (read_in d) (inner_around d p name) (content_inside Blocks name) p.children
-        (inner_of d p name) →
-        ((k : ℕ) → 2 * height p.children ≤ k → Waits k (inner_before p name).heading →
-        is_blocks (content_inside Blocks name) ≡ true → Opens d k (inner_of d p name)) →
+        Ready (read_in d) p.around p.before Blocks → Waits n p.before.heading → Means (read_in d)
+        (inner_around d p name) (content_inside Blocks name) p.children (inner_of d p name) → ((k :
+        ℕ) → 2 * height p.children ≤ k → Waits k (inner_before p name).heading → is_blocks
+        (content_inside Blocks name) ≡ true → Opens d k (inner_of d p name)) →
         Opens d n (here_of d p name)
     by true e p n room built ready waits known below =
-        let same : (inner_before p name).heading ≡ p.before.heading =
-        ap (λ b. cond b p.before.heading []) e in
-        let blocks : is_blocks (content_inside Blocks name) ≡ true =
-        ap (λ b. is_blocks (cond b Blocks (content_of name Blocks))) e in
-        through d p name n e
-        (below n (omega (arith, room)) (subst (Waits n) (sym same) waits) blocks)
+        let same : (inner_before p name).heading ≡ p.before.heading = ap
+        (λ b. cond b p.before.heading []) e in
+        let blocks : is_blocks (content_inside Blocks name) ≡ true = ap
+        (λ b. is_blocks (cond b Blocks (content_of name Blocks))) e in
+        through d p name n e (below n (omega (arith, room)) (subst (Waits n) (sym same) waits)
+        blocks)
     by false e p n room built ready waits known below =
         let same : (inner_before p name).heading ≡ [] = ap (λ b. cond b p.before.heading []) e in
         let inside : is_blocks (content_inside Blocks name) ≡ is_blocks (content_of name Blocks) =
         ap (λ b. is_blocks (cond b Blocks (content_of name Blocks))) e in
         let none : Waits (n - 2) [] = leads-quiet 0 ((n - 2) - 1) [] refl in
-        solid d p name n e (omega (arith, room)) built ready waits known (λ is.
-        below (n - 2) (omega (arith, room)) (subst (Waits (n - 2)) (sym same) none) (inside ∙ is))
+        solid d p name n e (omega (arith, room)) built ready waits known (λ is. below (n - 2)
+        (omega (arith, room)) (subst (Waits (n - 2)) (sym same) none) (inside ∙ is))

@@ -6,7 +6,7 @@ use Rattle.md_text.proofs.HtmlNames.{no_angle, escaped-angle}
 use Rattle.md_meaning.specs.Meaning.Layout.{Piece, Text, Needed, Forced, begins_line, laid_after}
 use Rattle.md_meaning.specs.Meaning.Layout.{layout, on_own_line, when}
 use Rattle.md_safe.proofs.Texts.{Escaped}
-use Rattle.md_safe.proofs.Laid.{Adds, laid-append}
+use Rattle.md_safe.proofs.Laid.{Adds, adds-weaker, laid-append}
 use Rattle.md_depth.proofs.Machine.{State, at, run, run-append, quiet, Leads, leads-quiet}
 use Rattle.md_depth.proofs.Machine.{leads-open, leads-close, leads-void, leads-kept}
 
@@ -55,19 +55,14 @@ pub adds-quiet : (e : List ℕ) (n a : ℕ) (pieces : List Piece) →
     Adds e (λ x. list_all no_angle x ≡ true) pieces → Moves e n a a pieces
 adds-quiet e n a pieces adds = record {
   moves = λ s text l t few before.
-      let r = adds text in
+      let r = adds.to text in
       ap (run s) r.grown ∙ run-append s text r.added ∙ ap (λ s. run s r.added) before
       ∙ quiet r.added r.it_holds (l + a) t;
 }
 
 pub adds-escaped : (e : List ℕ) (n a : ℕ) (pieces : List Piece) → Adds e Escaped pieces →
     Moves e n a a pieces
-adds-escaped e n a pieces adds = record {
-  moves = λ s text l t few before.
-      let r = adds text in
-      ap (run s) r.grown ∙ run-append s text r.added ∙ ap (λ s. run s r.added) before
-      ∙ quiet r.added (escaped-angle r.added r.it_holds) (l + a) t;
-}
+adds-escaped e n a pieces adds = adds-quiet e n a pieces (adds-weaker escaped-angle adds)
 
 -- pieces in more elements that are open, where more may be
 pub more : (e : List ℕ) (a m n : ℕ) (pieces : List Piece) → a + m ≤ n → Moves e m 0 0 pieces →

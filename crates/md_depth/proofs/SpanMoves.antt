@@ -27,13 +27,13 @@ use Rattle.md_meaning.specs.Meaning.Media.{leads_to, autolink}
 use Rattle.md_meaning.specs.Meaning.Footnotes.{id_of, call_id, place_among, distinct, count_of}
 use Rattle.md_content.specs.Built.{Blocks, content_of, is_autolink}
 use Rattle.md_safe.proofs.Texts.{Escaped, pipes-escaped, trimmed-escaped, decimal-escaped}
-use Rattle.md_safe.proofs.Laid.{adds-weaker}
+use Rattle.md_safe.proofs.Laid.{adds-weaker, adds-alone}
 use Rattle.md_safe.proofs.Media.{IsEscapedTitle}
 use Rattle.md_safe.proofs.Calls.{id-escaped, call_id-escaped, call_tags}
 use Rattle.md_safe.proofs.Elements.{IsDone}
 use Rattle.md_safe.proofs.Insides.{is_blocks}
 use Rattle.md_safe.proofs.Spot.{Setting, Prints, Inside, IsGoodTarget, target-title}
-use Rattle.md_safe.proofs.SpanNodes.{is_single, is_shown, text-holds}
+use Rattle.md_safe.proofs.SpanNodes.{is_single, is_shown}
 use Rattle.md_safe.proofs.SpanSorts.{pair_tag, is_pair, by_pair, pair-prints, is_code}
 use Rattle.md_safe.proofs.SpanSorts.{is_math, code_opening, code-prints, code-text}
 use Rattle.md_depth.proofs.Machine.{Leads, leads-open, leads-close, leads-append}
@@ -159,9 +159,8 @@ task-moves : (s : Setting) (t : At) (m n : ℕ) → Room m n → (inner : List P
 task-moves s t m n room inner a = by t.around.in_image
   where
     mark : Moves s.context.ending n 0 0 inner
-    mark = adds-quiet s.context.ending n 0 inner (adds-weaker s.context.ending
-        (IsDone t.around.in_image) (λ x. list_all no_angle x ≡ true) inner
-        (done-quiet t.around.in_image) a)
+    mark =
+        adds-quiet s.context.ending n 0 inner (adds-weaker (done-quiet t.around.in_image) a)
 
     checkable : (b : Bool) → Moves s.context.ending n 0 0
         (when (not b) (said (codes "disabled=\"\" ")))
@@ -225,7 +224,7 @@ single-moves s t m n room Image is good inner a below = by t.around.in_image
     label = layout s.context.ending inner
 
     h : Escaped label
-    h = text-holds s Escaped inner a
+    h = adds-alone a
 
     by : (in_image : Bool) → Moves s.context.ending n 0 0 (cond in_image (said label)
         (picture s.context.options (leads_to s.context t) label))

@@ -5,7 +5,7 @@ use Rattle.std.specs.List.{list_all}
 use Rattle.std.specs.Fmt.{decimal}
 use Rattle.std.proofs.lemmas.Bool.{and_parts, and_from}
 use Rattle.md_content.specs.Built.{is_digit}
-use Rattle.md_safe.proofs.NumberedIds.{decimal-digits}
+use Rattle.md_safe.proofs.Texts.{decimal-digits}
 use Rattle.md_page.specs.Added.{shown}
 use Rattle.md_page.specs.Ids.{HasNoDigitsPast, AreApart}
 

@@ -1,7 +1,6 @@
 -- Texts in a row.
 use Rattle.std.proofs.Common.{◌≡◌, ℕ, Bool, ◌&&◌, true, false, List, [], ◌∷◌, ◌++◌, refl, sym, ap}
-use Rattle.std.proofs.Common.{◌∙◌, subst}
-use Rattle.std.proofs.Common.{append-nil, append_assoc}
+use Rattle.std.proofs.Common.{◌∙◌, subst, append-nil, append_assoc}
 use Rattle.md_text.specs.Html.{Attribute, Forest, is_forest, written, IsReading, HasOneReadingWith}
 use Rattle.md_safe.specs.Input.{with_line_feeds, begins_with_line_feed}
 use Rattle.md_safe.specs.Token.{Token, EndOfFile}
@@ -48,9 +47,8 @@ tokenized-only text after emits all h n k =
 
 pub own-tokens : (text : List ℕ) (emits : List Token) → EndsInDataState text emits →
     IsTokenized text (emits ++ (EndOfFile ∷ []))
-own-tokens text emits h =
-    subst (λ x. IsRun Data x (emits ++ (EndOfFile ∷ []))) (append-nil (with_line_feeds text))
-    (runs-on Data (with_line_feeds text ++ []) [] emits (EndOfFile ∷ []) (h [])
+own-tokens text emits h = subst (λ x. IsRun Data x (emits ++ (EndOfFile ∷ [])))
+    (append-nil (with_line_feeds text)) (runs-on _ _ _ _ _ (h [])
     record { steps = 1; emits = refl })
 
 -- ---- a forest, before what doesn't begin with LF, and alone

@@ -10,14 +10,12 @@ use Rattle.md_text.specs.declared.options.CompileOptions.{CompileOptions}
 use Rattle.md_meaning.specs.Meaning.Footnotes.{distinct, place_among, count_of, call_id}
 use Rattle.md_meaning.proofs.Identifiers.{is_in, same, itself, is_in-distinct}
 use Rattle.md_safe.proofs.NumberedIds.{back_prefix, call_tail, call-back, same-call}
+use Rattle.std.proofs.lemmas.Bool.{cond_both, or_right}
 
 place-first : (xs : List (List ℕ)) (x : List ℕ) → 1 ≤ place_among xs x
 place-first [] x = omega arith
-place-first (y ∷ ys) x = by (bytes_eq y x)
-  where
-    by : (is : Bool) → 1 ≤ cond is 1 (suc (place_among ys x))
-    by true = omega arith
-    by false = omega arith
+place-first (y ∷ ys) x = cond_both (bytes_eq y x) 1 (suc (place_among ys x)) (λ n. 1 ≤ n)
+    (λ _. omega arith) (λ _. omega arith)
 
 -- positions determine identifiers
 pub same-place : (xs : List (List ℕ)) (x y : List ℕ) → is_in x xs ≡ true →
@@ -35,31 +33,19 @@ same-place (z ∷ zs) x y h e = by (bytes_eq z x) refl (bytes_eq z y) refl h e (
 
 pub is_in-middle : (xs ys : List (List ℕ)) (x : List ℕ) → is_in x (xs ++ x ∷ ys) ≡ true
 is_in-middle [] ys x = ap (λ b. b || is_in x ys) (itself x)
-is_in-middle (z ∷ zs) ys x = by (bytes_eq z x) (is_in-middle zs ys x)
-  where
-    by : (is : Bool) → is_in x (zs ++ x ∷ ys) ≡ true → (is || is_in x (zs ++ x ∷ ys)) ≡ true
-    by true h = refl
-    by false h = h
+is_in-middle (z ∷ zs) ys x = or_right (bytes_eq z x) _ (is_in-middle zs ys x)
 
-count-append : (xs ys : List (List ℕ)) (x : List ℕ) →
-    count_of (xs ++ ys) x ≡ count_of xs x + count_of ys x
+count-append : (xs ys : List (List ℕ)) (x : List ℕ) → count_of (xs ++ ys) x ≡ count_of xs x
+    + count_of ys x
 count-append [] ys x = omega arith
-count-append (z ∷ zs) ys x = by (bytes_eq z x) (count-append zs ys x)
-  where
-    by : (is : Bool) → count_of (zs ++ ys) x ≡ count_of zs x + count_of ys x →
-        (cond is 1 0) + count_of (zs ++ ys) x ≡ (cond is 1 0) + count_of zs x + count_of ys x
-    by true e = omega (e, arith)
-    by false e = omega (e, arith)
+count-append (z ∷ zs) ys x = omega (count-append zs ys x, arith)
 
-count-middle : (xs ys : List (List ℕ)) (x : List ℕ) →
-    suc (count_of xs x) ≤ count_of (xs ++ x ∷ ys) x
-count-middle xs ys x = by (bytes_eq x x) (itself x) (count-append xs (x ∷ ys) x)
-  where
-    by : (is : Bool) → is ≡ true →
-        count_of (xs ++ x ∷ ys) x ≡ count_of xs x + ((cond is 1 0) + count_of ys x) →
-        suc (count_of xs x) ≤ count_of (xs ++ x ∷ ys) x
-    by true h e = omega (e, arith)
-    by false h e = lie h
+count-middle : (xs ys : List (List ℕ)) (x : List ℕ) → suc (count_of xs x) ≤ count_of
+    (xs ++ x ∷ ys) x
+count-middle xs ys x =
+    let own : ℕ = cond (bytes_eq x x) 1 0 in
+    let one : own ≡ 1 = ap (λ is. cond is 1 0) (itself x) in
+    omega (one, count-append xs (x ∷ ys) x, arith)
 
 -- two calls have another number, or another occurrence
 calls-differ : (all before mid : List (List ℕ)) (x y : List ℕ) → is_in x all ≡ true →
@@ -74,29 +60,19 @@ calls-differ all before mid x y among numbers occurrences =
 -- numbers and occurrences are no greater than the calls are many, and one
 place-last : (xs : List (List ℕ)) (x : List ℕ) → place_among xs x ≤ suc (length xs)
 place-last [] x = omega arith
-place-last (y ∷ ys) x = by (bytes_eq y x) (place-last ys x)
-  where
-    by : (is : Bool) → place_among ys x ≤ suc (length ys) →
-        cond is 1 (suc (place_among ys x)) ≤ suc (suc (length ys))
-    by true h = omega arith
-    by false h = omega (h, arith)
+place-last (y ∷ ys) x = cond_both (bytes_eq y x) 1 (suc (place_among ys x))
+    (λ n. n ≤ suc (suc (length ys))) (λ _. omega arith) (λ _. omega (place-last ys x, arith))
 
 count-last : (xs : List (List ℕ)) (x : List ℕ) → count_of xs x ≤ length xs
 count-last [] x = omega arith
-count-last (y ∷ ys) x = by (bytes_eq y x) (count-last ys x)
-  where
-    by : (is : Bool) → count_of ys x ≤ length ys → (cond is 1 0) + count_of ys x ≤ suc (length ys)
-    by true h = omega (h, arith)
-    by false h = omega (h, arith)
+count-last (y ∷ ys) x = cond_both (bytes_eq y x) 1 0 (λ n. n + count_of ys x ≤ suc (length ys))
+    (λ _. omega (count-last ys x, arith)) (λ _. omega (count-last ys x, arith))
 
 filter-fewer : (p : List ℕ → Bool) (xs : List (List ℕ)) → length (filter p xs) ≤ length xs
 filter-fewer p [] = omega arith
-filter-fewer p (x ∷ xs) = by (p x) (filter-fewer p xs)
-  where
-    by : (is : Bool) → length (filter p xs) ≤ length xs →
-        length (cond is (x ∷ filter p xs) (filter p xs)) ≤ suc (length xs)
-    by true h = omega (h, arith)
-    by false h = omega (h, arith)
+filter-fewer p (x ∷ xs) = cond_both (p x) (x ∷ filter p xs) (filter p xs)
+    (λ ys. length ys ≤ suc (length xs)) (λ _. omega (filter-fewer p xs, arith))
+    (λ _. omega (filter-fewer p xs, arith))
 
 pub distinct-fewer : (calls : List (List ℕ)) → length (distinct calls) ≤ length calls
 distinct-fewer [] = omega arith
@@ -137,19 +113,18 @@ ids-append options all before (x ∷ xs) ys =
 -- a later call has another id
 pub ids-differ : (options : CompileOptions) → options.gfm_footnote_number_ids ≡ true →
     (all before mid : List (List ℕ)) (x y : List ℕ) → is_in x all ≡ true → length all + 1 < 2 ^ 64 →
-    length (before ++ x ∷ mid) + 1 < 2 ^ 64 →
-    id_after options all (before ++ x ∷ mid) y ≡ id_after options all before x → ⊥
+    length (before ++ x ∷ mid) + 1 < 2 ^ 64 → id_after options all (before ++ x ∷ mid) y ≡ id_after
+    options all before x → ⊥
 ids-differ options on all before mid x y among few small e =
     let n : ℕ = place_among (distinct all) x in
     let k : ℕ = suc (count_of before x) in
     let m : ℕ = place_among (distinct all) y in
     let l : ℕ = suc (count_of (before ++ x ∷ mid) y) in
-    let fewer : length before ≤ length (before ++ x ∷ mid) =
-    omega (length-append before (x ∷ mid), arith) in
-    let tails : back_prefix options ++ call_tail n k ≡ back_prefix options ++ call_tail m l =
-    sym (call-back options on x n k) ∙ sym e ∙ call-back options on y m l in
-    let parts = same-call options n m k l (omega (number-bound all x, few, arith))
-    (omega (number-bound all y, few, arith))
-    (omega (count-last before x, fewer, small, arith))
+    let fewer : length before ≤ length (before ++ x ∷ mid) = omega
+    (length-append before (x ∷ mid), arith) in
+    let tails : back_prefix options ++ call_tail n k ≡ back_prefix options ++ call_tail m l = sym
+    (call-back options on x n k) ∙ sym e ∙ call-back options on y m l in
+    let parts = same-call options _ _ _ _ (omega (number-bound all x, few, arith))
+    (omega (number-bound all y, few, arith)) (omega (count-last before x, fewer, small, arith))
     (omega (count-last (before ++ x ∷ mid) y, small, arith)) tails in
     calls-differ all before mid x y among parts.0 parts.1

@@ -76,23 +76,18 @@ pub call-regrouped : (v w n : List ℕ)
     ≡ call_text v w n
 call-regrouped v w n = simp append_assoc
 
-call-read : (test : Attribute → Bool) (Q R : List ℕ → Type 0) (options : CompileOptions) →
+call-read : {test : Attribute → Bool} {Q R : List ℕ → Type 0} {options : CompileOptions} →
     IsTest test options → Tagged test Q R (codes "a") → Tagged test R R (codes "sup") →
     (v w n : List ℕ) → Escaped v → test (attribute (codes "id") w) ≡ true → Escaped w → Q n →
     R (call_text v w n)
-call-read test Q R options known a sup v w n h passes g r =
-    subst R (call-regrouped v w n) (sup []
-    (codes "<a href=\"#" ++ (v ++ (codes "\" id=\"" ++ (w
-    ++ (codes "\" data-footnote-ref=\"\" aria-describedby=\"footnote-label\">"
-    ++ (n ++ codes "</a>")))))) refl refl
-    (a (attribute (codes "href") (35 ∷ v) ∷ attribute (codes "id") w
-    ∷ attribute (codes "data-footnote-ref") []
-    ∷ attribute (codes "aria-describedby") (codes "footnote-label") ∷ []) n (a_call v w h g)
-    (pass_four test (attribute (codes "href") (35 ∷ v)) (attribute (codes "id") w)
-    (attribute (codes "data-footnote-ref") [])
-    (attribute (codes "aria-describedby") (codes "footnote-label"))
-    (known.anchor v) passes (known.other (codes "data-footnote-ref") [] refl)
-    (known.other (codes "aria-describedby") (codes "footnote-label") refl)) r))
+call-read {test = test} {R = R} known a sup v w n h passes g r = subst R (call-regrouped v w n)
+    (sup.tag [] (codes "<a href=\"#" ++ (v ++ (codes "\" id=\"" ++ (w ++ (codes
+    "\" data-footnote-ref=\"\" aria-describedby=\"footnote-label\">" ++ (n ++ codes "</a>"))))))
+    refl refl (a.tag (attribute (codes "href") (35 ∷ v) ∷ attribute (codes "id") w ∷ attribute
+    (codes "data-footnote-ref") [] ∷ attribute (codes "aria-describedby") (codes "footnote-label")
+    ∷ []) n (a_call v w h g) (pass_four test _ _ _ _ (known.anchor v) passes
+    (known.other (codes "data-footnote-ref") [] refl) (known.other (codes "aria-describedby")
+    (codes "footnote-label") refl)) r))
 
 -- the tags of a call
 abbrev pub call_tags : CompileOptions → List ℕ → ℕ → ℕ → List Piece
@@ -103,17 +98,16 @@ call_tags options identifier number occurrence =
     ∷ Text (decimal number) ∷ Text (codes "</a></sup>") ∷ []
 
 -- a call
-pub adds-call : (test : Attribute → Bool) (Q R : List ℕ → Type 0) (ending : List ℕ)
-    (options : CompileOptions) → IsTest test options → Tagged test Q R (codes "a") →
+pub adds-call : {test : Attribute → Bool} {Q R : List ℕ → Type 0} {ending : List ℕ}
+    {options : CompileOptions} → IsTest test options → Tagged test Q R (codes "a") →
     Tagged test R R (codes "sup") → ((x : List ℕ) → Escaped x → Q x) →
-    (identifier : List ℕ) (number occurrence : ℕ) →
-    test (attribute (codes "id") (call_id options identifier number occurrence)) ≡ true →
-    Adds ending R (call_tags options identifier number occurrence)
-adds-call test Q R ending options known a sup said identifier number occurrence passes =
-    adds-flat ending R (call_tags options identifier number occurrence) refl
-    (call-read test Q R options known a sup (id_of options (codes "fn-") identifier number)
-    (call_id options identifier number occurrence)
-    (decimal number) (id-escaped options (codes "fn-") identifier number refl) passes
+    (identifier : List ℕ) (number occurrence : ℕ) → test (attribute (codes "id")
+    (call_id options identifier number occurrence)) ≡ true → Adds ending
+    R (call_tags options identifier number occurrence)
+adds-call {options = options} known a sup said identifier number occurrence passes = adds-flat refl
+    (call-read known a sup (id_of options (codes "fn-") identifier number)
+    (call_id options identifier number occurrence) (decimal number)
+    (id-escaped options (codes "fn-") identifier number refl) passes
     (call_id-escaped options identifier number occurrence)
     (said (decimal number) (decimal-escaped number)))
 
@@ -137,49 +131,41 @@ pub record IsText (Q : List ℕ → Type 0) : Type 0 where
   pub both : (x y : List ℕ) → Q x → Q y → Q (x ++ y)
 
 -- a way back to a call
-backreference-read : (test : Attribute → Bool) (Q R : List ℕ → Type 0)
-    (options : CompileOptions) → IsTest test options → IsText Q → Tagged test Q R (codes "a") →
-    Tagged test Q Q (codes "sup") → (identifier : List ℕ) (number occurrence : ℕ) →
+backreference-read : {test : Attribute → Bool} {Q R : List ℕ → Type 0} {options : CompileOptions} →
+    IsTest test options → IsText Q → Tagged test Q R (codes "a") → Tagged test Q Q (codes "sup") →
+    (identifier : List ℕ) (number occurrence : ℕ) →
     R (backreference options identifier number occurrence)
-backreference-read test Q R options known inside a sup identifier number occurrence =
+backreference-read {test = test} {Q = Q} {options = options} known inside a sup identifier number
+    occurrence =
     let v : List ℕ = call_id options identifier number occurrence in
-    let t : List ℕ =
-    option_or (option_map string_bytes options.gfm_footnote_back_label) (codes "Back to content") in
-    let mark : Q (occurrence_mark occurrence) =
-    cond_both (occurrence == 1) [] (codes "<sup>" ++ (decimal occurrence ++ codes "</sup>"))
-    Q (λ _. inside.text [] refl) (λ _. sup [] (decimal occurrence) refl refl
-    (inside.text (decimal occurrence) (decimal-escaped occurrence))) in
-    a (attribute (codes "href") (35 ∷ v) ∷ attribute (codes "data-footnote-backref") []
-    ∷ attribute (codes "aria-label") t
-    ∷ attribute (codes "class") (codes "data-footnote-backref") ∷ [])
-    (arrow ++ occurrence_mark occurrence) (a_back v t
-    (call_id-escaped options identifier number occurrence)
-    (option-escaped (option_map string_bytes options.gfm_footnote_back_label)
-    (codes "Back to content") refl))
-    (pass_four test (attribute (codes "href") (35 ∷ v))
-    (attribute (codes "data-footnote-backref") []) (attribute (codes "aria-label") t)
-    (attribute (codes "class") (codes "data-footnote-backref"))
-    (known.anchor v) (known.other (codes "data-footnote-backref") [] refl)
-    (known.other (codes "aria-label") t refl)
-    (known.other (codes "class") (codes "data-footnote-backref") refl))
-    (inside.both arrow (occurrence_mark occurrence) (inside.text arrow refl) mark)
+    let t : List ℕ = option_or (option_map string_bytes options.gfm_footnote_back_label)
+    (codes "Back to content") in
+    let mark : Q (occurrence_mark occurrence) = cond_both _ _ _ Q (λ _. inside.text [] refl) (λ _.
+    sup.tag [] (decimal occurrence) refl refl (inside.text (decimal occurrence)
+    (decimal-escaped occurrence))) in
+    a.tag (attribute (codes "href") (35 ∷ v) ∷ attribute (codes "data-footnote-backref") []
+    ∷ attribute (codes "aria-label") t ∷ attribute (codes "class") (codes "data-footnote-backref")
+    ∷ []) (arrow ++ occurrence_mark occurrence) (a_back v t
+    (call_id-escaped options identifier number occurrence) (option-escaped
+    (option_map string_bytes options.gfm_footnote_back_label) (codes "Back to content") refl))
+    (pass_four test _ _ _ _ (known.anchor v) (known.other (codes "data-footnote-backref") [] refl)
+    (known.other (codes "aria-label") t refl) (known.other (codes "class")
+    (codes "data-footnote-backref") refl)) (inside.both arrow (occurrence_mark occurrence)
+    (inside.text arrow refl) mark)
 
 -- the ways back to calls
-pub backreferences-read : (test : Attribute → Bool) (Q R : List ℕ → Type 0)
-    (options : CompileOptions) → IsTest test options → IsText Q → IsText R →
+pub backreferences-read : {test : Attribute → Bool} {Q R : List ℕ → Type 0}
+    {options : CompileOptions} → IsTest test options → IsText Q → IsText R →
     Tagged test Q R (codes "a") → Tagged test Q Q (codes "sup") →
     (identifier : List ℕ) (number count : ℕ) → R (backreferences options identifier number count)
-backreferences-read test Q R options known inside around a sup identifier number zero =
-    around.text [] refl
-backreferences-read test Q R options known inside around a sup identifier number (suc count) =
+backreferences-read known inside around a sup identifier number zero = around.text [] refl
+backreferences-read {options = options} known inside around a sup identifier number (suc count) =
     around.both (backreferences options identifier number count) ((cond (count == 0) [] (32 ∷ []))
-    ++ backreference options identifier number (suc count))
-    (backreferences-read test Q R options known inside around a sup identifier number count)
-    (around.both (cond (count == 0) [] (32 ∷ []))
-    (backreference options identifier number (suc count))
-    (around.text (cond (count == 0) [] (32 ∷ [])) (cond_both (count == 0) [] (32 ∷ []) Escaped
-    (λ _. refl) (λ _. refl)))
-    (backreference-read test Q R options known inside a sup identifier number (suc count)))
+    ++ backreference options identifier number (suc count)) (backreferences-read known inside around
+    a sup identifier number count) (around.both (cond (count == 0) [] (32 ∷ []))
+    (backreference options identifier number (suc count)) (around.text
+    (cond (count == 0) [] (32 ∷ [])) (cond_both (count == 0) [] (32 ∷ []) Escaped (λ _. refl)
+    (λ _. refl))) (backreference-read known inside a sup identifier number (suc count)))
 
 -- of what has a reading
 pub reads-text : (test : Attribute → Bool) → IsText (HasReadingWith test)

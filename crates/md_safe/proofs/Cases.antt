@@ -1,6 +1,5 @@
 -- What follows from each of two tests follows where one of them holds; and what holds of each of
 -- some things holds of one of them, and what follows from it of each.
-use Rattle.std.specs.Str.{bytes_eq}
 use Rattle.std.specs.List.{list_all}
 use Rattle.std.specs.Cmp.Lexicographic.{bytes_decides}
 use Rattle.std.proofs.Common.{◌≡◌, ℕ, Bool, true, ◌||◌, List, [], ◌∷◌, inl, inr, refl, sym, subst}
@@ -15,9 +14,8 @@ pub one_of-passes : (p : List ℕ → Bool) (listed : List (List ℕ)) (name : L
     list_all p listed ≡ true → is_one_of listed name ≡ true → p name ≡ true
 one_of-passes p [] name g e = lie e
 one_of-passes p (t ∷ ts) name g e =
-    let parts = and_parts (p t) (list_all p ts) g in
-    either (bytes_eq name t) (is_one_of ts name) e
-    (λ same. subst (λ x. p x ≡ true) (sym ((bytes_decides name t).0 same)) parts.0)
+    let parts = and_parts _ _ g in
+    either _ _ e (λ same. subst (λ x. p x ≡ true) (sym ((bytes_decides name t).0 same)) parts.0)
     (one_of-passes p ts name parts.1)
 
 pub all-weaker : {A : Type 0} (p q : A → Bool) → ((a : A) → p a ≡ true → q a ≡ true) →

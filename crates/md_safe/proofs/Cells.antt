@@ -1,7 +1,6 @@
 -- Printed cells have readings, also those that a row lacks.
-use Rattle.std.specs.List.{flat_map}
+use Rattle.std.specs.List.{flat_map, list_all}
 use Rattle.std.specs.Option.{option_map_or}
-use Rattle.std.specs.List.{list_all}
 use Rattle.std.proofs.Common.{◌≡◌, ℕ, Bool, true, false, cond, List, [], ◌∷◌, refl, codes}
 use Rattle.std.specs.Prelude.{Option, Some, None}
 use Rattle.md_base.specs.declared.event.AlignKind.{AlignKind}
@@ -24,59 +23,50 @@ cell_texts in_head kind x =
 abbrev pub CellTags : (Attribute → Bool) → (List ℕ → Type 0) → (List ℕ → Type 0) → Type 0
 CellTags test Q R = Tagged test Q R (codes "th") × Tagged test Q R (codes "td")
 
-cell-flat : (test : Attribute → Bool) (Q R : List ℕ → Type 0) (ending : List ℕ)
-    (options : CompileOptions) → IsTest test options → CellTags test Q R →
-    (in_head : Bool) (kind : AlignKind) (x : List ℕ) → Q x →
-    Adds ending R (cell_texts in_head kind x)
-cell-flat test Q R ending options known tags in_head kind x r = by in_head kind
+cell-flat : {test : Attribute → Bool} {Q R : List ℕ → Type 0} {ending : List ℕ}
+    {options : CompileOptions} → IsTest test options → CellTags test Q R →
+    (in_head : Bool) (kind : AlignKind) (x : List ℕ) → Q x → Adds ending
+    R (cell_texts in_head kind x)
+cell-flat {test = test} {R = R} {ending = ending} known tags in_head kind x r = by in_head kind
   where
     aligned : (value : List ℕ) → list_all test (attribute (codes "align") value ∷ []) ≡ true
-    aligned value = pass_one test (attribute (codes "align") value)
-        (known.other (codes "align") value refl)
+    aligned value = pass_one test _ (known.other (codes "align") value refl)
 
     by : (in_head : Bool) (kind : AlignKind) → Adds ending R (cell_texts in_head kind x)
-    by true align.Left = adds-flat ending R (cell_texts true align.Left x) refl
-        (tags.0 (attribute (codes "align") (codes "left") ∷ []) x refl (aligned (codes "left")) r)
-    by true align.Right = adds-flat ending R (cell_texts true align.Right x) refl
-        (tags.0 (attribute (codes "align") (codes "right") ∷ []) x refl (aligned (codes "right")) r)
-    by true align.Center = adds-flat ending R (cell_texts true align.Center x) refl (tags.0
+    by true align.Left = adds-flat refl (tags.0.tag (attribute (codes "align") (codes "left") ∷ [])
+        x refl (aligned (codes "left")) r)
+    by true align.Right = adds-flat refl (tags.0.tag
+        (attribute (codes "align") (codes "right") ∷ []) x refl (aligned (codes "right")) r)
+    by true align.Center = adds-flat refl (tags.0.tag
         (attribute (codes "align") (codes "center") ∷ []) x refl (aligned (codes "center")) r)
-    by true align.None =
-        adds-flat ending R (cell_texts true align.None x) refl (tags.0 [] x refl refl r)
-    by false align.Left = adds-flat ending R (cell_texts false align.Left x) refl
-        (tags.1 (attribute (codes "align") (codes "left") ∷ []) x refl (aligned (codes "left")) r)
-    by false align.Right = adds-flat ending R (cell_texts false align.Right x) refl
-        (tags.1 (attribute (codes "align") (codes "right") ∷ []) x refl (aligned (codes "right")) r)
-    by false align.Center = adds-flat ending R (cell_texts false align.Center x) refl (tags.1
+    by true align.None = adds-flat refl (tags.0.tag [] x refl refl r)
+    by false align.Left = adds-flat refl (tags.1.tag (attribute (codes "align") (codes "left") ∷ [])
+        x refl (aligned (codes "left")) r)
+    by false align.Right = adds-flat refl (tags.1.tag
+        (attribute (codes "align") (codes "right") ∷ []) x refl (aligned (codes "right")) r)
+    by false align.Center = adds-flat refl (tags.1.tag
         (attribute (codes "align") (codes "center") ∷ []) x refl (aligned (codes "center")) r)
-    by false align.None =
-        adds-flat ending R (cell_texts false align.None x) refl (tags.1 [] x refl refl r)
+    by false align.None = adds-flat refl (tags.1.tag [] x refl refl r)
 
 -- a cell on a line of its own
-adds-cell : (test : Attribute → Bool) (Q R : List ℕ → Type 0) (ending : List ℕ)
-    (options : CompileOptions) → IsTest test options → CellTags test Q R →
+adds-cell : {test : Attribute → Bool} {Q R : List ℕ → Type 0} {ending : List ℕ}
+    {options : CompileOptions} → IsTest test options → CellTags test Q R →
     ((xs : List Piece) → Adds ending R xs → Adds ending R (Needed ∷ xs)) →
-    (in_head : Bool) (kind : AlignKind) (x : List ℕ) → Q x →
-    Adds ending R (cell_of in_head x kind)
-adds-cell test Q R ending options known tags lined in_head kind x r =
-    lined (cell_texts in_head kind x) (cell-flat test Q R ending options known tags in_head kind x
-    r)
+    (in_head : Bool) (kind : AlignKind) (x : List ℕ) → Q x → Adds ending R (cell_of in_head x kind)
+adds-cell known tags lined in_head kind x r = lined (cell_texts in_head kind x)
+    (cell-flat known tags in_head kind x r)
 
-pub adds-cell_in : (test : Attribute → Bool) (Q R : List ℕ → Type 0) (ending : List ℕ)
-    (options : CompileOptions) → IsTest test options → CellTags test Q R →
+pub adds-cell_in : {test : Attribute → Bool} {Q R : List ℕ → Type 0} {ending : List ℕ}
+    {options : CompileOptions} → IsTest test options → CellTags test Q R →
     ((xs : List Piece) → Adds ending R xs → Adds ending R (Needed ∷ xs)) → R [] →
     (in_head : Bool) (kind : Option AlignKind) (x : List ℕ) → Q x →
     Adds ending R (option_map_or (λ kind. cell_of in_head x kind) kind [])
-adds-cell_in test Q R ending options known tags lined none in_head None x r =
-    adds-nothing ending R none
-adds-cell_in test Q R ending options known tags lined none in_head (Some kind) x r =
-    adds-cell test Q R ending options known tags lined in_head kind x r
+adds-cell_in known tags lined none in_head None x r = adds-nothing none
+adds-cell_in known tags lined none in_head (Some kind) x r = adds-cell known tags lined _ _ x r
 
-pub adds-empty_cells : (test : Attribute → Bool) (Q R : List ℕ → Type 0) (ending : List ℕ)
-    (options : CompileOptions) → IsTest test options → CellTags test Q R →
+pub adds-empty_cells : {test : Attribute → Bool} {Q R : List ℕ → Type 0} {ending : List ℕ}
+    {options : CompileOptions} → IsTest test options → CellTags test Q R →
     ((xs : List Piece) → Adds ending R xs → Adds ending R (Needed ∷ xs)) → IsBeside R → Q [] →
-    (in_head : Bool) (kinds : List AlignKind) →
-    Adds ending R (flat_map (cell_of in_head []) kinds)
-adds-empty_cells test Q R ending options known tags lined beside none in_head kinds =
-    adds-all ending R beside (cell_of in_head [])
-    (λ kind. adds-cell test Q R ending options known tags lined in_head kind [] none) kinds
+    (in_head : Bool) (kinds : List AlignKind) → Adds ending R (flat_map (cell_of in_head []) kinds)
+adds-empty_cells known tags lined beside none in_head kinds = adds-all beside
+    (λ kind. adds-cell known tags lined in_head kind [] none) kinds

@@ -1,7 +1,7 @@
 -- The content model allows the meaning of a document's nodes: one induction over blocks, in
 -- addition to that of `md_safe`, which covers strings, code and images.
-use Rattle.std.proofs.Common.{◌≡◌, Bool, true, false, ◌&&◌, ◌||◌, cond, [], ◌∷◌, ◌++◌, refl, sym}
-use Rattle.std.proofs.Common.{ap, ◌∙◌, subst, append-nil}
+use Rattle.std.proofs.Common.{◌≡◌, Bool, true, false, ◌||◌, cond, [], ◌∷◌, refl, sym, ap, ◌∙◌}
+use Rattle.std.proofs.Common.{subst, append-nil}
 use Rattle.std.proofs.lemmas.Bool.{cond_both}
 use Rattle.md_base.proofs.Lies.{lie}
 use Rattle.md_base.specs.declared.event.Name.{Name}
@@ -10,9 +10,7 @@ use name_variants.{GfmFootnoteDefinition}
 use Rattle.md_base.specs.Is.{is as named}
 use Rattle.md_base.specs.Tree.{Forest, Empty, Node}
 use Rattle.md_base.specs.NameTests.{is_transparent}
-use Rattle.md_base.specs.Children.{is_empty}
 use Rattle.md_pattern.specs.Looseness.{is_loose}
-use Rattle.md_tree.specs.Rules.{place}
 use Rattle.md_meaning.specs.declared.surroundings.Surroundings.{Surroundings}
 use Rattle.md_meaning.specs.Meaning.Inherited.{inside}
 use Rattle.md_meaning.specs.Meaning.At.{Footnote, Before, At, identifier_of}
@@ -20,16 +18,15 @@ use Rattle.md_meaning.specs.Meaning.Before.{before_children}
 use Rattle.md_meaning.specs.Meaning.Layout.{layout, when}
 use Rattle.md_meaning.specs.Meaning.Nodes.{Outcome, node, before_next, outcome}
 use Rattle.md_content.specs.Built.{Blocks, is_part, is_source, may_stand, content_of}
-use Rattle.md_content.specs.Built.{content_inside}
-use Rattle.md_content.specs.Built.{IsBuilt}
+use Rattle.md_content.specs.Built.{content_inside, IsBuilt}
 use Rattle.md_safe.proofs.Following.{second}
-use Rattle.md_safe.proofs.Insides.{is_blocks}
+use Rattle.md_safe.proofs.Insides.{is_blocks, is_blocks-same}
 use Rattle.md_safe.proofs.Nodes.{not_part}
-use Rattle.md_safe.proofs.Findings.{AreFound}
-use Rattle.md_safe.proofs.Forests.{Ready, ready-inside, ready-after, inside-means}
-use Rattle.md_safe.proofs.Forests.{found-at, Means as SafeMeans, means as safe-means}
+use Rattle.md_safe.proofs.Findings.{AreFound, texts-append}
+use Rattle.md_safe.proofs.Forests.{Ready, ready-inside, ready-after, inside-means, found-at}
+use Rattle.md_safe.proofs.Forests.{Means as SafeMeans, means as safe-means}
 use Rattle.md_safe.proofs.Costs.{through-node, Document, read_in}
-use Rattle.md_safe.proofs.PlainCosts.{is_blocks-same, no_footnotes}
+use Rattle.md_safe.proofs.PlainCosts.{no_footnotes}
 use Rattle.md_safe.specs.Contents.{Content, Phrasing, Flow}
 use Rattle.md_safe.specs.Links.{has_nested_link}
 use Rattle.md_safe.specs.Placed.{sort_of, IsPlaced, may_stand as may_place}
@@ -37,15 +34,14 @@ use Rattle.md_safe.proofs.Linking.{is_spans, with_links, place_in, inner_place, 
 use Rattle.md_safe.proofs.Linking.{IsLinked, linked-inside, unnested-inside, unnested-after}
 use Rattle.md_safe.proofs.Linking.{unlinked-here, unlinked-spans}
 use Rattle.md_safe.proofs.Stands.{Stands, IsWhite}
-use Rattle.md_safe.proofs.ContainedLaid.{lays-nothing, lays-both}
-use Rattle.md_safe.proofs.SpanContents.{Prints, Known, Own}
-use Rattle.md_safe.proofs.Spans.{Spanning}
-use Rattle.md_safe.proofs.Blocks.{solid-node}
-use Rattle.md_safe.proofs.Findings.{texts-append}
-use Rattle.md_safe.proofs.FlowFindings.{IsHeading, AreFlow, heading-found, note-found}
-use Rattle.md_safe.proofs.FlowFindings.{still-outside, heading-both}
+use Rattle.md_safe.proofs.ContainedLaid.{lays-nothing, lays-both, Prints, standing, Own}
+use Rattle.md_safe.proofs.FlowFindings.{IsHeading, AreFlow, heading-found, note-found, heading-both}
 use Rattle.md_safe.proofs.FlowFindings.{heading-next, heading-inside}
 use Rattle.md_safe.proofs.Contents.{after-blocks}
+use Rattle.md_safe.proofs.Claims.{Known}
+use Rattle.md_safe.proofs.SpanCases.{Spanning}
+use Rattle.md_safe.proofs.FlowCases.{solid-node}
+use Rattle.md_safe.proofs.Spot.{at_in}
 
 -- what nodes mean, where their content stands
 pub record Means (nested : Bool) (d : Document) (content : Content) (means : Outcome) : Type 0 where
@@ -54,13 +50,11 @@ pub record Means (nested : Bool) (d : Document) (content : Content) (means : Out
   pub texts : AreFlow nested means.footnotes
 
 -- a transparent node
-through :
-    (nested : Bool) (d : Document) (content : Content) (name : Name) (t : At) (inner : Outcome) →
-    is_transparent name ≡ true →
-    t.found ≡ inner.found → Means nested d content inner →
+through : {nested : Bool} {d : Document} {content : Content} {inner : Outcome} (name : Name)
+    (t : At) → is_transparent name ≡ true → t.found ≡ inner.found → Means nested d content inner →
     Means nested d content (node d.context t name inner)
-through nested d content name t inner is same m =
-    subst (Means nested d content) (sym (through-node d.context t name inner is same)) (record {
+through {nested = nested} {d = d} {content = content} {inner = inner} name t is same m = subst
+    (Means nested d content) (sym (through-node d.context t name inner is same)) (record {
       prints = m.prints;
       heading = m.heading;
       texts = subst (AreFlow nested) (sym (append-nil inner.footnotes)) m.texts;
@@ -73,36 +67,35 @@ pub record Fits (nested : Bool) (d : Document) (around : Surroundings) (before :
   pub built : IsBuilt d.context.bytes Blocks forest
   pub placed : IsPlaced (with_links content) forest
   pub ready : Ready (read_in d) around before Blocks
-  pub outside : around.in_image ≡ false
   pub heading : Stands nested Phrasing before.heading
   pub linked : IsLinked nested content around
   pub unnested : nested ≡ false → has_nested_link around.in_link forest ≡ false
 
 -- a node that isn't transparent
-solid-means :
-    (nested : Bool) (d : Document) (content : Content) (name : Name) (t : At) (inner : Outcome) →
-    is_transparent name ≡ false → (is_part name || is_source name) ≡ false →
-    may_place (with_links content) (sort_of name) ≡ true → Known nested d t name inner.pieces →
-    (is_blocks (content_inside Blocks name) ≡ true →
-    Means nested d (place_in nested content name) inner) →
+solid-means : {nested : Bool} {d : Document} {content : Content} {name : Name} {t : At}
+    (white : IsWhite d.context.ending) (inner : Outcome) → is_transparent name ≡ false →
+    (is_part name || is_source name) ≡ false → may_place (with_links content) (sort_of name)
+    ≡ true → Known (standing nested d white) t name inner.pieces → (is_blocks
+    (content_inside Blocks name) ≡ true → Means nested d (place_in nested content name) inner) →
     (is_blocks (content_inside Blocks name) ≡ false → inner.footnotes ≡ []) →
-    (is_spans content ≡ true → Spanning t content name) →
-    Means nested d content (node d.context t name inner)
-solid-means nested d content name t inner solid whole stands k own none g =
+    (is_spans content ≡ true → Spanning t content name) → Means nested d
+    content (node d.context t name inner)
+solid-means {nested = nested} {d = d} {content = content} {name = name} {t = t} white inner solid
+    whole stands k own none g =
     let own-prints : Own nested d content name inner.pieces = λ is. (own (same ∙ is)).prints in
     let noted : Footnote = record {
       identifier = identifier_of d.context.bytes t.children;
       text = layout d.context.ending inner.pieces;
     } in
     record {
-      prints = solid-node nested d t content name solid whole stands inner.pieces k own-prints g;
+      prints = solid-node (standing nested d white) t content name solid whole stands inner.pieces k
+          own-prints g;
       heading = heading-found nested d content name t inner solid stands own-prints;
-      texts =
-          texts-append (Stands nested Flow) inner.footnotes
+      texts = texts-append (Stands nested Flow) inner.footnotes
           (when (named GfmFootnoteDefinition name) (noted ∷ []))
-          (inner-texts (is_blocks (content_inside Blocks name)) refl)
-          (cond_both (named GfmFootnoteDefinition name) (noted ∷ []) [] (AreFlow nested)
-          (λ is. (note-found nested d content name inner is stands own-prints, tt)) (λ _. tt));
+          (inner-texts (is_blocks (content_inside Blocks name)) refl) (cond_both
+          (named GfmFootnoteDefinition name) (noted ∷ []) [] (AreFlow nested) (λ is.
+          (note-found nested d content name inner is stands own-prints, tt)) (λ _. tt));
     }
   where
     same : is_blocks (content_inside Blocks name) ≡ is_blocks (content_of name Blocks)
@@ -113,39 +106,32 @@ solid-means nested d content name t inner solid whole stands k own none g =
     inner-texts true is = (own is).texts
     inner-texts false is = subst (AreFlow nested) (sym (none is)) tt
 
-any-node :
-    (nested : Bool) (d : Document) (content : Content) (name : Name) (t : At) (inner : Outcome) →
-    t.found ≡ inner.found → (is_transparent name ≡ false → Known nested d t name inner.pieces) →
-    (is_transparent name || may_stand Blocks name) ≡ true →
-    (is_transparent name || may_place (with_links content) (sort_of name)) ≡ true →
-    (is_blocks (content_inside Blocks name) ≡ true →
+any-node : (nested : Bool) (d : Document) (white : IsWhite d.context.ending) (content : Content)
+    (name : Name) (t : At) (inner : Outcome) → t.found ≡ inner.found →
+    (is_transparent name ≡ false → Known (standing nested d white) t name inner.pieces) →
+    (is_transparent name || may_stand Blocks name) ≡ true → (is_transparent name || may_place
+    (with_links content) (sort_of name)) ≡ true → (is_blocks (content_inside Blocks name) ≡ true →
     Means nested d (inner_place nested content name) inner) →
     (is_blocks (content_inside Blocks name) ≡ false → inner.footnotes ≡ []) →
-    (is_spans content ≡ true → Spanning t content name) →
-    Means nested d content (node d.context t name inner)
-any-node nested d content name t inner same k stands placed own none g =
-    by (is_transparent name) refl
+    (is_spans content ≡ true → Spanning t content name) → Means nested d
+    content (node d.context t name inner)
+any-node nested d white content name t inner same k stands placed own none g = by
+    (is_transparent name) refl
   where
-    by : (looked : Bool) → is_transparent name ≡ looked →
-        Means nested d content (node d.context t name inner)
-    by true e = through nested d content name t inner e same (subst (λ c. Means nested d c inner)
-        (ap (λ b. cond b content (place_in nested content name)) e)
-        (own (ap (λ b. is_blocks (cond b Blocks (content_of name Blocks))) e)))
-    by false e = solid-means nested d content name t inner e
-        (not_part (is_part name || is_source name)
-        (second (is_transparent name) (may_stand Blocks name) e stands))
-        (second (is_transparent name) (may_place (with_links content) (sort_of name)) e placed)
+    by : (looked : Bool) → is_transparent name ≡ looked → Means nested d
+        content (node d.context t name inner)
+    by true e = through name t e same (subst (λ c. Means nested d c inner)
+        (ap (λ b. cond b content (place_in nested content name)) e) (own (ap
+        (λ b. is_blocks (cond b Blocks (content_of name Blocks))) e)))
+    by false e = solid-means white inner e (not_part _ (second _ _ e stands)) (second _ _ e placed)
         (k e) (λ is. subst (λ c. Means nested d c inner)
-        (ap (λ b. cond b content (place_in nested content name)) e)
-        (own is)) none
-        g
+        (ap (λ b. cond b content (place_in nested content name)) e) (own is)) none g
 
 pub means : (nested : Bool) (d : Document) (forest : Forest) (around : Surroundings)
-    (before : Before) (content : Content)
-    → Fits nested d around before content forest →
+    (before : Before) (content : Content) → Fits nested d around before content forest →
     Means nested d content (outcome d.context around before forest)
 means nested d Empty around before content f = record {
-  prints = lays-nothing nested d.context.ending content;
+  prints = lays-nothing;
   heading = tt;
   texts = tt;
 }
@@ -153,78 +139,63 @@ means nested d (Node name start end children rest) around before content f =
     let around' : Surroundings = inside d.context.options (is_loose children) name around in
     let before' : Before = before_children name children before in
     let inner : Outcome = outcome d.context around' before' children in
-    let t : At = record {
-      around = around;
-      before = before;
-      children = children;
-      found = inner.found;
-      calls = before.calls ++ inner.calls;
-      place = place start end;
-      is_last = around.is_outermost && is_empty rest;
-    } in
+    let t : At = at_in around before start end children rest inner in
     let here : Outcome = node d.context t name inner in
     let next : Before = before_next t name here in
     let others : Outcome = outcome d.context around next rest in
-    let within : Ready (read_in d) around' before' (content_inside Blocks name) =
-    ready-inside (read_in d) around before Blocks name children f.built.0 f.ready in
+    let within : Ready (read_in d) around' before' (content_inside Blocks name) = ready-inside name
+    children f.built.0 f.ready in
     let known : SafeMeans (read_in d) around' (content_inside Blocks name) children inner =
     safe-means (read_in d) children around' before' (content_inside Blocks name) f.built.2 within in
-    let found : AreFound (read_in d) Blocks here.found =
-    found-at (read_in d) t Blocks name inner.pieces f.built.0 f.built.1 f.ready.suits f.built.2
-    known.prints known.found in
+    let found : AreFound (read_in d) Blocks here.found = found-at t name inner.pieces f.built.0
+    f.built.1 f.ready.suits f.built.2 known.prints known.found in
     let own : is_blocks (content_inside Blocks name) ≡ true → Means nested d
-    (inner_place nested content name) inner = λ is.
-    means nested d children around' before' (inner_place nested content name) (record {
+    (inner_place nested content name) inner = λ is. means nested d children around' before'
+    (inner_place nested content name) (record {
       white = f.white;
       built = subst (λ c. IsBuilt d.context.bytes c children)
           (is_blocks-same (content_inside Blocks name) is) f.built.2;
-      placed =
-          subst (λ c. IsPlaced c children) (sym (inner-place-with nested content name)) f.placed.1;
+      placed = subst (λ c. IsPlaced c children) (sym (inner-place-with nested content name))
+          f.placed.1;
       ready = subst (Ready (read_in d) around' before')
           (is_blocks-same (content_inside Blocks name) is) within;
-      outside = still-outside d.context.options (is_loose children) name around is f.outside;
       heading = heading-inside nested (is_transparent name) before.heading f.heading;
-      linked =
-          linked-inside nested d.context.options (is_loose children) content name around f.linked;
+      linked = linked-inside nested d.context.options (is_loose children) content name around
+          f.linked;
       unnested = λ no. unnested-inside d.context.options (is_loose children) name around start end
           children rest is (f.unnested no);
     }) in
-    let one : Means nested d content here =
-    any-node nested d content name t inner refl (λ solid. record {
-      white = f.white;
-      escaping = f.ready.suits;
-      outside = f.outside;
+    let one : Means nested d content here = any-node nested d f.white content name t inner refl
+    (λ solid. record {
+      escaping = f.ready.suits.0;
+      outside = f.ready.suits.1;
       fit = f.built.1;
       resource = known.found.resource;
-      heading = f.heading;
-      within =
-          inside-means (read_in d) t Blocks name inner solid f.built.0 f.built.1 f.built.2 known;
+      ids = λ call value. refl;
+      heading = λ is. f.heading;
+      within = inside-means t Blocks name solid f.built.0 f.built.1 f.built.2 known;
     }) f.built.0 f.placed.0 own
-    (λ none. no_footnotes d (content_inside Blocks name) children around' before' none
-    f.built.2) (λ is. record {
+    (λ none. no_footnotes d (content_inside Blocks name) children around' before' none f.built.2)
+    (λ is. record {
       spans = is;
       free = λ prints. unlinked-here nested content name around start end children rest is prints
           f.linked f.unnested;
-      plain = λ no. unlinked-spans content is
-          (λ linked. lie (sym no ∙ (f.linked linked).1));
+      plain = λ no. unlinked-spans content is (λ linked. lie (sym no ∙ (f.linked linked).1));
     }) in
     let later : Means nested d content others = means nested d rest around next content (record {
       white = f.white;
       built = subst (λ c. IsBuilt d.context.bytes c rest) (after-blocks name children) f.built.3;
       placed = f.placed.2;
       ready = subst (Ready (read_in d) around next) (after-blocks name children)
-          (ready-after (read_in d) t Blocks name here f.built.0 f.built.2 found f.ready);
-      outside = f.outside;
+          (ready-after t name here f.built.0 f.built.2 found f.ready);
       heading = heading-next nested here.found.heading before.heading one.heading f.heading;
       linked = f.linked;
       unnested = λ no. unnested-after name around.in_link start end children rest (f.unnested no);
     }) in
     record {
-      prints =
-          lays-both nested d.context.ending content here.pieces others.pieces one.prints
-          later.prints;
-      heading =
-          heading-both nested here.found.heading others.found.heading one.heading later.heading;
+      prints = lays-both one.prints later.prints;
+      heading = heading-both nested here.found.heading others.found.heading one.heading
+          later.heading;
       texts = texts-append (Stands nested Flow) here.footnotes others.footnotes one.texts
           later.texts;
     }

@@ -15,7 +15,7 @@ use Rattle.md_content.specs.Built.{content_past, content_after, content_after_no
 use Rattle.md_safe.proofs.Texts.{Escaped}
 use Rattle.md_safe.proofs.Claim.{Claim}
 use Rattle.md_safe.proofs.Elements.{IsDone}
-use Rattle.md_safe.proofs.RawElements.{IsRaw, IsInCode, bare-in_code, code_tag, math_tag}
+use Rattle.md_safe.proofs.RawElements.{IsRaw, IsInfo, code_tag, math_tag}
 
 -- the names on the spine after a node
 abbrev pub spine_after_node : Name → Forest → List Name → List Name
@@ -27,10 +27,10 @@ abbrev pub Holds : Claim → Bool → Bool → Content → List ℕ → Type 0
 Holds p escaping in_image Blocks x = p.holds x
 Holds p escaping in_image Spans x = Escaped x
 Holds p escaping in_image Strings x = escaping ≡ true → Escaped x
-Holds p escaping in_image FirstFence x = IsRaw p code_tag x
-Holds p escaping in_image FirstMathFence x = IsRaw p math_tag x
+Holds p escaping in_image FirstFence x = IsRaw code_tag x
+Holds p escaping in_image FirstMathFence x = IsRaw math_tag x
 Holds p escaping in_image Chunks x = Escaped x
-Holds p escaping in_image InfoAndMeta x = IsInCode p x
+Holds p escaping in_image InfoAndMeta x = IsInfo code_tag x
 Holds p escaping in_image MetaAlone x = x ≡ []
 Holds p escaping in_image Done x = IsDone in_image x
 Holds p escaping in_image Nothing x = x ≡ []
@@ -38,7 +38,7 @@ Holds p escaping in_image Sources x = Unit {0}
 
 -- the surroundings in which a content may stand
 abbrev pub Suits : Bool → Bool → Content → Type 0
-Suits escaping in_image Blocks = escaping ≡ true
+Suits escaping in_image Blocks = (escaping ≡ true) × (in_image ≡ false)
 Suits escaping in_image Spans = (escaping ≡ true) × (in_image ≡ true)
 Suits escaping in_image FirstFence = escaping ≡ true
 Suits escaping in_image InfoAndMeta = escaping ≡ true
@@ -59,36 +59,31 @@ is_first FirstMathFence = true
 is_first _ = false
 
 pub holds-nothing : (p : Claim) (escaping in_image : Bool) (content : Content) →
-    is_first content ≡ false →
-    Holds p escaping in_image content []
+    is_first content ≡ false → Holds p escaping in_image content []
 holds-nothing p escaping in_image Blocks h = p.plain [] (nothing p.test)
 holds-nothing p escaping in_image Spans h = refl
 holds-nothing p escaping in_image Strings h = λ _. refl
 holds-nothing p escaping in_image FirstFence h = lie (sym h)
 holds-nothing p escaping in_image FirstMathFence h = lie (sym h)
 holds-nothing p escaping in_image Chunks h = refl
-holds-nothing p escaping in_image InfoAndMeta h = bare-in_code p
+holds-nothing p escaping in_image InfoAndMeta h = inl refl
 holds-nothing p escaping in_image MetaAlone h = refl
 holds-nothing p escaping in_image Done h = inl refl
 holds-nothing p escaping in_image Nothing h = refl
 holds-nothing p escaping in_image Sources h = tt
 
 -- what stays after each name stays after nodes
-pub stays-after : (Q : Content → Type 0) →
-    ((content : Content) (name : Name) → Q content → Q (content_past content name)) →
-    (content : Content) (forest : Forest) → Q content → Q (content_after content forest)
+pub stays-after : (Q : Content → Type 0) → ((content : Content) (name : Name) → Q content → Q
+    (content_past content name)) → (content : Content) (forest : Forest) → Q content →
+    Q (content_after content forest)
 stays-after Q past content Empty h = h
-stays-after Q past content (Node name start end children rest) h =
-    stays-after Q past
-    (cond (is_transparent name) (content_after content children) (content_past content name)) rest
-    (cond_both (is_transparent name) (content_after content children) (content_past content name) Q
-    (λ _. stays-after Q past content children h) (λ _. past content name h))
+stays-after Q past content (Node name start end children rest) h = stays-after Q past (cond
+    (is_transparent name) (content_after content children) (content_past content name)) rest
+    (cond_both _ _ _ Q (λ _. stays-after Q past content children h) (λ _. past content name h))
 
 -- after each node in blocks the content is still blocks
-pub after-blocks : (name : Name) (children : Forest) →
-    content_after_node Blocks name children ≡ Blocks
-after-blocks name children =
-    cond_both (is_transparent name) (content_after Blocks children) Blocks (λ c. c ≡ Blocks)
-    (λ _. stays-after (λ content. content ≡ Blocks)
-    (λ content name e. ap (λ content. content_past content name) e)
+pub after-blocks : (name : Name) (children : Forest) → content_after_node Blocks name
+    children ≡ Blocks
+after-blocks name children = cond_both _ _ _ (λ c. c ≡ Blocks) (λ _. stays-after
+    (λ content. content ≡ Blocks) (λ content name e. ap (λ content. content_past content name) e)
     Blocks children refl) (λ _. refl)

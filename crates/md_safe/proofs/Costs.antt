@@ -1,6 +1,6 @@
 -- What a node costs: how often an id stands in what it prints, as often as calls have it at most.
-use Rattle.std.proofs.Common.{◌≡◌, ℕ, ◌+◌, ◌≤◌, Bool, true, false, ◌&&◌, List, [], ◌∷◌, ◌++◌, refl}
-use Rattle.std.proofs.Common.{cond, sym, ap, ◌∙◌, subst, arith, append-nil}
+use Rattle.std.proofs.Common.{◌≡◌, ℕ, ◌+◌, ◌≤◌, Bool, true, false, List, [], ◌∷◌, ◌++◌, refl, cond}
+use Rattle.std.proofs.Common.{sym, ap, ◌∙◌, subst, arith, append-nil}
 use Rattle.std.specs.Prelude.{unwrap_or}
 use Rattle.md_base.proofs.Lies.{lie}
 use Rattle.md_base.specs.declared.event.Name.{Name}
@@ -10,12 +10,10 @@ use Rattle.md_base.specs.declared.event.Point.{Point}
 use Rattle.md_base.specs.Is.{is as named}
 use Rattle.md_base.specs.Tree.{Forest}
 use Rattle.md_base.specs.NameTests.{is_transparent}
-use Rattle.md_base.specs.Children.{is_empty}
 use Rattle.md_pattern.specs.Looseness.{is_loose}
 use Rattle.md_text.specs.Html.{any_attribute}
 use Rattle.md_text.proofs.HtmlJoin.{nothing}
 use Rattle.md_text.proofs.HtmlIds.{occurs, occurs-append, is_without, Counts, counts-plain}
-use Rattle.md_tree.specs.Rules.{place}
 use Rattle.md_meaning.specs.declared.surroundings.Surroundings.{Surroundings}
 use Rattle.md_meaning.specs.Meaning.Inherited.{inside}
 use Rattle.md_meaning.specs.Meaning.At.{Context, Before, At, identifier_of}
@@ -26,7 +24,7 @@ use Rattle.md_content.specs.Underlined.{waits_after}
 use Rattle.md_safe.proofs.Texts.{Escaped}
 use Rattle.md_safe.proofs.Claim.{reading}
 use Rattle.md_safe.proofs.Laid.{Adds}
-use Rattle.md_safe.proofs.Spot.{Setting, AreTitles}
+use Rattle.md_safe.proofs.Spot.{Setting, AreTitles, at_in}
 use Rattle.md_safe.proofs.Counted.{counting, without-test, Waiting, TextsCount}
 use Rattle.md_safe.proofs.CallNumbers.{ids_after, ids-append}
 
@@ -95,6 +93,16 @@ pub record Place : Type 0 where
   pub children : Forest
   pub rest : Forest
 
+abbrev pub place_at : Surroundings → Before → Point → Point → Forest → Forest → Place
+place_at around before start end children rest = record {
+  around = around;
+  before = before;
+  start = start;
+  end = end;
+  children = children;
+  rest = rest;
+}
+
 abbrev pub inner_around : Document → Place → Name → Surroundings
 inner_around d p name = inside d.context.options (is_loose p.children) name p.around
 
@@ -105,15 +113,7 @@ abbrev pub inner_of : Document → Place → Name → Outcome
 inner_of d p name = outcome d.context (inner_around d p name) (inner_before p name) p.children
 
 abbrev pub at_of : Document → Place → Name → At
-at_of d p name = record {
-  around = p.around;
-  before = p.before;
-  children = p.children;
-  found = (inner_of d p name).found;
-  calls = p.before.calls ++ (inner_of d p name).calls;
-  place = place p.start p.end;
-  is_last = p.around.is_outermost && is_empty p.rest;
-}
+at_of d p name = at_in p.around p.before p.start p.end p.children p.rest (inner_of d p name)
 
 abbrev pub here_of : Document → Place → Name → Outcome
 here_of d p name = node d.context (at_of d p name) name (inner_of d p name)
@@ -124,13 +124,11 @@ Below d w p name waits m =
     Costs d w (inner_before p name) m (waits_after waits p.children) (inner_of d p name)
 
 -- what a node costs is what its children do, and it itself where it is a call
-pub cost-parts : (d : Document) (w : List ℕ) (p : Place) (name : Name) →
-    due d w p.before.calls (here_of d p name).calls
-    ≡ due d w p.before.calls (inner_of d p name).calls
-    + due d w (p.before.calls ++ (inner_of d p name).calls)
-    (when (named GfmFootnoteCall name) (identifier_of d.context.bytes p.children ∷ []))
-cost-parts d w p name = due-append d w p.before.calls (inner_of d p name).calls
-    (when (named GfmFootnoteCall name) (identifier_of d.context.bytes p.children ∷ []))
+pub cost-parts : (d : Document) (w : List ℕ) (p : Place) (name : Name) → due d w p.before.calls
+    (here_of d p name).calls ≡ due d w p.before.calls (inner_of d p name).calls + due d w
+    (p.before.calls ++ (inner_of d p name).calls) (when
+    (named GfmFootnoteCall name) (identifier_of d.context.bytes p.children ∷ []))
+cost-parts d w p name = due-append d w _ _ _
 
 pub cost-least : (d : Document) (w : List ℕ) (p : Place) (name : Name) →
     due d w p.before.calls (inner_of d p name).calls

@@ -22,14 +22,13 @@ abbrev pub counting : List ℕ → ℕ → Claim
 counting w n = record {
   holds = Counts w n;
   test = is_without w;
-  plain = λ x h. counts-more w 0 n x (omega arith) (counts-plain w x h);
-  before = λ x y h g.
-      counts-more w (0 + n) n (x ++ y) (omega arith) (counts-join w 0 n x y (counts-plain w x h) g);
-  after = λ x y h g.
-      counts-more w (n + 0) n (x ++ y) (omega arith) (counts-join w n 0 x y h (counts-plain w y g));
-  within = λ name attributes inside h a within.
-      counts-more w (0 + n) n _ (omega arith) (counts-element w n 0 name attributes inside h
-      (omega (none-attributes w attributes a, arith)) within);
+  plain = λ x h. counts-more w _ _ _ (omega arith) (counts-plain w x h);
+  before = λ x y h g. counts-more w _ _ _ (omega arith)
+      (counts-join w 0 n x y (counts-plain w x h) g);
+  after = λ x y h g. counts-more w _ _ _ (omega arith)
+      (counts-join w n 0 x y h (counts-plain w y g));
+  within = λ name attributes inside h a within. counts-more w _ _ _ (omega arith) (counts-element w
+      n 0 name attributes inside h (omega (none-attributes w attributes a, arith)) within);
   takes = counts-takes w n;
 }
 
@@ -37,10 +36,7 @@ counting w n = record {
 pub without-test : (w : List ℕ) (options : CompileOptions) → options.allow_dangerous_html ≡ false →
     IsTest (is_without w) options
 without-test w options html = record {
-  other = λ name value h. by name value
-      (and_parts (not (bytes_eq name (codes "src"))) (not (bytes_eq name (codes "id")))
-      (and_parts (not (bytes_eq name (codes "href"))) (not (bytes_eq name (codes "src"))
-      && not (bytes_eq name (codes "id"))) h).1).1;
+  other = λ name value h. by name value (and_parts _ _ (and_parts _ _ h).1).1;
   link = λ destination. refl;
   anchor = λ rest. refl;
   image = λ destination. refl;
@@ -95,31 +91,26 @@ pub counts-call : (w v id n : List ℕ) → Escaped v → Escaped id → Escaped
 counts-call w v id n h g k =
     let hit : ℕ = occurs w (read_back id ∷ []) in
     let attributes : List Attribute = attribute (codes "href") (35 ∷ v) ∷ attribute (codes "id") id
-    ∷ attribute (codes "data-footnote-ref") []
-    ∷ attribute (codes "aria-describedby") (codes "footnote-label") ∷ [] in
-    let link : List ℕ = codes "<a href=\"#" ++ (v ++ (codes "\" id=\"" ++ (id
-    ++ (codes "\" data-footnote-ref=\"\" aria-describedby=\"footnote-label\">"
-    ++ (n ++ codes "</a>"))))) in
+    ∷ attribute (codes "data-footnote-ref") [] ∷ attribute (codes "aria-describedby")
+    (codes "footnote-label") ∷ [] in
+    let link : List ℕ = codes "<a href=\"#" ++ (v ++ (codes "\" id=\"" ++ (id ++ (codes
+    "\" data-footnote-ref=\"\" aria-describedby=\"footnote-label\">" ++ (n ++ codes "</a>"))))) in
     let own : occurs w (ids_in attributes) ≤ hit = omega arith in
-    let inner : Counts w (hit + 0) link =
-    counted-element w 0 hit (codes "a") attributes n (a_call v id h g) own
-    (counts-plain w n (text (is_without w) n k)) in
+    let inner : Counts w (hit + 0) link = counted-element w 0 hit (codes "a") attributes n
+    (a_call v id h g) own (counts-plain w n (text (is_without w) n k)) in
     let outer : Counts w (0 + (hit + 0)) (codes "<sup>" ++ (link ++ codes "</sup>")) =
     counted-element w (hit + 0) 0 (codes "sup") [] link refl (omega arith) inner in
-    counts-more w (0 + (hit + 0)) hit (call_text v id n) (omega arith)
-    (subst (Counts w (0 + (hit + 0))) (call-regrouped v id n) outer)
+    counts-more w _ _ _ (omega arith) (subst (Counts w (0 + (hit + 0))) (call-regrouped v id n)
+    outer)
 
 -- the heading of the section has its id
-pub counts-heading : (w label : List ℕ) → Escaped label →
-    Counts w (occurs w (codes "footnote-label" ∷ []))
-    (codes "<h2 id=\"footnote-label\" class=\"sr-only\">" ++ (label ++ codes "</h2>"))
+pub counts-heading : (w label : List ℕ) → Escaped label → Counts w
+    (occurs w (codes "footnote-label" ∷ [])) (codes
+    "<h2 id=\"footnote-label\" class=\"sr-only\">" ++ (label ++ codes "</h2>"))
 counts-heading w label h =
     let hit : ℕ = occurs w (codes "footnote-label" ∷ []) in
-    let attributes : List Attribute = attribute (codes "id") (codes "footnote-label")
-    ∷ attribute (codes "class") (codes "sr-only") ∷ [] in
+    let attributes : List Attribute = attribute (codes "id") (codes "footnote-label") ∷ attribute
+    (codes "class") (codes "sr-only") ∷ [] in
     let own : occurs w (ids_in attributes) ≤ hit = omega arith in
-    counts-more w (hit + 0) hit
-    (codes "<h2 id=\"footnote-label\" class=\"sr-only\">" ++ (label ++ codes "</h2>"))
-    (omega arith)
-    (counted-element w 0 hit (codes "h2") attributes label refl own
-    (counts-plain w label (text (is_without w) label h)))
+    counts-more w _ _ _ (omega arith) (counted-element w 0 hit (codes "h2") attributes label refl
+    own (counts-plain w label (text (is_without w) label h)))

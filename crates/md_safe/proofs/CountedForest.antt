@@ -1,38 +1,32 @@
 -- How often an id stands in what nodes mean: at most so often as calls in them have it. The
 -- induction is over blocks alone and adds what each node costs; of other contents that of
 -- `Forests.antt` is enough.
-use Rattle.std.proofs.Common.{◌≡◌, ℕ, ◌+◌, Bool, true, false, ◌||◌, cond, List, [], refl, ap, ◌∙◌}
-use Rattle.std.proofs.Common.{subst, arith}
+use Rattle.std.proofs.Common.{◌≡◌, ℕ, ◌+◌, Bool, true, false, cond, List, [], refl, ap, ◌∙◌, subst}
+use Rattle.std.proofs.Common.{arith}
 use Rattle.std.specs.Prelude.{Option, Some, None, unwrap_or}
 use Rattle.std.proofs.lemmas.Bool.{or_parts}
 use Rattle.md_base.specs.declared.event.Name.{Name}
-use Rattle.md_base.specs.declared.event.Name.TheVariants as name_variants
-use name_variants.{GfmFootnoteDefinition}
-use Rattle.md_base.specs.Is.{is as named}
 use Rattle.md_base.specs.Tree.{Forest, Empty, Node}
-use Rattle.md_base.specs.NameTests.{is_transparent, is_call}
+use Rattle.md_base.specs.NameTests.{is_transparent}
 use Rattle.md_base.specs.Children.{or_else}
-use Rattle.md_text.proofs.HtmlIds.{Counts, counts-join}
+use Rattle.md_text.proofs.HtmlIds.{counts-join}
 use Rattle.md_meaning.specs.declared.surroundings.Surroundings.{Surroundings}
 use Rattle.md_meaning.specs.Meaning.At.{Before, At}
 use Rattle.md_meaning.specs.Meaning.Nodes.{Outcome, before_next, outcome}
 use Rattle.md_content.specs.Underlined.{waits_past, waits_after, IsUnderlined}
-use Rattle.md_content.specs.Built.{Blocks, is_part, is_source, may_stand, content_of}
-use Rattle.md_content.specs.Built.{content_inside}
-use Rattle.md_content.specs.Built.{IsBuilt}
+use Rattle.md_content.specs.Built.{Blocks, content_of, content_inside, IsBuilt}
 use Rattle.md_safe.proofs.Laid.{adds-append, adds-nothing}
 use Rattle.md_safe.proofs.Contents.{after-blocks}
-use Rattle.md_safe.proofs.Insides.{is_blocks}
+use Rattle.md_safe.proofs.Insides.{is_blocks, is_blocks-same}
 use Rattle.md_safe.proofs.Following.{second}
 use Rattle.md_safe.proofs.Nodes.{not_part}
 use Rattle.md_safe.proofs.Findings.{AreFound}
-use Rattle.md_safe.proofs.Forests.{Ready, Means, ready-inside, ready-after, means}
-use Rattle.md_safe.proofs.Forests.{found-at}
+use Rattle.md_safe.proofs.Forests.{Ready, Means, ready-inside, ready-after, means, found-at}
 use Rattle.md_safe.proofs.Counted.{Waiting, texts-append}
 use Rattle.md_safe.proofs.Costs.{Document, read_in, Costs, Place, here_of, due-append, inner_around}
 use Rattle.md_safe.proofs.Costs.{inner_before, inner_of, at_of, counts-none, through-spent}
-use Rattle.md_safe.proofs.PlainCosts.{Stands, is_setext, is_special, IsPlain, around-blocks}
-use Rattle.md_safe.proofs.PlainCosts.{around-others, is_blocks-same}
+use Rattle.md_safe.proofs.Costs.{place_at}
+use Rattle.md_safe.proofs.PlainCosts.{Stands, is_special, IsPlain, around-blocks, around-others}
 use Rattle.md_safe.proofs.SpecialCosts.{BelowBlocks, IsAwaited, special-spent}
 
 -- what is known where some nodes stand: blocks, each underline where a heading waits for it
@@ -43,30 +37,27 @@ pub record Fits (d : Document) (around : Surroundings) (before : Before) (waits 
   pub underlined : IsUnderlined waits forest
 
 -- a node that isn't transparent
-solid-spent : (d : Document) (w : List ℕ) (p : Place) (name : Name) (waits : Bool) (m : ℕ) →
-    Stands d p name →
-    IsAwaited waits name p.children → Waiting w waits m p.before.heading →
-    BelowBlocks d w p name false 0 →
-    Costs d w p.before m (waits_past waits name) (here_of d p name)
-solid-spent d w p name waits m k awaited h b =
-    by (is_special name) refl (is_blocks (content_of name Blocks)) refl
+solid-spent : {d : Document} {w : List ℕ} {p : Place} {name : Name} {m : ℕ} (waits : Bool) →
+    Stands d p name → IsAwaited waits name p.children → Waiting w waits m p.before.heading →
+    BelowBlocks d w p name false 0 → Costs d w p.before m (waits_past waits name) (here_of d p name)
+solid-spent {d = d} {w = w} {p = p} {name = name} {m = m} waits k awaited h b = by (is_special name)
+    refl (is_blocks (content_of name Blocks)) refl
   where
     plain : is_special name ≡ false → IsPlain name
     plain other =
-        let first =
-        or_parts (is_setext name) (is_call name || named GfmFootnoteDefinition name) other in
-        let later = or_parts (is_call name) (named GfmFootnoteDefinition name) first.1 in
+        let first = or_parts _ _ other in
+        let later = or_parts _ _ first.1 in
         record { setext = first.0; call = later.0; footnote = later.1 }
 
     same : is_blocks (content_inside Blocks name) ≡ is_blocks (content_of name Blocks)
     same = ap (λ b. is_blocks (cond b Blocks (content_of name Blocks))) k.solid
 
     by : (special : Bool) → is_special name ≡ special → (blocks : Bool) →
-        is_blocks (content_of name Blocks) ≡ blocks
-        → Costs d w p.before m (waits_past waits name) (here_of d p name)
+        is_blocks (content_of name Blocks) ≡ blocks → Costs d w p.before m
+        (waits_past waits name) (here_of d p name)
     by true is blocks of = special-spent d w p name waits m is awaited h b
-    by false is true of = around-blocks d w p name waits m k (plain is) of (b (same ∙ of))
-    by false is false of = around-others d w p name waits m k (plain is) (same ∙ of) h
+    by false is true of = around-blocks waits k (plain is) of (b (same ∙ of))
+    by false is false of = around-others waits k (plain is) (same ∙ of) h
 
 -- the heading after two
 heading-both : (later first : Option (List ℕ)) (before : List ℕ) →
@@ -81,40 +72,29 @@ spent d w Empty around before waits m f h = record {
   body = 0;
   left = m;
   notes = 0;
-  prints = adds-nothing d.context.ending (Counts w 0) (counts-none w);
+  prints = adds-nothing (counts-none w);
   heading = h;
   texts = tt;
   few = omega arith;
 }
 spent d w (Node name start end children rest) around before waits m f h =
-    let p : Place = record {
-      around = around;
-      before = before;
-      start = start;
-      end = end;
-      children = children;
-      rest = rest;
-    } in
+    let p : Place = place_at around before start end children rest in
     let t : At = at_of d p name in
     let here : Outcome = here_of d p name in
     let next : Before = before_next t name here in
     let others : Outcome = outcome d.context around next rest in
-    let waits' : Bool =
-    cond (is_transparent name) (waits_after waits children) (waits_past waits name) in
+    let waits' : Bool = cond (is_transparent name) (waits_after waits children)
+    (waits_past waits name) in
     let within : Ready (read_in d) (inner_around d p name) (inner_before p name)
-    (content_inside Blocks name) =
-    ready-inside (read_in d) around before Blocks name children f.built.0 f.ready in
+    (content_inside Blocks name) = ready-inside name children f.built.0 f.ready in
     let known : Means (read_in d) (inner_around d p name) (content_inside Blocks name) children
-    (inner_of d p name) =
-    means (read_in d) children (inner_around d p name) (inner_before p name)
+    (inner_of d p name) = means (read_in d) children (inner_around d p name) (inner_before p name)
     (content_inside Blocks name) f.built.2 within in
-    let own : AreFound (read_in d) Blocks here.found =
-    found-at (read_in d) t Blocks name (inner_of d p name).pieces f.built.0 f.built.1 f.ready.suits
-    f.built.2 known.prints known.found in
+    let own : AreFound (read_in d) Blocks here.found = found-at t name (inner_of d p name).pieces
+    f.built.0 f.built.1 f.ready.suits f.built.2 known.prints known.found in
     let k : is_transparent name ≡ false → Stands d p name = λ solid. record {
       solid = solid;
-      whole = not_part (is_part name || is_source name)
-          (second (is_transparent name) (may_stand Blocks name) solid f.built.0);
+      whole = not_part _ (second _ _ solid f.built.0);
       stands = f.built.0;
       fit = f.built.1;
       built = f.built.2;
@@ -122,34 +102,30 @@ spent d w (Node name start end children rest) around before waits m f h =
       within = within;
       known = known;
     } in
-    let one : Costs d w before m waits' here =
-    by name p waits m k h f.underlined.0 (λ is.
-    spent d w children (inner_around d p name) (inner_before p name)
-    (cond (is_transparent name) waits false) (cond (is_transparent name) m 0) (record {
+    let one : Costs d w before m waits' here = by name p waits m k h f.underlined.0 (λ is. spent d w
+    children (inner_around d p name) (inner_before p name) (cond (is_transparent name) waits false)
+    (cond (is_transparent name) m 0) (record {
       built = subst (λ c. IsBuilt d.context.bytes c children)
           (is_blocks-same (content_inside Blocks name) is) f.built.2;
       ready = subst (Ready (read_in d) (inner_around d p name) (inner_before p name))
           (is_blocks-same (content_inside Blocks name) is) within;
       underlined = f.underlined.1;
     }) (heading-inside (is_transparent name) waits m before.heading h)) in
-    let later : Costs d w next one.left (waits_after waits' rest) others =
-    spent d w rest around next waits' one.left (record {
+    let later : Costs d w next one.left (waits_after waits' rest) others = spent d w rest around
+    next waits' one.left (record {
       built = subst (λ c. IsBuilt d.context.bytes c rest) (after-blocks name children) f.built.3;
       ready = subst (Ready (read_in d) around next) (after-blocks name children)
-          (ready-after (read_in d) t Blocks name here f.built.0 f.built.2 own f.ready);
+          (ready-after t name here f.built.0 f.built.2 own f.ready);
       underlined = f.underlined.2;
     }) one.heading in
     record {
       body = one.body + later.body;
       left = later.left;
       notes = one.notes + later.notes;
-      prints = adds-append d.context.ending (Counts w one.body) (Counts w later.body)
-          (Counts w (one.body + later.body)) here.pieces others.pieces
-          (counts-join w one.body later.body) one.prints later.prints;
-      heading = subst (Waiting w (waits_after waits' rest) later.left)
-          (heading-both others.found.heading here.found.heading before.heading) later.heading;
-      texts = texts-append w one.notes later.notes here.footnotes others.footnotes
-          one.texts later.texts;
+      prints = adds-append (counts-join w one.body later.body) one.prints later.prints;
+      heading = subst (Waiting w (waits_after waits' rest) later.left) (heading-both
+          others.found.heading here.found.heading before.heading) later.heading;
+      texts = texts-append w _ _ here.footnotes others.footnotes one.texts later.texts;
       few = omega (one.few, later.few, due-append d w before.calls here.calls others.calls, arith);
     }
   where
@@ -159,20 +135,17 @@ spent d w (Node name start end children rest) around before waits m f h =
     heading-inside false waits m x h = tt
 
     by : (name : Name) (p : Place) (waits : Bool) (m : ℕ) →
-        (is_transparent name ≡ false → Stands d p name) →
-        Waiting w waits m p.before.heading → IsAwaited waits name p.children →
-        BelowBlocks d w p name (cond (is_transparent name) waits false)
-        (cond (is_transparent name) m 0)
-        → Costs d w p.before m
-        (cond (is_transparent name) (waits_after waits p.children) (waits_past waits name))
-        (here_of d p name)
+        (is_transparent name ≡ false → Stands d p name) → Waiting w waits m p.before.heading →
+        IsAwaited waits name p.children → BelowBlocks d w p name
+        (cond (is_transparent name) waits false) (cond (is_transparent name) m 0) → Costs d w
+        p.before m (cond (is_transparent name) (waits_after waits p.children)
+        (waits_past waits name)) (here_of d p name)
     by name p waits m k h awaited = of (is_transparent name) refl
       where
         of : (through : Bool) → is_transparent name ≡ through →
-            BelowBlocks d w p name (cond through waits false) (cond through m 0)
-            → Costs d w p.before m
-            (cond through (waits_after waits p.children) (waits_past waits name)) (here_of d p name)
-        of true e b =
-            through-spent d w p name waits m e
-            (b (ap (λ b. is_blocks (cond b Blocks (content_of name Blocks))) e))
-        of false e b = solid-spent d w p name waits m (k e) awaited h b
+            BelowBlocks d w p name (cond through waits false) (cond through m 0) → Costs d w
+            p.before m (cond through (waits_after waits p.children)
+            (waits_past waits name)) (here_of d p name)
+        of true e b = through-spent d w p name waits m e (b (ap
+            (λ b. is_blocks (cond b Blocks (content_of name Blocks))) e))
+        of false e b = solid-spent waits (k e) awaited h b

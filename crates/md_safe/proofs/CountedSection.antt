@@ -1,23 +1,21 @@
 -- How often an id stands in the section of footnotes, and in a document: at most once.
-use Rattle.std.proofs.Common.{◌≡◌, ℕ, ◌+◌, ◌≤◌, ◌<◌, ◌^◌, Bool, true, false, cond, List}
-use Rattle.std.proofs.Common.{[], ◌∷◌, ◌++◌, length, refl, sym, ap, ◌∙◌, subst, arith, append_assoc}
-use Rattle.std.proofs.Common.{codes, bytes_eq}
+use Rattle.std.proofs.Common.{◌≡◌, ℕ, ◌+◌, ◌≤◌, ◌<◌, ◌^◌, Bool, true, false, cond, List, [], ◌∷◌}
+use Rattle.std.proofs.Common.{◌++◌, length, refl, sym, ap, ◌∙◌, subst, arith, append_assoc, codes}
+use Rattle.std.proofs.Common.{bytes_eq}
 use Rattle.std.specs.Prelude.{Some, find}
 use Rattle.std.specs.Option.{option_map_or}
 use Rattle.std.proofs.lemmas.Bool.{or_parts}
-use Rattle.md_text.specs.Html.{any_attribute}
+use Rattle.md_text.specs.Html.{any_attribute, opening_tag, closing_tag}
 use Rattle.md_text.proofs.HtmlJoin.{join}
 use Rattle.md_base.specs.Tree.{Forest}
 use Rattle.md_text.specs.References.{read_back}
-use Rattle.md_text.specs.Html.{opening_tag, closing_tag}
 use Rattle.md_text.proofs.HtmlIds.{occurs, occurs-append, Counts, counts-more, counts-join}
 use Rattle.md_text.proofs.HtmlIds.{counts-enclosed}
 use Rattle.std.specs.List.{flat_map}
 use Rattle.md_meaning.specs.Meaning.Inherited.{outermost}
 use Rattle.md_meaning.specs.Meaning.At.{Footnote}
 use Rattle.md_meaning.specs.Meaning.Before.{nothing_before}
-use Rattle.md_meaning.specs.Meaning.Footnotes.{id_of, distinct, place_among, item}
-use Rattle.md_meaning.specs.Meaning.Footnotes.{section}
+use Rattle.md_meaning.specs.Meaning.Footnotes.{id_of, distinct, place_among, item, section}
 use Rattle.md_meaning.specs.Meaning.Layout.{layout}
 use Rattle.md_meaning.specs.Meaning.Nodes.{Outcome, outcome}
 use Rattle.md_content.specs.Built.{Blocks, IsBuilt}
@@ -30,8 +28,8 @@ use Rattle.md_safe.proofs.Laid.{adds-append, adds-nothing, adds-alone}
 use Rattle.md_safe.proofs.Tags.{Turns, bracket-tag, attribute}
 use Rattle.md_safe.proofs.Calls.{label-escaped, id-escaped}
 use Rattle.md_safe.proofs.Spot.{Setting, Prints}
-use Rattle.md_safe.proofs.Section.{turn-after, li_id, item-prints, section-around}
-use Rattle.md_safe.proofs.Section.{text_among, heading_label_of}
+use Rattle.md_safe.proofs.Section.{turn-after, li_id, item-prints, section-around, text_among}
+use Rattle.md_safe.proofs.Section.{heading_label_of}
 use Rattle.md_safe.proofs.Counted.{counts-heading, TextsCount}
 use Rattle.md_safe.proofs.BlockNodes.{holds-none}
 use Rattle.md_safe.proofs.Costs.{Document, counted_in, read_in, counts-none, Costs}
@@ -61,19 +59,17 @@ for-none w (identifier ∷ others) = (0, 0, omega arith, counts-none w, for-none
 
 -- one footnote more that no identifier is for
 for-others : (w : List ℕ) (n : ℕ) (footnote : Footnote) (footnotes : List Footnote)
-    (identifiers : List (List ℕ)) →
-    is_in footnote.identifier identifiers ≡ false → TextsFor w n footnotes identifiers →
-    TextsFor w n (footnote ∷ footnotes) identifiers
+    (identifiers : List (List ℕ)) → is_in footnote.identifier identifiers ≡ false →
+    TextsFor w n footnotes identifiers → TextsFor w n (footnote ∷ footnotes) identifiers
 for-others w n footnote footnotes [] none h = tt
 for-others w n footnote footnotes (identifier ∷ others) none h =
-    let parts =
-    or_parts (bytes_eq identifier footnote.identifier) (is_in footnote.identifier others) none in (
+    let parts = or_parts _ _ none in (
       h.0,
       h.1,
       h.2,
       subst (λ b. Counts w h.0 (option_map_or (λ (f : Footnote). f.text) (cond b (Some footnote)
-          (find (λ f. bytes_eq f.identifier identifier) footnotes)) []))
-          (sym (bytes_eq-sym footnote.identifier identifier ∙ parts.0)) h.3,
+          (find (λ f. bytes_eq f.identifier identifier) footnotes)) [])) (sym
+          (bytes_eq-sym footnote.identifier identifier ∙ parts.0)) h.3,
       for-others w h.1 footnote footnotes others parts.1 h.4,
     )
 
@@ -118,17 +114,19 @@ texts-for w n (footnote ∷ footnotes) identifiers apart h =
     footnotes identifiers apart h.3 (texts-for w h.1 footnotes identifiers apart h.4))
 
 -- an item's tags around a text
-item-turn : (d : Document) (w : List ℕ) (n : ℕ) (v : List ℕ) → Escaped v →
-    Turns (Counts w n) (Counts w (occurs w (read_back v ∷ []) + n))
+item-turn : (d : Document) (w : List ℕ) (n : ℕ) (v : List ℕ) → Escaped v → Turns (Counts w n)
+    (Counts w (occurs w (read_back v ∷ []) + n))
     (codes "<li id=\"" ++ (v ++ (codes "\">" ++ []))) (codes "</li>")
-item-turn d w n v h x held =
+item-turn d w n v h =
     let hit : ℕ = occurs w (read_back v ∷ []) in
-    subst (λ o. Counts w (hit + n) (o ++ (x ++ codes "</li>")))
-    (ap (λ y. codes "<li id=\"" ++ y) (append_assoc v (34 ∷ []) (62 ∷ [])))
-    (subst (Counts w (hit + n))
-    (append_assoc (opening_tag (codes "li") (attribute (codes "id") v ∷ []))
-    x (closing_tag (codes "li"))) (counts-enclosed w n hit (codes "li")
-    (attribute (codes "id") v ∷ []) x (li_id v h) (omega arith) held))
+    record {
+      turn = λ x held. subst (λ o. Counts w (hit + n) (o ++ (x ++ codes "</li>"))) (ap
+          (λ y. codes "<li id=\"" ++ y) (append_assoc v (34 ∷ []) (62 ∷ []))) (subst
+          (Counts w (hit + n)) (append_assoc
+          (opening_tag (codes "li") (attribute (codes "id") v ∷ [])) x (closing_tag (codes "li")))
+          (counts-enclosed w n hit (codes "li") (attribute (codes "id") v ∷ []) x (li_id v h)
+          (omega arith) held));
+    }
 
 occurs-first : (w x : List ℕ) (xs : List (List ℕ)) →
     occurs w (x ∷ xs) ≡ occurs w (x ∷ []) + occurs w xs
@@ -136,14 +134,11 @@ occurs-first w x xs = occurs-append w (x ∷ []) xs
 
 -- the items
 items-counted : (d : Document) (w : List ℕ) (footnotes : List Footnote) (n : ℕ)
-    (identifiers : List (List ℕ)) →
-    TextsFor w n footnotes identifiers
-    → Prints (counted_in d w 0)
-    (Counts w (occurs w (note_ids d.context.options d.context.calls identifiers) + n))
-    (flat_map (item d.context footnotes) identifiers)
-items-counted d w footnotes n [] texts =
-    adds-nothing d.context.ending (Counts w (0 + n))
-    (counts-more w 0 (0 + n) [] (omega arith) (counts-none w))
+    (identifiers : List (List ℕ)) → TextsFor w n footnotes identifiers → Prints (counted_in d w 0)
+    (Counts w (occurs w (note_ids d.context.options d.context.calls identifiers)
+    + n)) (flat_map (item d.context footnotes) identifiers)
+items-counted d w footnotes n [] texts = adds-nothing
+    (counts-more w _ _ _ (omega arith) (counts-none w))
 items-counted d w footnotes n (identifier ∷ others) texts =
     let number : ℕ = place_among (distinct d.context.calls) identifier in
     let id : List ℕ = id_of d.context.options (codes "fn-") identifier number in
@@ -151,64 +146,50 @@ items-counted d w footnotes n (identifier ∷ others) texts =
     let later : ℕ = occurs w (note_ids d.context.options d.context.calls others) in
     let total : ℕ = occurs w (note_ids d.context.options d.context.calls (identifier ∷ others)) + n
     in
-    adds-append d.context.ending (Counts w (hit + texts.0)) (Counts w (later + texts.1))
-    (Counts w total) (item d.context footnotes identifier)
-    (flat_map (item d.context footnotes) others)
-    (λ x y a b. counts-more w ((hit + texts.0) + (later + texts.1)) total (x ++ y)
-    (omega (
+    adds-append (λ x y a b. counts-more w _ _ _ (omega (
       occurs-first w (read_back id) (note_ids d.context.options d.context.calls others),
       texts.2,
       arith,
-    ))
-    (counts-join w (hit + texts.0) (later + texts.1) x y a b))
-    (item-prints (counted_in d w texts.0) (counted_in d w (hit + texts.0)).p footnotes identifier
-    (item-turn d w texts.0 id (id-escaped d.context.options (codes "fn-") identifier number refl))
-    texts.3)
+    )) (counts-join w (hit + texts.0) (later + texts.1) x y a b)) (item-prints
+    (counted_in d w texts.0) (counted_in d w (hit + texts.0)).p footnotes identifier (item-turn d w
+    texts.0 id (id-escaped d.context.options (codes "fn-") identifier number refl)) texts.3)
     (items-counted d w footnotes texts.1 others texts.4)
 
 -- the heading, and the tags of the section around its items
 section-counted : (d : Document) (w : List ℕ) → KeepsGrammar d.context.options →
-    (footnotes : List Footnote) (n : ℕ) →
-    TextsFor w n footnotes (distinct d.context.calls)
-    → Prints (counted_in d w 0) (Counts w (occurs w label_id
-    + (occurs w (note_ids d.context.options d.context.calls (distinct d.context.calls)) + n)))
-    (section d.context footnotes)
+    (footnotes : List Footnote) (n : ℕ) → TextsFor w n footnotes (distinct d.context.calls) → Prints
+    (counted_in d w 0) (Counts w (occurs w label_id + (occurs w (note_ids d.context.options
+    d.context.calls (distinct d.context.calls)) + n))) (section d.context footnotes)
 section-counted d w keeps footnotes n texts =
     let k : ℕ = occurs w (note_ids d.context.options d.context.calls (distinct d.context.calls)) + n
     in
     let s : Setting = counted_in d w k in
     let q : Claim = (counted_in d w (occurs w label_id + k)).p in
     let label : List ℕ = heading_label_of d.context.options in
-    section-around s q (turn-after s.p.holds q.holds q.holds
-    (codes "<section data-footnotes=\"\" class=\"footnotes\">") (codes "</section>")
-    (codes "<h2 id=\"footnote-label\" class=\"sr-only\">" ++ (label ++ codes "</h2>"))
-    (bracket-tag q (codes "section") (attribute (codes "data-footnotes") []
-    ∷ attribute (codes "class") (codes "footnotes") ∷ []) refl refl)
-    (λ x held. counts-join w (occurs w label_id) k
-    (codes "<h2 id=\"footnote-label\" class=\"sr-only\">" ++ (label ++ codes "</h2>")) x
-    (counts-heading w label (label-escaped d.context.options)) held))
-    keeps.usual_tag keeps.usual_attributes footnotes
-    (items-counted d w footnotes n (distinct d.context.calls) texts)
+    section-around s q (turn-after _ ((bracket-tag q (codes "section")).tag (attribute
+    (codes "data-footnotes") [] ∷ attribute (codes "class") (codes "footnotes") ∷ []) refl refl)
+    (λ x held. counts-join w (occurs w label_id) k (codes
+    "<h2 id=\"footnote-label\" class=\"sr-only\">" ++ (label ++ codes "</h2>")) x
+    (counts-heading w label (label-escaped d.context.options)) held)) keeps.usual_tag
+    keeps.usual_attributes footnotes (items-counted d w footnotes n (distinct d.context.calls)
+    texts)
 
 -- an id occurs in a document at most as often as its heading, its footnotes and its calls have it
 pub document-counts : (d : Document) (w : List ℕ) (document : Forest) →
-    KeepsGrammar d.context.options →
-    IsBuilt d.context.bytes Blocks document → IsUnderlined false document →
-    (outcome d.context outermost nothing_before document).calls ≡ d.context.calls →
-    Counts w
-    (occurs w label_id + occurs w (note_ids d.context.options d.context.calls
-    (distinct d.context.calls))
-    + occurs w (ids_after d.context.options d.context.calls [] d.context.calls))
-    (layout d.context.ending ((outcome d.context outermost nothing_before document).pieces
-    ++ section d.context (outcome d.context outermost nothing_before document).footnotes))
+    KeepsGrammar d.context.options → IsBuilt d.context.bytes Blocks document →
+    IsUnderlined false document → (outcome d.context outermost nothing_before document).calls
+    ≡ d.context.calls → Counts w (occurs w label_id + occurs w (note_ids d.context.options
+    d.context.calls (distinct d.context.calls)) + occurs w (ids_after d.context.options
+    d.context.calls [] d.context.calls)) (layout d.context.ending ((outcome d.context outermost
+    nothing_before document).pieces ++ section d.context (outcome d.context outermost
+    nothing_before document).footnotes))
 document-counts d w document keeps built underlined called =
     let all : Outcome = outcome d.context outermost nothing_before document in
-    let b : Costs d w nothing_before 0 (waits_after false document) all =
-    spent d w document outermost nothing_before false 0
-    (record {
+    let b : Costs d w nothing_before 0 (waits_after false document) all = spent d w document
+    outermost nothing_before false 0 (record {
       built = built;
       ready = record {
-        suits = refl;
+        suits = (refl, refl);
         follows = tt;
         whole = λ _. record { both = join any_attribute; ids = λ value. refl };
         heading = λ _. holds-none (read_in d);
@@ -221,35 +202,21 @@ document-counts d w document keeps built underlined called =
     let last : Prints (counted_in d w 0) (Counts w rest) (section d.context all.footnotes) =
     section-counted d w keeps all.footnotes b.notes (texts-for w b.notes all.footnotes
     (distinct d.context.calls) (distinct-apart d.context.calls) b.texts) in
-    counts-more w (b.body + rest)
-    (occurs w label_id + noted
-    + occurs w (ids_after d.context.options d.context.calls [] d.context.calls))
-    (layout d.context.ending (all.pieces ++ section d.context all.footnotes))
-    (omega (
+    counts-more w _ _ _ (omega (
       b.few,
       ap (λ calls. occurs w (ids_after d.context.options d.context.calls [] calls)) called,
       arith,
-    ))
-    (adds-alone d.context.ending (Counts w (b.body + rest))
-    (all.pieces ++ section d.context all.footnotes)
-    (adds-append d.context.ending (Counts w b.body) (Counts w rest) (Counts w (b.body + rest))
-    all.pieces (section d.context all.footnotes) (counts-join w b.body rest) b.prints last))
+    )) (adds-alone {f = Counts w (b.body + rest)}
+    (adds-append (counts-join w b.body rest) b.prints last))
 
 -- each id stands in a document once at most
 pub document-counted : (d : Document) (w : List ℕ) (document : Forest) →
-    KeepsGrammar d.context.options →
-    d.context.options.gfm_footnote_number_ids ≡ true → IsBuilt d.context.bytes Blocks document →
-    IsUnderlined false document → length d.context.calls + 2 < 2 ^ 64 →
-    (outcome d.context outermost nothing_before document).calls ≡ d.context.calls
-    → Counts w 1 (layout d.context.ending ((outcome d.context outermost nothing_before
-    document).pieces
-    ++ section d.context (outcome d.context outermost nothing_before document).footnotes))
-document-counted d w document keeps on built underlined small called =
-    counts-more w
-    (occurs w label_id + occurs w (note_ids d.context.options d.context.calls
-    (distinct d.context.calls))
-    + occurs w (ids_after d.context.options d.context.calls [] d.context.calls)) 1
+    KeepsGrammar d.context.options → d.context.options.gfm_footnote_number_ids ≡ true →
+    IsBuilt d.context.bytes Blocks document → IsUnderlined false document →
+    length d.context.calls + 2 < 2 ^ 64 →
+    (outcome d.context outermost nothing_before document).calls ≡ d.context.calls → Counts w 1
     (layout d.context.ending ((outcome d.context outermost nothing_before document).pieces
     ++ section d.context (outcome d.context outermost nothing_before document).footnotes))
+document-counted d w document keeps on built underlined small called = counts-more w _ _ _
     (document-once d.context.options on w d.context.calls small)
     (document-counts d w document keeps built underlined called)

@@ -22,12 +22,10 @@ any-later p (a ∷ x) y h = by (p a) (list_any p (x ++ y)) (any-later p x y h)
 
 -- the rest would be emitted, and isn't
 lost : (p : Token → Bool) (input mid : List ℕ) (t u all : List Token) → IsRun Data mid u →
-    IsRun Data input all →
-    list_any p u ≡ true → list_any p all ≡ false → Tokenizes Data input t mid → ⊥
-lost p input mid t u all k l has hasn't h =
-    by (list_any p all)
-    (ap (list_any p) (one_run Data input all (t ++ u) l (runs-on Data input mid t u h k))
-    ∙ any-later p t u has) hasn't
+    IsRun Data input all → list_any p u ≡ true → list_any p all ≡ false →
+    Tokenizes Data input t mid → ⊥
+lost p input mid t u all k l has hasn't h = by (list_any p all) (ap (list_any p)
+    (one_run _ _ _ _ l (runs-on _ _ _ t u h k)) ∙ any-later p t u has) hasn't
   where
     by : (b : Bool) → b ≡ true → b ≡ false → ⊥
     by b e f = cc
@@ -69,12 +67,8 @@ value emits h =
     refl (h (codes "\">"))
 
 pub two_feeds : Tokenizes Data (10 ∷ []) (Character 10 ∷ []) (10 ∷ []) → ⊥
-two_feeds h =
-    by (one_run Data (10 ∷ []) (Character 10 ∷ EndOfFile ∷ [])
-    (Character 10 ∷ Character 10 ∷ EndOfFile ∷ [])
-    record { steps = 9; emits = refl }
-    (runs-on Data (10 ∷ []) (10 ∷ []) (Character 10 ∷ []) (Character 10 ∷ EndOfFile ∷ []) h
-    record { steps = 9; emits = refl }))
+two_feeds h = by (one_run _ _ _ _ record { steps = 9; emits = refl }
+    (runs-on _ _ _ _ _ h record { steps = 9; emits = refl }))
   where
     by : (Character 10 ∷ EndOfFile ∷ []) ≡ (Character 10 ∷ Character 10 ∷ EndOfFile ∷ []) → ⊥
     by e = cc

@@ -11,7 +11,7 @@ use Rattle.md_safe.proofs.NumberedIds.{back_prefix, note_tail, call_tail, note-b
 use Rattle.md_safe.proofs.NumberedIds.{EndsInDigit, label-no_digit, note-no_call, note-ends}
 use Rattle.md_safe.proofs.NumberedIds.{call-ends}
 use Rattle.md_safe.proofs.CallNumbers.{ids_after}
-use Rattle.md_safe.proofs.IdsOnce.{note_ids, calls-once, notes-once, in-itself}
+use Rattle.md_safe.proofs.IdsOnce.{note_ids, calls-once, notes-once, in-itself, occurs-other}
 
 -- of each of some ids something holds
 abbrev Each : (List ℕ → Type 0) → List (List ℕ) → Type 0
@@ -62,11 +62,7 @@ abbrev pub label_id : List (List ℕ)
 label_id = codes "footnote-label" ∷ []
 
 label-alone : (options : CompileOptions) (w : List ℕ) → EndsInDigit w → occurs w label_id ≡ 0
-label-alone options w ends = by (bytes_eq (codes "footnote-label") w) refl
-  where
-    by : (is : Bool) → bytes_eq (codes "footnote-label") w ≡ is → cond is (suc 0) 0 ≡ 0
-    by true e = absurd (label-no_digit w (same (codes "footnote-label") w e) ends)
-    by false e = refl
+label-alone options w ends = occurs-other _ _ [] (λ e. label-no_digit w e ends)
 
 -- each id is that of the heading, of one footnote or of one call, and of no two
 pub document-once : (options : CompileOptions) → options.gfm_footnote_number_ids ≡ true →

@@ -5,7 +5,7 @@ use Rattle.std.proofs.Common.{append_assoc, codes, ne_eqb}
 use Rattle.std.specs.Prelude.{Option, Some, None, bytes_eq}
 use Rattle.std.specs.Option.{option_map_or}
 use Rattle.std.specs.List.{list_all}
-use Rattle.std.specs.Fmt.{decimal, digits}
+use Rattle.std.specs.Fmt.{decimal}
 use Rattle.std.proofs.lemmas.Bool.{agree_below, agree_below_at, not_from_false}
 use Rattle.md_base.specs.declared.event.Position.{Position}
 use Rattle.md_text.specs.Html.{Attribute, opening_tag, closing_tag, is_tag, elements}
@@ -13,25 +13,21 @@ use Rattle.md_text.specs.declared.options.CompileOptions.{CompileOptions}
 use Rattle.md_meaning.specs.Meaning.Layout.{Piece, Text, Needed, Forced, said, on_own_line, when}
 use Rattle.md_meaning.specs.Meaning.At.{Context, At, text_in}
 use Rattle.md_meaning.specs.Meaning.Finds.{number_in_list}
-use Rattle.md_meaning.specs.Meaning.Blocks.{heading_tag, heading, list_start, without_zeros}
+use Rattle.md_meaning.specs.Meaning.Blocks.{list_start, without_zeros}
 use Rattle.md_content.specs.Built.{is_digit}
 use Rattle.md_safe.proofs.Texts.{Escaped, zeros-escaped}
 use Rattle.md_safe.proofs.Claim.{Claim}
-use Rattle.md_safe.proofs.Laid.{Adds, adds-append, adds-needed, IsBeside, escaped_beside}
+use Rattle.md_safe.proofs.Laid.{Adds, adds-append, adds-needed, IsBeside}
 use Rattle.md_safe.proofs.Tags.{IsTest, attribute, IsFramed, Bracket, Turns, TurnsTag, Single}
-use Rattle.md_safe.proofs.Tags.{Takes, bracket-tag, turns-two, adds-turned, adds-pair, adds-flat}
-use Rattle.md_safe.proofs.Tags.{framed-text, framed-needed, framed-forced, adds-framed_flat}
+use Rattle.md_safe.proofs.Tags.{Takes, bracket-tag, adds-turned, adds-flat, framed-text}
+use Rattle.md_safe.proofs.Tags.{framed-needed, framed-forced, adds-framed_flat}
 
 pub bracket-plain : (p : Claim) (name : List ℕ) → is_tag elements name [] ≡ true →
     Bracket p (opening_tag name []) (closing_tag name)
-bracket-plain p name h = bracket-tag p name [] h refl
+bracket-plain p name h = (bracket-tag p name).tag [] h refl
 
 abbrev pub code_closing : List ℕ
 code_closing = codes "</code></pre>"
-
-pub bracket-code : (p : Claim) → Bracket p (codes "<pre><code>") code_closing
-bracket-code p = turns-two p.holds p.holds p.holds (codes "<pre>") (codes "</pre>") (codes "<code>")
-    (codes "</code>") (bracket-plain p (codes "pre") refl) (bracket-plain p (codes "code") refl)
 
 -- a heading of a rank from 1 to 6
 unfoldable pub heading_name : ℕ → List ℕ
@@ -46,24 +42,6 @@ ranked test agree rank h =
     agree_below_at test (λ rank. not (rank == 0)) 7 rank agree below
     ∙ not_from_false (rank == 0) (ne_eqb rank 0 some)
 
-pub bracket-heading : (p : Claim) (rank : ℕ) → (1 ≤ rank) × (rank ≤ 6) →
-    Bracket p (heading_tag (codes "<h") rank) (heading_tag (codes "</h") rank)
-unfolding heading_name digits
-bracket-heading p rank h =
-    bracket-plain p (heading_name rank)
-    (ranked (λ rank. is_tag elements (heading_name rank) []) refl rank h)
-
--- a heading around its content
-pub adds-heading : (p : Claim) (ending : List ℕ) → Escaped ending → (rank : ℕ) →
-    (1 ≤ rank) × (rank ≤ 6) →
-    (inner : List Piece) → Adds ending p.holds inner → Adds ending p.holds (heading rank inner)
-adds-heading p ending h rank fits inner a =
-    adds-pair p ending (heading_tag (codes "<h") rank) (heading_tag (codes "</h") rank)
-    (on_own_line (heading_tag (codes "<h") rank)) inner (said (heading_tag (codes "</h") rank))
-    (bracket-heading p rank fits) (framed-needed escaped_beside ending
-    (heading_tag (codes "<h") rank) h) a
-    (framed-text escaped_beside ending (heading_tag (codes "</h") rank))
-
 -- the opening of a list, between pieces
 record IsOpening (W Q R : List ℕ → Type 0) (ending close : List ℕ)
     (pieces : List Piece) : Type 0 where
@@ -76,65 +54,57 @@ pub ol_start : (n : List ℕ) → Escaped n →
 ol_start n h = rw h refl
 
 -- an ordered list around its items
-pub adds-ordered : (W Q R : List ℕ → Type 0) → IsBeside W → Takes W Q → Takes W R →
-    (test : Attribute → Bool) (context : Context) → W context.ending →
-    IsTest test context.options → TurnsTag test Q R (codes "ol") → (at : At) →
-    option_map_or (λ place. list_all is_digit (text_in context.bytes place))
-    (number_in_list at.children) true ≡ true →
-    (inner : List Piece) → Adds context.ending Q inner →
-    Adds context.ending R (on_own_line (codes "<ol") ++ (list_start context at
-    ++ (said (codes ">") ++ (inner ++ (Forced ∷ said (codes "</ol>"))))))
-adds-ordered W Q R beside takes stays test context h known turns at fits inner a =
-    let first : List ℕ =
-    option_map_or (text_in context.bytes) (number_in_list at.children) (codes "1") in
-    let opening = by (without_zeros first)
-    (zeros-escaped first (digits_of (number_in_list at.children) fits))
-    (bytes_eq (without_zeros first) (codes "1")) in
+pub adds-ordered : {W Q R : List ℕ → Type 0} {test : Attribute → Bool} → IsBeside W → Takes W Q →
+    Takes W R → (context : Context) → W context.ending → IsTest test context.options →
+    TurnsTag test Q R (codes "ol") → (at : At) {inner : List Piece} → option_map_or
+    (λ place. list_all is_digit (text_in context.bytes place)) (number_in_list at.children) true
+    ≡ true → Adds context.ending Q inner → Adds context.ending R (on_own_line (codes "<ol")
+    ++ (list_start context at ++ (said (codes ">") ++ (inner ++ (Forced ∷ said (codes "</ol>"))))))
+adds-ordered {W} {Q} {R} beside takes stays context h known turns at {inner} fits a =
+    let first : List ℕ = option_map_or (text_in context.bytes) (number_in_list at.children)
+    (codes "1") in
+    let opening = by (without_zeros first) (zeros-escaped first
+    (digits_of (number_in_list at.children) fits)) (bytes_eq (without_zeros first) (codes "1")) in
     let start : List Piece = list_start context at in
     let end : List Piece = Forced ∷ said (codes "</ol>") in
     subst (λ x. Adds context.ending R (on_own_line (codes "<ol") ++ x))
-    (append_assoc start (said (codes ">")) (inner ++ end))
-    (adds-turned W Q R context.ending opening.open_tag (codes "</ol>") (on_own_line (codes "<ol")
-    ++ (start ++ said (codes ">"))) inner end takes stays
-    opening.turns opening.adds a (framed-forced beside context.ending (codes "</ol>") h))
+    (append_assoc start (said (codes ">")) (inner ++ end)) (adds-turned takes stays opening.turns
+    opening.adds a (framed-forced beside h))
   where
-    digits_of : (found : Option Position) →
-        option_map_or (λ place. list_all is_digit (text_in context.bytes place)) found true ≡ true
-        → list_all is_digit (option_map_or (text_in context.bytes) found (codes "1")) ≡ true
+    digits_of : (found : Option Position) → option_map_or
+        (λ place. list_all is_digit (text_in context.bytes place)) found true ≡ true →
+        list_all is_digit (option_map_or (text_in context.bytes) found (codes "1")) ≡ true
     digits_of None fits = refl
     digits_of (Some place) fits = fits
 
-    by : (number : List ℕ) → Escaped number → (one : Bool) →
-        IsOpening W Q R context.ending (codes "</ol>") (on_own_line (codes "<ol")
-        ++ (when (not one) (Text (codes " start=\"") ∷ Text number ∷ Text (codes "\"") ∷ [])
-        ++ said (codes ">")))
+    by : (number : List ℕ) → Escaped number → (one : Bool) → IsOpening W Q R context.ending
+        (codes "</ol>") (on_own_line (codes "<ol") ++ (when (not one) (Text (codes " start=\"")
+        ∷ Text number ∷ Text (codes "\"") ∷ []) ++ said (codes ">")))
     by number e true = record {
       open_tag = codes "<ol>";
-      adds = adds-framed_flat beside context.ending (Needed ∷ []) (Text (codes "<ol")
-          ∷ Text (codes ">") ∷ []) refl (adds-needed beside context.ending h);
-      turns = turns [] refl refl;
+      adds = adds-framed_flat beside (Text (codes "<ol") ∷ Text (codes ">") ∷ []) refl
+          (adds-needed beside h);
+      turns = turns.tag [] refl refl;
     }
     by number e false = record {
       open_tag = codes "<ol start=\"" ++ (number ++ codes "\">");
-      adds = adds-framed_flat beside context.ending (Needed ∷ []) (Text (codes "<ol")
-          ∷ Text (codes " start=\"") ∷ Text number ∷ Text (codes "\"") ∷ Text (codes ">") ∷ [])
-          refl (adds-needed beside context.ending h);
-      turns = subst (λ o. Turns Q R o (codes "</ol>"))
-          (ap (λ x. codes "<ol start=\"" ++ x) (append_assoc number (34 ∷ []) (62 ∷ [])))
-          (turns (attribute (codes "start") number ∷ []) (ol_start number e)
+      adds = adds-framed_flat beside (Text (codes "<ol") ∷ Text (codes " start=\"") ∷ Text number
+          ∷ Text (codes "\"") ∷ Text (codes ">") ∷ []) refl (adds-needed beside h);
+      turns = subst (λ o. Turns Q R o (codes "</ol>")) (ap (λ x. codes "<ol start=\"" ++ x)
+          (append_assoc number (34 ∷ []) (62 ∷ []))) (turns.tag
+          (attribute (codes "start") number ∷ []) (ol_start number e)
           (cc (known.other (codes "start") number refl)));
     }
 
 -- the end of an item, on a line of its own or not
-pub item-end : {W : List ℕ → Type 0} → IsBeside W → (ending : List ℕ) → W ending →
-    (ends : Bool) → Adds ending (IsFramed W (codes "</li>"))
-    ((cond ends [] (Needed ∷ [])) ++ said (codes "</li>"))
-item-end beside ending h true = framed-text beside ending (codes "</li>")
-item-end beside ending h false = framed-needed beside ending (codes "</li>") h
+pub item-end : {W : List ℕ → Type 0} {ending : List ℕ} → IsBeside W → W ending → (ends : Bool) →
+    Adds ending (IsFramed W (codes "</li>")) ((cond ends [] (Needed ∷ [])) ++ said (codes "</li>"))
+item-end beside h true = framed-text beside
+item-end beside h false = framed-needed beside h
 
-pub class-passes : (test : Attribute → Bool) (options : CompileOptions) → IsTest test options →
+pub class-passes : {test : Attribute → Bool} {options : CompileOptions} → IsTest test options →
     (value : List ℕ) → list_all test (attribute (codes "class") value ∷ []) ≡ true
-class-passes test options known value = cc (known.other (codes "class") value refl)
+class-passes known value = cc (known.other (codes "class") value refl)
 
 -- what a task's mark adds to its tag
 abbrev pub IsDone : Bool → List ℕ → Type 0
@@ -144,10 +114,10 @@ IsDone in_image x = (x ≡ []) ⊎ ((in_image ≡ false) × (x ≡ codes "checke
 abbrev pub task_tag : Bool → List ℕ
 task_tag checkable = codes "<input type=\"checkbox\" " ++ cond checkable [] (codes "disabled=\"\" ")
 
-task-read : (test : Attribute → Bool) (R : List ℕ → Type 0) (options : CompileOptions) →
+task-read : {test : Attribute → Bool} {R : List ℕ → Type 0} {options : CompileOptions} →
     IsTest test options → Single test R (codes "input") → (checkable : Bool) (x : List ℕ) →
     (x ≡ []) ⊎ (x ≡ codes "checked=\"\" ") → R (task_tag checkable ++ (x ++ codes "/>"))
-task-read test R options known single checkable x done =
+task-read {test = test} {R = R} known single checkable x done =
     elim done [
       | inl e ↦ subst (λ x. R (task_tag checkable ++ (x ++ codes "/>"))) (sym e) (by checkable)
       | inr e ↦ subst (λ x. R (task_tag checkable ++ (x ++ codes "/>"))) (sym e) (on checkable)
@@ -163,40 +133,31 @@ task-read test R options known single checkable x done =
     checked = known.other (codes "checked") [] refl
 
     by : (checkable : Bool) → R (task_tag checkable ++ codes "/>")
-    by true = single (attribute (codes "type") (codes "checkbox") ∷ []) refl (cc kind)
-    by false = single (attribute (codes "type") (codes "checkbox")
-        ∷ attribute (codes "disabled") [] ∷ []) refl (rw (kind, disabled) refl)
+    by true = single.tag (attribute (codes "type") (codes "checkbox") ∷ []) refl (cc kind)
+    by false = single.tag (attribute (codes "type") (codes "checkbox") ∷ attribute
+        (codes "disabled") [] ∷ []) refl (rw (kind, disabled) refl)
 
     on : (checkable : Bool) → R (task_tag checkable ++ (codes "checked=\"\" " ++ codes "/>"))
-    on true = single (attribute (codes "type") (codes "checkbox")
-        ∷ attribute (codes "checked") [] ∷ []) refl (rw (kind, checked) refl)
-    on false = single (attribute (codes "type") (codes "checkbox")
-        ∷ attribute (codes "disabled") [] ∷ attribute (codes "checked") [] ∷ []) refl
+    on true = single.tag (attribute (codes "type") (codes "checkbox") ∷ attribute (codes "checked")
+        [] ∷ []) refl (rw (kind, checked) refl)
+    on false = single.tag (attribute (codes "type") (codes "checkbox") ∷ attribute
+        (codes "disabled") [] ∷ attribute (codes "checked") [] ∷ []) refl
         (rw (kind, disabled, checked) refl)
 
 -- a task outside images
-pub adds-task : (test : Attribute → Bool) (R : List ℕ → Type 0) (ending : List ℕ)
-    (options : CompileOptions) → IsTest test options → Single test R (codes "input") →
-    (checkable in_image : Bool) (inner : List Piece) → Adds ending (IsDone in_image) inner →
-    Adds ending R ((Text (codes "<input type=\"checkbox\" ")
-    ∷ when (not checkable) (said (codes "disabled=\"\" "))) ++ (inner ++ said (codes "/>")))
-adds-task test R ending options known single checkable in_image inner a =
-    adds-append ending (λ x. x ≡ task_tag checkable) (λ w. (x : List ℕ) × (w ≡ x ++ codes "/>")
-    × ((x ≡ []) ⊎ (x ≡ codes "checked=\"\" "))) R
-    (Text (codes "<input type=\"checkbox\" ")
-    ∷ when (not checkable) (said (codes "disabled=\"\" "))) (inner ++ said (codes "/>"))
+pub adds-task : {test : Attribute → Bool} {R : List ℕ → Type 0} {ending : List ℕ}
+    {options : CompileOptions} → IsTest test options → Single test R (codes "input") →
+    (checkable in_image : Bool) {inner : List Piece} → Adds ending (IsDone in_image) inner → Adds
+    ending R ((Text (codes "<input type=\"checkbox\" ") ∷ when (not checkable)
+    (said (codes "disabled=\"\" "))) ++ (inner ++ said (codes "/>")))
+adds-task {R = R} {ending} known single checkable in_image a = adds-append
+    {g = λ w. (x : List ℕ) × (w ≡ x ++ codes "/>") × ((x ≡ []) ⊎ (x ≡ codes "checked=\"\" "))}
     (λ x w f g. subst R (ap (λ w. task_tag checkable ++ w) (sym g.1) ∙ ap (λ x. x ++ w) (sym f))
-    (task-read test R options known single checkable g.0 g.2))
-    (first checkable) (adds-append ending (IsDone in_image) (λ x. x ≡ codes "/>")
-    (λ w. (x : List ℕ) × (w ≡ x ++ codes "/>")
-    × ((x ≡ []) ⊎ (x ≡ codes "checked=\"\" "))) inner (said (codes "/>"))
-    (λ x y f g. (x, ap (λ y. x ++ y) g, elim f [ inl e ↦ inl e | inr e ↦ inr e.1 ]))
-    a (adds-flat ending (λ x. x ≡ codes "/>") (said (codes "/>")) refl refl))
+    (task-read known single checkable g.0 g.2)) (first checkable) (adds-append (λ x y f g.
+    (x, ap (λ y. x ++ y) g, elim f [ inl e ↦ inl e | inr e ↦ inr e.1 ])) a
+    (adds-flat {f = λ y. y ≡ codes "/>"} refl refl))
   where
-    first : (checkable : Bool) →
-        Adds ending (λ x. x ≡ task_tag checkable) (Text (codes "<input type=\"checkbox\" ")
-        ∷ when (not checkable) (said (codes "disabled=\"\" ")))
-    first true = adds-flat ending (λ x. x ≡ task_tag true)
-        (Text (codes "<input type=\"checkbox\" ") ∷ []) refl refl
-    first false = adds-flat ending (λ x. x ≡ task_tag false)
-        (Text (codes "<input type=\"checkbox\" ") ∷ Text (codes "disabled=\"\" ") ∷ []) refl refl
+    first : (checkable : Bool) → Adds ending (λ x. x ≡ task_tag checkable) (Text
+        (codes "<input type=\"checkbox\" ") ∷ when (not checkable) (said (codes "disabled=\"\" ")))
+    first true = adds-flat refl refl
+    first false = adds-flat refl refl

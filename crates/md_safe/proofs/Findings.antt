@@ -14,15 +14,13 @@ use Rattle.md_meaning.specs.Meaning.At.{Target, Defined, Footnote, Found, nothin
 use Rattle.md_meaning.specs.Meaning.Layout.{Piece, layout}
 use Rattle.md_meaning.specs.Meaning.Nodes.{found_at}
 use Rattle.md_content.specs.Built.{Content, Blocks, Sources, may_stand, content_inside, IsBuilt}
-use Rattle.md_safe.proofs.Texts.{Escaped}
 use Rattle.md_safe.proofs.Media.{IsEscapedTitle}
-use Rattle.md_safe.proofs.Contents.{Holds}
+use Rattle.md_safe.proofs.Contents.{Holds, Suits}
 use Rattle.md_safe.proofs.Insides.{is_blocks}
-use Rattle.md_safe.proofs.Contents.{Suits}
 use Rattle.md_safe.proofs.Spot.{Setting, AreTitles, IsGoodTarget, IsFitAt}
-use Rattle.md_safe.proofs.SpanNodes.{text-holds}
 use Rattle.md_safe.proofs.FlowNodes.{Reads}
 use Rattle.md_safe.proofs.Nodes.{inside-alone, Before as PrintsBefore}
+use Rattle.md_safe.proofs.Laid.{adds-alone}
 
 -- what holds of a text among blocks is what is claimed
 blocks-read : (s : Setting) (escaping in_image : Bool) (content : Content) →
@@ -86,51 +84,44 @@ pub nothing-found : (s : Setting) (content : Content) → AreFound s content not
 nothing-found s content = record { heading = λ _. tt; title = tt; resource = tt }
 
 -- what is found where a node stands
-pub found-node : (s : Setting) (t : At) (content : Content) (name : Name) (inner : List Piece) →
-    Inner s t content name inner →
-    AreFound s content (found_at t name (layout s.context.ending inner))
-found-node s t content HeadingSetextText inner i = record {
-  heading = λ is.
-      blocks-read s t.around.is_escaping t.around.in_image content is
-      (layout s.context.ending inner)
-      (text-holds s (Holds s.p t.around.is_escaping t.around.in_image content) inner
-      (inside-alone s t content HeadingSetextText i.stands i.fit i.built inner i.before));
+pub found-node : {s : Setting} {content : Content} {inner : List Piece} (t : At) (name : Name) →
+    Inner s t content name inner → AreFound s
+    content (found_at t name (layout s.context.ending inner))
+found-node {s = s} {content = content} {inner = inner} t HeadingSetextText i = record {
+  heading = λ is. blocks-read s t.around.is_escaping t.around.in_image content is
+      (layout s.context.ending inner) (adds-alone (inside-alone s t content HeadingSetextText
+      i.stands i.fit i.built inner i.before));
   title = tt;
   resource = tt;
 }
-found-node s t content DefinitionTitleString inner i = record {
+found-node {s = s} {content = content} {inner = inner} t DefinitionTitleString i = record {
   heading = λ _. tt;
-  title = text-holds s (λ x. t.around.is_escaping ≡ true → Escaped x) inner
-      (inside-alone s t content DefinitionTitleString i.stands i.fit i.built inner i.before)
-      (suits-title t.around.is_escaping t.around.in_image content (or_left (may_stand content
-      DefinitionTitleString) (may_stand content ResourceTitleString) i.stands) i.suits);
+  title = adds-alone (inside-alone s t content DefinitionTitleString i.stands i.fit i.built inner
+      i.before) (suits-title t.around.is_escaping t.around.in_image content (or_left _ _ i.stands)
+      i.suits);
   resource = tt;
 }
-found-node s t content ResourceTitleString inner i = record {
+found-node {s = s} {content = content} {inner = inner} t ResourceTitleString i = record {
   heading = λ _. tt;
-  title = text-holds s (λ x. t.around.is_escaping ≡ true → Escaped x) inner
-      (inside-alone s t content ResourceTitleString i.stands i.fit i.built inner i.before)
-      (suits-title t.around.is_escaping t.around.in_image content (or_right (may_stand content
-      DefinitionTitleString) (may_stand content ResourceTitleString) i.stands) i.suits);
+  title = adds-alone (inside-alone s t content ResourceTitleString i.stands i.fit i.built inner
+      i.before) (suits-title t.around.is_escaping t.around.in_image content (or_right _ _ i.stands)
+      i.suits);
   resource = tt;
 }
-found-node s t content Resource inner i =
-    record { heading = λ _. tt; title = tt; resource = i.found.title }
-found-node s t content (Other number) inner i = i.found
-found-node s t content BlockQuotePrefix inner i = i.found
-found-node s t content SpaceOrTab inner i = i.found
-found-node s t content _ inner i = record { heading = λ _. tt; title = tt; resource = tt }
+found-node t Resource i = record { heading = λ _. tt; title = tt; resource = i.found.title }
+found-node t (Other number) i = i.found
+found-node t BlockQuotePrefix i = i.found
+found-node t SpaceOrTab i = i.found
+found-node t _ i = record { heading = λ _. tt; title = tt; resource = tt }
 
 -- the text of a footnote that is the node
-pub note-node : (s : Setting) (t : At) (content : Content) (name : Name) (inner : List Piece) →
+pub note-node : {s : Setting} {content : Content} {inner : List Piece} (t : At) (name : Name) →
     Inner s t content name inner → named GfmFootnoteDefinition name ≡ true →
     Reads s (layout s.context.ending inner)
-note-node s t content GfmFootnoteDefinition inner i is =
-    blocks-read s t.around.is_escaping t.around.in_image content (note-blocks content i.stands)
-    (layout s.context.ending inner)
-    (text-holds s (Holds s.p t.around.is_escaping t.around.in_image content) inner
-    (inside-alone s t content GfmFootnoteDefinition i.stands i.fit i.built inner i.before))
-note-node s t content _ inner i is = lie is
+note-node {s = s} {content = content} {inner = inner} t GfmFootnoteDefinition i is = blocks-read s _
+    _ _ (note-blocks _ i.stands) _ (adds-alone
+    (inside-alone s t _ _ i.stands i.fit i.built _ i.before))
+note-node t _ i is = lie is
 
 -- of two things that were found the later one
 pub later-heading : (s : Setting) (first later : Option (List ℕ)) → IsRead s first →

@@ -3,7 +3,6 @@
 use Rattle.std.proofs.Common.{◌≡◌, ◌⊎◌, inl, inr, ℕ, ◌≤◌, suc, true, false, List, [], ◌∷◌, refl}
 use Rattle.std.proofs.Common.{sym, ap, ◌∙◌, subst, codes, arith}
 use Rattle.std.specs.Prelude.{Some, bytes_eq}
-use Rattle.std.specs.Option.{option_map_or}
 use Rattle.std.proofs.lemmas.Bool.{and_parts, or_cases}
 use Rattle.std.proofs.lemmas.Slice.Eq.{bytes_eq-Decides}
 use Rattle.md_base.proofs.Lies.{lie}
@@ -11,17 +10,15 @@ use Rattle.md_text.specs.Bytes.{is_one_of}
 use Rattle.md_text.specs.Html.{Attribute, Forest, Empty, Text, Void, Element}
 use Rattle.md_safe.specs.Token.{StartTag, TokenAttribute}
 use Rattle.md_safe.specs.Tokens.{seen, seen_attributes}
-use Rattle.md_safe.specs.Contents.{Content, Flow, Items, Preformatted, elements_in, held_in}
-use Rattle.md_safe.specs.Contents.{voids_in, may_say, is_contained}
-use Rattle.md_safe.specs.Node.{Nodes, Entry, Marker, Formatting, with_element}
-use Rattle.md_safe.specs.Node.{Empty as NoNode}
+use Rattle.md_safe.specs.Contents.{Content, Flow, Items, Preformatted, elements_in, voids_in}
+use Rattle.md_safe.specs.Contents.{is_contained}
+use Rattle.md_safe.specs.Node.{Nodes, Entry, Marker, Formatting, with_element, Empty as NoNode}
 use Rattle.md_safe.specs.Elements.{headings}
 use Rattle.md_safe.specs.Stack.{is_among}
 use Rattle.md_safe.specs.InBody.{has_item, insert_void}
 use Rattle.md_safe.specs.InTable.{mode_for}
 use Rattle.md_safe.specs.Construction.{step}
-use Rattle.md_safe.specs.Built.{has_whole_texts, with_characters, put}
-use Rattle.md_safe.specs.Built.{has_none_active}
+use Rattle.md_safe.specs.Built.{has_whole_texts, with_characters, put, has_none_active}
 use Rattle.md_safe.proofs.Lists.{Keeps, keeps-all}
 use Rattle.md_safe.proofs.TreeSteps.{Position, parser_of, with_children, within, start-in-body}
 use Rattle.md_safe.proofs.PhrasingNames.{Here, Done, Passed, found, is_free, IsVoid, void-named}
@@ -43,11 +40,11 @@ pub record There (content : Content) (x : Position) : Type 0 where
   pub resets : mode_for (x.node ∷ x.others) ≡ x.mode
   pub no_item : is_items content ≡ true → has_item (x.node ∷ x.others) ≡ false
 
-there-after : (content : Content) (x : Position) (children : Nodes) (left : List Entry) (more : ℕ) →
+there-after : {content : Content} {x : Position} {children : Nodes} {left : List Entry} {more : ℕ} →
     Keeps x.active left → x.created ≤ more → There content x →
     There content (with_children x children left more)
-there-after content x children left more kept later there = record {
-  here = here-after x children left more true kept later there.here;
+there-after kept later there = record {
+  here = here-after kept later there.here;
   no_p = there.no_p;
   plain = there.plain;
   resets = there.resets;
@@ -55,11 +52,11 @@ there-after content x children left more kept later there = record {
 }
 
 -- under a new element
-there-within : (content held : Content) (x : Position) (name : List ℕ)
-    (those : List TokenAttribute) → Holder name → (is_items held ≡ true → EndsItems name) →
+there-within : {content held : Content} {x : Position} {name : List ℕ}
+    {those : List TokenAttribute} → Holder name → (is_items held ≡ true → EndsItems name) →
     There content x → There held (within x name those x.active)
-there-within content held x name those k items there = record {
-  here = here-within x name those true true (λ e. e) there.here;
+there-within {x = x} {those = those} k items there = record {
+  here = here-within (λ e. e) there.here;
   no_p = k.block.keeps_p x.created those NoNode (x.node ∷ x.others) k.other there.no_p;
   plain = k.calm;
   resets = k.passes x.created those NoNode (x.node ∷ x.others) ∙ there.resets;
@@ -67,8 +64,8 @@ there-within content held x name those k items there = record {
 }
 
 -- a link may stand there, or none does
-here-in : (content : Content) (x : Position) → Here x true → Here x (is_free content)
-here-in content x here = record {
+here-in : (content : Content) {x : Position} → Here x true → Here x (is_free content)
+here-in content here = record {
   body = here.body;
   opened = here.opened;
   made = here.made;
@@ -80,35 +77,30 @@ record Inside (inner : Forest) (held : Content) : Type 0 where
   inline : is_inline held ≡ true → (x : Position) → Here x (is_free held) → Done x inner
   flowing : is_flowing held ≡ true → (x : Position) → There held x → Done x inner
 
-kind-passes : (content held : Content) (x : Position) (name : List ℕ)
-    (attributes : List Attribute) (inner : Forest) → Ruled content name held →
-    There content x → has_whole_texts inner ≡ true → is_contained false held inner ≡ true →
-    Inside inner held → Passed x name attributes inner
-kind-passes content held x name attributes inner rule there h c inside =
+kind-passes : {content held : Content} {x : Position} {name : List ℕ} {attributes : List Attribute}
+    {inner : Forest} → Ruled content name held → There content x → has_whole_texts inner ≡ true →
+    is_contained false held inner ≡ true → Inside inner held → Passed x name attributes inner
+kind-passes {content} {held} {x} {name} {attributes} {inner} rule there h c inside =
     let those : List TokenAttribute = seen_attributes attributes in
     let new : Position = within x name those x.active in
-    let blocked = λ (k : IsBlock name) (d : Done new inner).
-    block-passes x name attributes inner there.here.body k there.no_p there.plain
-    (λ e. there.no_item (rule.item e)) d in
+    let blocked = λ (k : IsBlock name) (d : Done new inner). block-passes there.here.body k
+    there.no_p there.plain (λ e. there.no_item (rule.item e)) d in
     elim rule.kind [
-      | inl k ↦ span-passes x name attributes inner content held k
-          (here-in content x there.here) (inside.inline k.inline)
+      | inl k ↦ span-passes k (here-in content there.here) (inside.inline k.inline)
       | inr (inl k) ↦ blocked k.0 (inside.inline (ap is_inline k.1) new
-          (here-within x name those true (is_free held) (λ e. refl) there.here))
-      | inr (inr (inl k)) ↦ blocked k.0.block (inside.flowing (ap is_flowing k.1) new
-          (there-within content held x name those k.0 (λ e. lie (sym (ap is_items k.1) ∙ e)) there))
+          (here-within (λ e. refl) there.here))
+      | inr (inr (inl k)) ↦ blocked k.0.block (inside.flowing (ap is_flowing k.1) new (there-within
+          k.0 (λ e. lie (sym (ap is_items k.1) ∙ e)) there))
       | inr (inr (inr (inl k))) ↦ blocked k.0.block (inside.flowing (ap is_flowing k.1) new
-          (there-within content held x name those k.0 (λ e. k.2) there))
-      | inr (inr (inr (inr (inl k)))) ↦
-          subst (λ name. Passed x name attributes inner) (sym k.0)
-          (table-passes x attributes inner there.here.body there.here.made there.no_p there.resets h
-          (subst (λ held. is_contained false held inner ≡ true) k.1 c))
-      | inr (inr (inr (inr (inr k)))) ↦
-          subst (λ name. Passed x name attributes inner) (sym k.0)
-          (pre-passes x attributes inner there.here.body there.no_p
-          (subst (λ held. is_contained false held inner ≡ true) k.1 c)
-          (inside.flowing (ap is_flowing k.1) (within x (codes "pre") those x.active) (record {
-            here = here-within x (codes "pre") those true true (λ e. e) there.here;
+          (there-within k.0 (λ e. k.2) there))
+      | inr (inr (inr (inr (inl k)))) ↦ subst (λ name. Passed x name attributes inner) (sym k.0)
+          (table-passes there.here.body there.here.made there.no_p there.resets h (subst
+          (λ held. is_contained false held inner ≡ true) k.1 c))
+      | inr (inr (inr (inr (inr k)))) ↦ subst (λ name. Passed x name attributes inner) (sym k.0)
+          (pre-passes there.here.body there.no_p
+          (subst (λ held. is_contained false held inner ≡ true) k.1 c) (inside.flowing
+          (ap is_flowing k.1) (within x (codes "pre") those x.active) (record {
+            here = here-within (λ e. e) there.here;
             no_p = there.no_p;
             plain = refl;
             resets = there.resets;
@@ -127,54 +119,49 @@ flow-void Items name is h = lie h
 flow-void Preformatted name is h = lie h
 flow-void _ name is h = lie is
 
-flow-void-step : (x : Position) (name : List ℕ) (attributes : List TokenAttribute) →
-    (name ≡ codes "hr") ⊎ IsVoid name → Here x true → HasNoParagraph (x.node ∷ x.others) →
-    step (parser_of x) (StartTag name attributes true) ≡ Some (parser_of (with_children x
+flow-void-step : {x : Position} {name : List ℕ} (attributes : List TokenAttribute) →
+    (name ≡ codes "hr") ⊎ IsVoid name → Here x true → HasNoParagraph (x.node ∷ x.others) → step
+    (parser_of x) (StartTag name attributes true) ≡ Some (parser_of (with_children x
     (with_element x.node.children name attributes NoNode) x.active (suc x.created)))
-flow-void-step x name attributes (inr v) here none =
-    void-step x name attributes here.body here.opened v
-flow-void-step x name attributes (inl e) here none =
-    subst (λ name. step (parser_of x) (StartTag name attributes true)
-    ≡ Some (parser_of (with_children x
+flow-void-step {x = x} attributes (inr v) here none = void-step x attributes here.body here.opened v
+flow-void-step {x = x} attributes (inl e) here none = subst (λ name. step (parser_of x)
+    (StartTag name attributes true) ≡ Some (parser_of (with_children x
     (with_element x.node.children name attributes NoNode) x.active (suc x.created)))) (sym e)
-    (start-in-body x here.body (codes "hr") attributes true refl
-    ∙ ap (λ stack. Some (insert_void (codes "hr") attributes
-    (record (parser_of x) { stack = stack }))) (unclosed (x.node ∷ x.others) none))
+    (start-in-body x here.body (codes "hr") attributes true refl ∙ ap (λ stack. Some (insert_void
+    (codes "hr") attributes (record (parser_of x) { stack = stack })))
+    (unclosed (x.node ∷ x.others) none))
 
 pub flow-done : (f : Forest) (content : Content) → is_flowing content ≡ true →
-    has_whole_texts f ≡ true → is_contained false content f ≡ true →
-    (x : Position) → There content x → Done x f
+    has_whole_texts f ≡ true → is_contained false content f ≡ true → (x : Position) →
+    There content x → Done x f
 flow-done Empty content is h c x there = none-done x
 flow-done (Text bytes rest) content is h c x there =
     let parts = text-escaped bytes rest h in
     let next : Nodes = with_characters x.node.children (seen bytes) in
-    text-done x true bytes rest parts.0 there.here (flow-done rest content is parts.1
-    (and_parts (may_say content bytes) (is_contained false content rest) c).1
-    (with_children x next x.active x.created) (there-after content x next x.active x.created
-    (keeps-all x.active) (omega arith) there))
+    text-done parts.0 there.here (flow-done rest content is parts.1 (and_parts _ _ c).1
+    (with_children x next x.active x.created)
+    (there-after (keeps-all x.active) (omega arith) there))
 flow-done (Void name attributes rest) content is h c x there =
-    let parts = and_parts (is_one_of (voids_in content) name) (is_contained false content rest) c in
+    let parts = and_parts _ _ c in
     let next : Nodes = with_element x.node.children name (seen_attributes attributes) NoNode in
-    void-done x name attributes rest (flow-void-step x name (seen_attributes attributes)
-    (flow-void content name is parts.0) there.here there.no_p)
-    (flow-done rest content is h parts.1 (with_children x next x.active (suc x.created))
-    (there-after content x next x.active (suc x.created) (keeps-all x.active) (omega arith) there))
+    void-done (flow-void-step (seen_attributes attributes) (flow-void content name is parts.0)
+    there.here there.no_p) (flow-done rest content is h parts.1
+    (with_children x next x.active (suc x.created))
+    (there-after (keeps-all x.active) (omega arith) there))
 flow-done (Element name attributes inner rest) content is h c x there =
     let forests = element-parts name attributes inner rest h in
-    let parts = and_parts (option_map_or (λ held. is_contained false held inner)
-    (held_in false content name) false) (is_contained false content rest) c in
+    let parts = and_parts _ _ c in
     let held = found (Ruled content) (elements_in false content) name inner
     (flowing-rules content is) parts.0 in
     let passed : Passed x name attributes inner =
-    kind-passes content held.0 x name attributes inner held.1 there forests.0 held.2 (record {
+    kind-passes held.1 there forests.0 held.2 (record {
       inline = λ inline y here. phrasing-done inner held.0 inline forests.0 held.2 y here;
       flowing = λ flowing y there'. flow-done inner held.0 flowing forests.0 held.2 y there';
     }) in
-    let next : Nodes =
-    with_element x.node.children name (seen_attributes attributes) (put NoNode inner) in
-    element-done x name attributes inner rest passed
-    (flow-done rest content is forests.1 parts.1 (with_children x next passed.left passed.more)
-    (there-after content x next passed.left passed.more passed.keeps passed.later there))
+    let next : Nodes = with_element x.node.children name (seen_attributes attributes)
+    (put NoNode inner) in
+    element-done passed (flow-done rest content is forests.1 parts.1
+    (with_children x next passed.left passed.more) (there-after passed.keeps passed.later there))
 
 -- where no formatting element is active, none is taken away
 pub kept-none : (active left : List Entry) → has_none_active active ≡ true →

@@ -1,6 +1,5 @@
 -- Blocks and preformatted code are built as they are read, by what their children do.
-use Rattle.std.proofs.Common.{◌≡◌, ℕ, true, false, cond, List, ◌∷◌, ◌++◌, refl, ap, ◌∙◌}
-use Rattle.std.proofs.Common.{codes}
+use Rattle.std.proofs.Common.{◌≡◌, ℕ, true, false, cond, List, ◌∷◌, ◌++◌, refl, ap, ◌∙◌, codes}
 use Rattle.std.specs.Prelude.{Some, bytes_eq}
 use Rattle.md_base.proofs.Lies.{lie}
 use Rattle.md_text.specs.Html.{Attribute, Forest, Empty, Text, Void, Element}
@@ -53,27 +52,24 @@ pub unclosed : (stack : List Open) → HasNoParagraph stack → close_p stack �
 unclosed stack none = past _ none refl
 
 -- a block before which only a paragraph is closed, an item, and a heading
-pub plain : {name : List ℕ} → IsOuter name →
-    ((attributes : List TokenAttribute) (p : Parser) → start_in_body name attributes p
-    ≡ Some (insert name attributes (record p { stack = close_p p.stack }))) →
-    EndsBlock name → KeepsParagraph name → IsBlock name
+pub plain : {name : List ℕ} → IsOuter name → ((attributes : List TokenAttribute) (p : Parser) →
+    start_in_body name attributes p ≡ Some (insert name attributes
+    (record p { stack = close_p p.stack }))) → EndsBlock name → KeepsParagraph name → IsBlock name
 plain {name = name} names starts ends keeps = record {
   names = names;
-  starts = λ attributes x none calm item. starts attributes (parser_of x)
-      ∙ ap (λ stack. Some (insert name attributes (record (parser_of x) { stack = stack })))
-      (unclosed (x.node ∷ x.others) none);
+  starts = λ attributes x none calm item. starts attributes (parser_of x) ∙ ap (λ stack. Some
+      (insert name attributes (record (parser_of x) { stack = stack }))) (unclosed _ none);
   ends = ends;
   keeps_p = keeps;
 }
 
 pub li-block : IsBlock (codes "li")
 li-block = record {
-  names = outside refl refl refl refl;
-  starts = λ attributes x none calm item.
-      ap (λ stack. Some (insert (codes "li") attributes
-      (record (parser_of x) { stack = close_p stack }))) (past _ (item refl) refl)
-      ∙ ap (λ stack. Some (insert (codes "li") attributes (record (parser_of x) { stack = stack })))
-      (unclosed (x.node ∷ x.others) none);
+  names = outside refl;
+  starts = λ attributes x none calm item. ap (λ stack. Some (insert (codes "li") attributes
+      (record (parser_of x) { stack = close_p stack }))) (past _ (item refl) refl) ∙ ap (λ stack.
+      Some (insert (codes "li") attributes (record (parser_of x) { stack = stack })))
+      (unclosed _ none);
   ends = λ i t c x. refl;
   keeps_p = λ i t c s other none. none;
 }
@@ -97,18 +93,16 @@ heading {name = name} names starts ends keeps = record {
 }
 
 -- a block with what it holds, by what its children do
-pub block-passes : (x : Position) (name : List ℕ) (attributes : List Attribute) (inner : Forest) →
+pub block-passes : {x : Position} {name : List ℕ} {attributes : List Attribute} {inner : Forest} →
     is_body x.mode ≡ true → IsBlock name → HasNoParagraph (x.node ∷ x.others) →
-    is_among headings x.node ≡ false →
-    (bytes_eq name (codes "li") ≡ true → has_item (x.node ∷ x.others) ≡ false) →
-    Done (within x name (seen_attributes attributes) x.active) inner →
-    Passed x name attributes inner
-block-passes x name attributes inner body k none calm item d =
+    is_among headings x.node ≡ false → (bytes_eq name (codes "li") ≡ true → has_item
+    (x.node ∷ x.others) ≡ false) → Done (within x name (seen_attributes attributes) x.active)
+    inner → Passed x name attributes inner
+block-passes {x = x} {name = name} {attributes = attributes} {inner = inner} body k none calm item
+    d =
     let those : List TokenAttribute = seen_attributes attributes in
-    passes x name attributes inner x.active d.left (parser_of (within x name those x.active)) body
-    k.names (k.starts those x none calm item) (λ ys. refl) d
-    (k.ends x.created those (put NoNode inner) (with_children x x.node.children d.left d.more))
-    d.keeps
+    passes _ _ _ body k.names (k.starts those x none calm item) (λ ys. refl) d (k.ends x.created
+    those (put NoNode inner) (with_children x x.node.children d.left d.more)) d.keeps
 
 -- ---- preformatted code
 
@@ -122,16 +116,13 @@ pre-begins (Text bytes rest) p ys c = lie c
 pre-begins (Void name attributes rest) p ys c = refl
 pre-begins (Element name attributes inner rest) p ys c = refl
 
-pub pre-passes : (x : Position) (attributes : List Attribute) (inner : Forest) →
+pub pre-passes : {x : Position} {attributes : List Attribute} {inner : Forest} →
     is_body x.mode ≡ true → HasNoParagraph (x.node ∷ x.others) →
-    is_contained false Preformatted inner ≡ true →
-    Done (within x (codes "pre") (seen_attributes attributes) x.active) inner →
-    Passed x (codes "pre") attributes inner
-pre-passes x attributes inner body none c d =
+    is_contained false Preformatted inner ≡ true → Done (within x (codes "pre")
+    (seen_attributes attributes) x.active) inner → Passed x (codes "pre") attributes inner
+pre-passes {x = x} {attributes = attributes} {inner = inner} body none c d =
     let new : Parser = parser_of (within x (codes "pre") (seen_attributes attributes) x.active) in
-    passes x (codes "pre") attributes inner x.active d.left (record new { skips_line_feed = true })
-    body (outside refl refl refl refl)
-    (ap (λ stack. Some (record (insert (codes "pre") (seen_attributes attributes)
+    passes x.active d.left (record new { skips_line_feed = true }) body (outside refl) (ap (λ stack.
+    Some (record (insert (codes "pre") (seen_attributes attributes)
     (record (parser_of x) { stack = stack })) { skips_line_feed = true }))
-    (unclosed (x.node ∷ x.others) none))
-    (λ ys. pre-begins inner new ys c) d refl d.keeps
+    (unclosed (x.node ∷ x.others) none)) (λ ys. pre-begins inner new ys c) d refl d.keeps

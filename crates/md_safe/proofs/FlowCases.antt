@@ -1,119 +1,167 @@
--- What blocks and spans print where flow content stands.
-use Rattle.std.proofs.Common.{not, ◌&&◌, ◌≡◌, Bool, true, false, ◌||◌, cond, List, [], ◌∷◌, ◌++◌}
-use Rattle.std.proofs.Common.{refl, sym}
-use Rattle.std.proofs.Common.{◌∙◌, subst, codes}
-use Rattle.md_base.proofs.Lies.{lie}
-use Rattle.md_base.specs.declared.event.Name.{Name}
+-- What stands among blocks, in lists and in tables: each node prints the content that stands where
+-- it is.
+use Rattle.std.proofs.Common.{Bool, List, ap, append_assoc, codes, cond, drop, false, inl, inr, not}
+use Rattle.std.proofs.Common.{refl, sym, true, ℕ, ◌&&◌, ◌++◌, ◌||◌, ◌∙◌, ◌∷◌, ◌≡◌, ◌≤◌, [], subst}
+use Rattle.std.specs.Fmt.{digits}
+use Rattle.std.specs.List.{flat_map, list_all}
+use Rattle.std.specs.Prelude.{None, Option, Some, bytes_eq, count_by, slice_get}
 use Rattle.md_base.specs.declared.event.Name.TheVariants as name_variants
-use name_variants.{ListItem, LineEnding, BlockQuote, ListOrdered, ListUnordered, CodeIndented}
-use name_variants.{HtmlFlow}
-use name_variants.{HeadingAtx, HeadingSetextUnderlineSequence, GfmTable, Paragraph, ThematicBreak}
+use name_variants.{BlankLineEnding, BlockQuote, CodeFlowChunk, CodeIndented, GfmTable, GfmTableBody}
+use name_variants.{GfmTableCell, GfmTableDelimiterRow, GfmTableHead, GfmTableRow, HeadingAtx}
+use name_variants.{HeadingSetextUnderlineSequence, HtmlFlow, LineEnding, ListItem, ListOrdered}
+use name_variants.{ListUnordered, Paragraph, ThematicBreak}
+use Rattle.md_base.proofs.Lies.{lie}
+use Rattle.md_base.specs.Children.{spine_names}
 use Rattle.md_base.specs.Is.{is as named}
 use Rattle.md_base.specs.NameTests.{is_transparent}
+use Rattle.md_base.specs.declared.event.AlignKind.{AlignKind}
+use Rattle.md_base.specs.declared.event.Name.{Name}
+use Rattle.md_content.specs.Built.{Blocks, FirstFence, FirstMathFence, is_part, is_source}
 use Rattle.md_meaning.specs.Meaning.At.{At}
-use Rattle.md_pattern.specs.Looseness.{is_loose}
-use Rattle.md_meaning.specs.declared.surroundings.Surroundings.{Surroundings}
+use Rattle.md_meaning.specs.Meaning.Blocks.{atx_rank, ends_in_line, fenced, heading, heading_tag}
+use Rattle.md_meaning.specs.Meaning.Blocks.{underline_rank}
 use Rattle.md_meaning.specs.Meaning.Inherited.{inside, is_tight}
-use Rattle.md_meaning.specs.Meaning.Layout.{Piece, Needed, Forced, said, on_own_line}
+use Rattle.md_meaning.specs.Meaning.Layout.{Piece, layout, on_own_line, said}
 use Rattle.md_meaning.specs.Meaning.Means.{prints}
 use Rattle.md_meaning.specs.Meaning.Spans.{is_at}
-use Rattle.md_meaning.specs.Meaning.Blocks.{atx_rank, underline_rank, fenced}
-use Rattle.md_content.specs.Built.{Blocks, FirstFence, FirstMathFence, is_part, is_source}
+use Rattle.md_meaning.specs.Meaning.Tables.{cell_of}
+use Rattle.md_meaning.specs.declared.surroundings.Surroundings.{Surroundings}
+use Rattle.md_pattern.specs.Looseness.{is_loose}
 use Rattle.md_steps.proofs.Standing.{picked}
-use Rattle.md_safe.proofs.SpanContents.{NodePrints}
+use Rattle.md_text.specs.Html.{Attribute, elements, is_tag, opening_tag}
 use Rattle.md_safe.proofs.Cases.{either}
-use Rattle.md_safe.proofs.Laid.{Adds, adds-text, adds-needed}
-use Rattle.md_safe.proofs.Tags.{framed-text, framed-needed, framed-forced}
-use Rattle.md_safe.proofs.RawElements.{code_tag, math_tag}
+use Rattle.md_safe.proofs.Cells.{adds-cell_in}
+use Rattle.md_safe.proofs.Claims.{Claims, Known, NodePrints, Own, Prints, alone, blank-around}
+use Rattle.md_safe.proofs.Claims.{block-pair, ending-around, lined, nothing, plain_tag, turned}
 use Rattle.md_safe.proofs.Contents.{Holds}
-use Rattle.md_safe.proofs.Insides.{is_raw}
-use Rattle.md_safe.proofs.FlowNodes.{is_flow, is_math, raw_tag, raw-prints, in-raw, setext-fits}
+use Rattle.md_safe.proofs.Elements.{adds-ordered, class-passes, code_closing, heading_name}
+use Rattle.md_safe.proofs.Elements.{item-end, ranked}
 use Rattle.md_safe.proofs.FenceNodes.{inside-is}
-use Rattle.md_safe.proofs.Costs.{Document, read_in}
-use Rattle.md_safe.specs.Contents.{Content, Flow, Phrasing, Items, Parts}
-use Rattle.md_safe.specs.Placed.{sort_of, is_inner, may_stand}
-use Rattle.md_safe.proofs.Stands.{Stands, stands-void, turns-plain, IsWhite, white_beside}
-use Rattle.md_safe.proofs.ContainedLaid.{lays-white, lays-both, lays-wider, lays-turned}
-use Rattle.md_safe.proofs.SpanContents.{Prints, Known, Own, flat}
-use Rattle.md_safe.proofs.Spans.{is_inline, inline-node, Spanning}
-use Rattle.md_safe.proofs.OwnLines.{block-pair}
-use Rattle.md_safe.proofs.HeadingsAndLists.{heading-node, ordered-node}
-use Rattle.md_safe.proofs.CodeBlocks.{indented-node, turns-info, turns-math, fenced-node}
+use Rattle.md_safe.proofs.FlowNodes.{in-raw, is_flow, is_math, line-escaped, raw-prints, raw_tag}
+use Rattle.md_safe.proofs.FlowNodes.{setext-fits}
+use Rattle.md_safe.proofs.Insides.{is_raw}
+use Rattle.md_safe.proofs.Laid.{Adds, adds-alone, adds-text, adds-weaker}
+use Rattle.md_safe.proofs.Linking.{is_spans, with_links}
+use Rattle.md_safe.proofs.RawElements.{IsInfo, IsRaw, adds-raw, code-end, code_class, code_tag}
+use Rattle.md_safe.proofs.RawElements.{fenced-end, info_regrouped, math_tag}
+use Rattle.md_safe.proofs.SpanCases.{Spanning, inline-node, is_inline}
+use Rattle.md_safe.proofs.Stands.{is_spaced}
+use Rattle.md_safe.proofs.Tags.{Turns, adds-flat, attribute, framed-forced, framed-needed}
+use Rattle.md_safe.proofs.Tags.{framed-text, turns-two}
+use Rattle.md_safe.specs.Contents.{Cells, Characters, Content, Flow, Items, Linked, Parts, Phrasing}
+use Rattle.md_safe.specs.Contents.{Preformatted, Rows, held_in}
+use Rattle.md_safe.specs.Placed.{Ending, may_stand, sort_of, is_inner}
 
--- blocks that print tags or HTML, but code and math between fences
-abbrev is_block : Name → Bool
-is_block name =
-    named GfmTable name || (is_flow name && not (is_raw name || named ListItem name))
+-- ---- headings
 
-paragraph-node : (nested : Bool) (d : Document) (tight : Bool) → IsWhite d.context.ending →
-    (inner : List Piece) →
-    Prints nested d Phrasing inner →
-    Prints nested d Flow
-    (cond tight inner (on_own_line (codes "<p>") ++ (inner ++ said (codes "</p>"))))
-paragraph-node nested d true w inner a = lays-wider nested d.context.ending inner a
-paragraph-node nested d false w inner a =
-    lays-turned nested d.context.ending Phrasing Flow (codes "<p>") (codes "</p>")
-    (on_own_line (codes "<p>")) inner
-    (said (codes "</p>")) refl refl (turns-plain nested Phrasing Flow (codes "p") refl refl)
-    (framed-needed white_beside d.context.ending (codes "<p>") w) a
-    (framed-text white_beside d.context.ending (codes "</p>"))
+holds_phrasing : Option Content → Bool
+holds_phrasing held =
+    elim held [ None ↦ false | Some content ↦ elim content [ Phrasing ↦ true | _ ↦ false ] ]
 
-block-node : (nested : Bool) (d : Document) (t : At) (name : Name) → is_block name ≡ true →
-    NodePrints nested d t Flow name
-block-node nested d t BlockQuote is inner k a = block-pair nested d Flow Flow (codes "<blockquote>")
-    (codes "</blockquote>") k.white
-    refl refl (turns-plain nested Flow Flow (codes "blockquote") refl refl) inner (a refl)
-block-node nested d t ListOrdered is inner k a =
-    ordered-node nested d t k.white k.fit inner (a refl)
-block-node nested d t ListUnordered is inner k a =
-    lays-turned nested d.context.ending Items Flow (codes "<ul>") (codes "</ul>")
-    (on_own_line (codes "<ul>")) inner (Forced
-    ∷ said (codes "</ul>")) refl refl (turns-plain nested Items Flow (codes "ul") refl refl)
-    (framed-needed white_beside d.context.ending (codes "<ul>") k.white) (a refl)
-    (framed-forced white_beside d.context.ending (codes "</ul>") k.white)
-block-node nested d t Paragraph is inner k a =
-    paragraph-node nested d (is_tight t.around.container) k.white inner (a refl)
-block-node nested d t ThematicBreak is inner k a =
-    lays-both nested d.context.ending Flow (Needed ∷ []) (said (codes "<hr />"))
-    (lays-white nested d.context.ending Flow (Needed ∷ []) refl
-    (adds-needed white_beside d.context.ending k.white))
-    (flat nested d Flow (said (codes "<hr />")) refl
-    (stands-void nested Flow (codes "hr") refl [] refl refl))
-block-node nested d t HeadingAtx is inner k a =
-    heading-node nested d (atx_rank t) k.white (k.fit.0, k.fit.1) inner (a refl)
-block-node nested d t HeadingSetextUnderlineSequence is inner k a =
-    heading-node nested d (underline_rank d.context t) k.white
-    (setext-fits (is_at 45 d.context.bytes t.place.start.index)) (said t.before.heading)
-    (adds-text d.context.ending (Stands nested Phrasing) t.before.heading k.heading)
-block-node nested d t CodeIndented is inner k a = indented-node nested d t k.white inner (a refl)
-block-node nested d t HtmlFlow is inner k a =
-    lays-both nested d.context.ending Flow (Needed ∷ []) inner
-    (lays-white nested d.context.ending Flow (Needed ∷ []) refl
-    (adds-needed white_beside d.context.ending k.white))
-    (lays-wider nested d.context.ending inner (a refl))
-block-node nested d t GfmTable is inner k a = block-pair nested d Parts Flow (codes "<table>")
-    (codes "</table>") k.white refl refl
-    (turns-plain nested Parts Flow (codes "table") refl refl) inner (a refl)
-block-node nested d t _ is inner k a = lie is
+phrasing-held : (held : Option Content) → holds_phrasing held ≡ true → held ≡ Some Phrasing
+unfolding holds_phrasing
+phrasing-held (Some Phrasing) h = refl
+phrasing-held (Some _) h = lie h
+phrasing-held None h = lie h
 
--- code and math in lines
-raw-node : (nested : Bool) (d : Document) (t : At) (name : Name) → is_raw name ≡ true →
-    (inner : List Piece) →
-    Known nested d t name inner → Prints nested d Flow (prints d.context t name inner)
-raw-node nested d t name is inner k =
-    subst (Prints nested d Flow) (sym (raw-prints d.context t name is inner))
-    (by (is_math name) (inside-is (read_in d) t Blocks
-    (cond (is_math name) FirstMathFence FirstFence) name inner (in-raw name is) k.within))
+turns-heading : (m : Claims) (rank : ℕ) → (1 ≤ rank) × (rank ≤ 6) → Turns (m.holds Phrasing)
+    (m.holds Flow) (heading_tag (codes "<h") rank) (heading_tag (codes "</h") rank)
+unfolding heading_name holds_phrasing digits
+turns-heading m rank h = plain_tag m (heading_name rank) (ranked
+    (λ rank. is_tag elements (heading_name rank) []) refl rank h) (phrasing-held
+    (held_in m.nested Flow (heading_name rank)) (ranked (λ rank. holds_phrasing
+    (held_in m.nested Flow (heading_name rank))) refl rank h))
+
+pub heading-node : (m : Claims) (rank : ℕ) → (1 ≤ rank) × (rank ≤ 6) → {inner : List Piece} →
+    Prints m Phrasing inner → Prints m Flow (heading rank inner)
+heading-node m rank fits a = turned m refl refl (turns-heading m rank fits)
+    (framed-needed m.beside m.ending) a (framed-text m.beside)
+
+-- ---- code and math
+
+-- the tags of code in flow content
+abbrev TurnsCode : Claims → List ℕ → Type 0
+TurnsCode m o = Turns (m.holds Characters) (m.holds Flow) o code_closing
+
+turns-code : (m : Claims) (attributes : List Attribute) → is_tag elements (codes "code") attributes
+    ≡ true → list_all m.s.p.test attributes ≡ true → TurnsCode
+    m (codes "<pre>" ++ opening_tag (codes "code") attributes)
+turns-code m attributes h a = turns-two (plain_tag m {held = Preformatted} {content = Flow}
+    (codes "pre") refl refl) ((m.tag Characters Preformatted (codes "code") refl).tag attributes h
+    a)
+
+-- the tag of fenced code or math, with what is said in it
+turns-info : (m : Claims) (math : Bool) (x : List ℕ) → IsInfo (raw_tag math) x →
+    TurnsCode m (raw_tag math ++ (x ++ (62 ∷ [])))
+turns-info m false x (inl e) = subst (λ x. TurnsCode m (code_tag ++ (x ++ (62 ∷ [])))) (sym e)
+    (turns-code m [] refl refl)
+turns-info m false x (inr e) = subst (λ x. TurnsCode m (code_tag ++ (x ++ (62 ∷ [])))) (sym e.1)
+    (subst (TurnsCode m) (info_regrouped e.0) (turns-code m
+    (attribute (codes "class") (codes "language-" ++ e.0) ∷ []) (code_class e.0 e.2)
+    (class-passes m.s.test (codes "language-" ++ e.0))))
+turns-info m true x (inl e) = subst (λ x. TurnsCode m (math_tag ++ (x ++ (62 ∷ [])))) (sym e)
+    (turns-code m (attribute (codes "class") (codes "language-math math-display") ∷ []) refl
+    (class-passes m.s.test (codes "language-math math-display")))
+turns-info m true x (inr e) = lie (ap (λ tag. bytes_eq tag code_tag) e.3)
+
+raw-node : (m : Claims) (t : At) (name : Name) → is_raw name ≡ true → (inner : List Piece) →
+    Known m t name inner → Prints m Flow (prints m.s.context t name inner)
+raw-node m t name is inner k = subst (Prints m Flow) (sym (raw-prints m.s.context t name is inner))
+    (by (is_math name) (inside-is m.s t Blocks _ name inner (in-raw name is) k.within))
   where
     around : Surroundings
-    around = inside d.context.options (is_loose t.children) name t.around
+    around = inside m.s.context.options (is_loose t.children) name t.around
 
-    by : (math : Bool) → Adds d.context.ending (Holds (read_in d).p around.is_escaping
-        around.in_image
-        (cond math FirstMathFence FirstFence)) inner →
-        Prints nested d Flow (fenced t (raw_tag math) inner)
-    by true a = fenced-node nested d t math_tag (turns-math nested) k.white inner a
-    by false a = fenced-node nested d t code_tag (turns-info nested) k.white inner a
+    fenced-node : (math : Bool) → Adds m.s.context.ending (IsRaw (raw_tag math)) inner →
+        Prints m Flow (fenced t (raw_tag math) inner)
+    fenced-node math a = adds-raw m.beside (m.takes Flow refl) m.code m.ending (adds-weaker (λ x r.
+        record {
+          attributes = r.attributes;
+          body = r.body;
+          whole = r.whole;
+          escaped = r.escaped;
+          turns = turns-info m math r.attributes r.info;
+        }) a) (fenced-end m.beside m.ending t)
+
+    by : (math : Bool) → Adds m.s.context.ending (Holds m.s.p around.is_escaping around.in_image
+        (cond math FirstMathFence FirstFence)) inner → Prints m Flow (fenced t (raw_tag math) inner)
+    by true a = fenced-node true a
+    by false a = fenced-node false a
+
+-- ---- blocks that print tags or HTML, but code and math between fences
+
+abbrev is_block : Name → Bool
+is_block name = named GfmTable name || (is_flow name && not (is_raw name || named ListItem name))
+
+paragraph-node : (m : Claims) (tight : Bool) {inner : List Piece} → Prints m Phrasing inner →
+    Prints m Flow (cond tight inner (on_own_line (codes "<p>") ++ (inner ++ said (codes "</p>"))))
+paragraph-node m true a = adds-weaker m.wider a
+paragraph-node m false a = turned m refl refl (plain_tag m (codes "p") refl refl)
+    (framed-needed m.beside m.ending) a (framed-text m.beside)
+
+block-node : (m : Claims) (t : At) (name : Name) → is_block name ≡ true → NodePrints m t Flow name
+block-node m t BlockQuote is inner k a = block-pair m {held = Flow} refl refl
+    (plain_tag m (codes "blockquote") refl refl) (a refl)
+block-node m t ListOrdered is inner k a = adds-ordered m.beside (m.takes Items refl)
+    (m.takes Flow refl) m.s.context m.ending m.s.test (m.tag Items Flow (codes "ol") refl) t k.fit
+    (a refl)
+block-node m t ListUnordered is inner k a = turned m {held = Items} refl refl
+    (plain_tag m (codes "ul") refl refl) (framed-needed m.beside m.ending) (a refl)
+    (framed-forced m.beside m.ending)
+block-node m t Paragraph is inner k a = paragraph-node m (is_tight t.around.container) (a refl)
+block-node m t ThematicBreak is inner k a = lined m refl (adds-flat refl
+    ((m.void Flow (codes "hr") refl).tag [] refl refl))
+block-node m t HeadingAtx is inner k a = heading-node m (atx_rank t) (k.fit.0, k.fit.1) (a refl)
+block-node m t HeadingSetextUnderlineSequence is inner k a = heading-node m
+    (underline_rank m.s.context t) (setext-fits (is_at 45 m.s.context.bytes t.place.start.index))
+    (adds-text (k.heading refl))
+block-node m t CodeIndented is inner k a = turned m {held = Characters} refl refl
+    (turns-code m [] refl refl) (framed-needed m.beside m.ending) (a refl)
+    (code-end m.beside m.ending t)
+block-node m t HtmlFlow is inner k a = lined m refl (adds-weaker m.wider (a refl))
+block-node m t GfmTable is inner k a = block-pair m {held = Parts} refl refl
+    (plain_tag m (codes "table") refl refl) (a refl)
+block-node m t _ is inner k a = lie is
 
 -- each name is of one of the tables
 covered : (name : Name) →
@@ -132,39 +180,95 @@ outer name h = by (is_inner (sort_of name)) h
     by false h = refl
 
 -- what blocks and spans print
-pub flow-node : (nested : Bool) (d : Document) (t : At) (name : Name) → is_transparent name ≡ false
-    → (is_part name || is_source name) ≡ false → may_stand Flow (sort_of name) ≡ true → NodePrints
-    nested d t Flow name
-flow-node nested d t name solid whole stands inner k a =
-    either (is_transparent name) _ (covered name) (λ is. lie (sym solid ∙ is)) (λ c.
-    either (is_part name || is_source name) _ c (λ is. lie (sym whole ∙ is)) (λ c.
-    either (is_inline name) _ c
-    (λ is. lays-wider nested d.context.ending (prints d.context t name inner)
-    (inline-node nested d Phrasing t name is inner k a
-    (record { spans = refl; free = λ _. refl; plain = λ _. refl }))) (λ c.
-    either (is_block name) _ c (λ is. block-node nested d t name is inner k a) (λ c.
-    either (is_raw name) (is_inner (sort_of name)) c (λ is. raw-node nested d t name is inner k)
+flow-node : (m : Claims) (t : At) (name : Name) → is_transparent name ≡ false →
+    (is_part name || is_source name) ≡ false → may_stand Flow (sort_of name) ≡ true →
+    NodePrints m t Flow name
+flow-node m t name solid whole stands inner k a = either _ _ (covered name)
+    (λ is. lie (sym solid ∙ is)) (λ c. either _ _ c (λ is. lie (sym whole ∙ is)) (λ c. either _ _ c
+    (λ is. adds-weaker m.wider (inline-node m t Phrasing name is inner k a
+    (record { spans = refl; free = λ _. refl; plain = λ _. refl }))) (λ c. either _ _ c
+    (λ is. block-node m t name is inner k a) (λ c. either _ _ c (λ is. raw-node m t name is inner k)
     (λ is. lie (sym (outer name stands) ∙ is))))))
 
 -- neither a block nor a part of another is a span
 no_block : (name : Name) → (is_block name || (is_raw name || is_inner (sort_of name))) ≡ true →
     may_stand Phrasing (sort_of name) ≡ false
-no_block name is = picked (is_block name || (is_raw name || is_inner (sort_of name)))
-    (may_stand Phrasing (sort_of name)) false (by name) is
+no_block name is = picked _ _ _ (by name) is
   where
     by : (name : Name) → cond (is_block name || (is_raw name || is_inner (sort_of name)))
         (may_stand Phrasing (sort_of name)) false ≡ false
     by LineEnding = refl
     by _ = refl
 
-pub spans-node : (nested : Bool) (d : Document) (content : Content) (t : At) (name : Name) →
-    is_transparent name ≡ false →
+spans-node : (m : Claims) (t : At) (content : Content) (name : Name) → is_transparent name ≡ false →
     (is_part name || is_source name) ≡ false → may_stand Phrasing (sort_of name) ≡ true →
-    (inner : List Piece) →
-    Known nested d t name inner → Own nested d content name inner → Spanning t content name →
-    Prints nested d content (prints d.context t name inner)
-spans-node nested d content t name solid whole stands inner k a g =
-    either (is_transparent name) _ (covered name) (λ is. lie (sym solid ∙ is)) (λ c.
-    either (is_part name || is_source name) _ c (λ is. lie (sym whole ∙ is)) (λ c.
-    either (is_inline name) _ c (λ is. inline-node nested d content t name is inner k a g)
+    (inner : List Piece) → Known m t name inner → Own m content name inner →
+    Spanning t content name → Prints m content (prints m.s.context t name inner)
+spans-node m t content name solid whole stands inner k a g = either _ _ (covered name)
+    (λ is. lie (sym solid ∙ is)) (λ c. either _ _ c (λ is. lie (sym whole ∙ is)) (λ c. either _ _ c
+    (λ is. inline-node m t content name is inner k a g)
     (λ c. lie (sym (no_block name c) ∙ stands))))
+
+-- ---- lists, tables and code
+
+-- where a line ending may stand, what may be around a text may
+ending-spaced : (content : Content) → may_stand content Ending ≡ true → is_spaced content ≡ true
+ending-spaced Flow stands = refl
+ending-spaced Preformatted stands = lie stands
+ending-spaced _ stands = refl
+
+row-node : (m : Claims) (in_head : Bool) (kinds : List AlignKind) (inner : List Piece) →
+    Prints m Cells inner → Prints m Rows (on_own_line (codes "<tr>") ++ (inner ++ (flat_map
+    (cell_of in_head []) kinds ++ on_own_line (codes "</tr>"))))
+row-node m in_head kinds inner a = subst (λ x. Prints m Rows (on_own_line (codes "<tr>") ++ x))
+    (append_assoc inner (flat_map (cell_of in_head []) kinds) (on_own_line (codes "</tr>")))
+    (block-pair m refl refl (plain_tag m (codes "tr") refl refl) (m.filled in_head kinds inner a))
+
+-- the contents of blocks and of spans
+abbrev is_usual : Content → Bool
+is_usual content = elim content [ Flow ↦ true | Phrasing ↦ true | _ ↦ false ]
+
+-- each sort is of a name or two, and the row of delimiters prints nothing
+inner-node : (m : Claims) (t : At) (content : Content) (name : Name) → is_usual content ≡ false →
+    may_stand content (sort_of name) ≡ true → NodePrints m t content name
+inner-node m t Flow name other stands inner k a = lie (sym other)
+inner-node m t Phrasing name other stands inner k a = lie (sym other)
+inner-node m t Items ListItem other stands inner k a = turned m {held = Flow} refl refl
+    (plain_tag m (codes "li") refl refl) (framed-needed m.beside m.ending) (a refl)
+    (item-end m.beside m.ending (ends_in_line t))
+inner-node m t Parts GfmTableHead other stands inner k a = block-pair m {held = Rows} refl refl
+    (plain_tag m (codes "thead") refl refl) (a refl)
+inner-node m t Parts GfmTableBody other stands inner k a = turned m {held = Rows} refl refl
+    (plain_tag m (codes "tbody") refl refl) (framed-text m.beside) (a refl)
+    (framed-needed m.beside m.ending)
+inner-node m t Rows GfmTableRow other stands inner k a = row-node m t.around.in_head (drop
+    (count_by (named GfmTableCell) (spine_names t.children)) t.before.columns) inner (a refl)
+inner-node m t Rows GfmTableDelimiterRow other stands inner k a = nothing m refl
+inner-node m t Cells GfmTableCell other stands inner k a = adds-cell_in m.s.test
+    (m.element Phrasing Cells (codes "th") refl, m.element Phrasing Cells (codes "td") refl)
+    (λ xs. lined m {content = Cells} refl) (m.alone Cells refl [] m.beside.none) t.around.in_head
+    (slice_get t.before.columns (count_by (named GfmTableCell) t.before.spine))
+    (layout m.s.context.ending inner) (adds-alone {f = m.holds Phrasing} (a refl))
+inner-node m t Characters CodeFlowChunk other stands inner k a = adds-weaker
+    (λ x h. m.text Characters x h refl) (line-escaped m.s t CodeFlowChunk refl k.fit inner)
+inner-node m t content LineEnding other stands inner k a = alone m (ending-spaced content stands)
+    (ending-around m t k.fit)
+inner-node m t content BlankLineEnding other stands inner k a = alone m
+    (ending-spaced content stands) (blank-around m t.is_last)
+inner-node m t _ _ other stands inner k a = lie stands
+
+-- a node that isn't transparent prints what its place allows
+pub solid-node : (m : Claims) (t : At) (content : Content) (name : Name) →
+    is_transparent name ≡ false → (is_part name || is_source name) ≡ false →
+    may_stand (with_links content) (sort_of name) ≡ true → (inner : List Piece) →
+    Known m t name inner → Own m content name inner →
+    (is_spans content ≡ true → Spanning t content name) → Prints m
+    content (prints m.s.context t name inner)
+solid-node m t Flow name solid whole stands inner k a g = flow-node m t name solid whole stands
+    inner k a
+solid-node m t Phrasing name solid whole stands inner k a g = spans-node m t Phrasing name solid
+    whole stands inner k a (g refl)
+solid-node m t Linked name solid whole stands inner k a g = spans-node m t Linked name solid whole
+    stands inner k a (g refl)
+solid-node m t content name solid whole stands inner k a g = inner-node m t content name refl stands
+    inner k a

@@ -1,31 +1,24 @@
 -- What is found among blocks: phrasing content as a heading's text, flow content of footnotes.
-use Rattle.std.proofs.Common.{◌≡◌, ℕ, Bool, true, false, cond, List, [], refl, sym}
-use Rattle.std.proofs.Common.{subst}
+use Rattle.std.proofs.Common.{◌≡◌, ℕ, Bool, true, false, cond, List, [], refl, sym, subst}
 use Rattle.std.specs.Prelude.{Option, Some, None, unwrap_or}
 use Rattle.md_base.proofs.Lies.{lie}
 use Rattle.md_base.specs.declared.event.Name.{Name}
 use Rattle.md_base.specs.declared.event.Name.TheVariants as name_variants
-use name_variants.{Other, BlockQuotePrefix, SpaceOrTab, Image, HeadingSetextText}
-use name_variants.{GfmFootnoteDefinition}
+use name_variants.{Other, BlockQuotePrefix, SpaceOrTab, HeadingSetextText, GfmFootnoteDefinition}
 use Rattle.md_base.specs.Is.{is as named}
 use Rattle.md_base.specs.NameTests.{is_transparent}
 use Rattle.md_base.specs.Children.{or_else}
-use Rattle.md_text.specs.declared.options.CompileOptions.{CompileOptions}
-use Rattle.md_meaning.specs.declared.surroundings.Surroundings.{Surroundings}
-use Rattle.md_meaning.specs.Meaning.Inherited.{inside}
 use Rattle.md_meaning.specs.Meaning.At.{Footnote, At}
 use Rattle.md_meaning.specs.Meaning.Layout.{layout}
 use Rattle.md_meaning.specs.Meaning.Nodes.{Outcome, found_at}
-use Rattle.md_content.specs.Built.{Blocks, content_inside}
 use Rattle.md_safe.proofs.Laid.{adds-alone}
-use Rattle.md_safe.proofs.Insides.{is_blocks}
 use Rattle.md_safe.proofs.Findings.{AreTexts}
 use Rattle.md_safe.proofs.Costs.{Document}
 use Rattle.md_safe.specs.Contents.{Content, Flow, Phrasing}
 use Rattle.md_safe.specs.Placed.{Block, sort_of, may_stand as may_place}
 use Rattle.md_safe.proofs.Linking.{with_links, place_in}
 use Rattle.md_safe.proofs.Stands.{Stands, stands-nothing}
-use Rattle.md_safe.proofs.SpanContents.{Prints, Own}
+use Rattle.md_safe.proofs.ContainedLaid.{Prints, Own}
 
 -- a heading's text that was found is phrasing content
 abbrev pub IsHeading : (nested : Bool) → Option (List ℕ) → Type 0
@@ -42,15 +35,13 @@ block-flow Flow h = refl
 block-flow _ h = lie h
 
 -- what a node that isn't transparent adds to the spine
-pub heading-found :
-    (nested : Bool) (d : Document) (content : Content) (name : Name) (t : At) (inner : Outcome) →
-    is_transparent name ≡ false → may_place (with_links content) (sort_of name) ≡ true →
-    Own nested d content name inner.pieces → IsHeading nested (found_at t name
-    (layout d.context.ending inner.pieces)).heading
-heading-found nested d content HeadingSetextText t inner solid stands a =
-    adds-alone d.context.ending (Stands nested Phrasing) inner.pieces
-    (subst (λ c. Prints nested d (place_in nested c HeadingSetextText) inner.pieces)
-    (block-flow content stands) (a refl))
+pub heading-found : (nested : Bool) (d : Document) (content : Content) (name : Name) (t : At)
+    (inner : Outcome) → is_transparent name ≡ false → may_place (with_links content) (sort_of name)
+    ≡ true → Own nested d content name inner.pieces → IsHeading nested (found_at t
+    name (layout d.context.ending inner.pieces)).heading
+heading-found nested d content HeadingSetextText t inner solid stands a = adds-alone (subst (λ c.
+    Prints nested d (place_in nested c HeadingSetextText) inner.pieces) (block-flow content stands)
+    (a refl))
 heading-found nested d content (Other number) t inner solid stands a = lie (sym solid)
 heading-found nested d content BlockQuotePrefix t inner solid stands a = lie (sym solid)
 heading-found nested d content SpaceOrTab t inner solid stands a = lie (sym solid)
@@ -58,23 +49,12 @@ heading-found nested d content _ t inner solid stands a = tt
 
 -- the text of a footnote
 pub note-found : (nested : Bool) (d : Document) (content : Content) (name : Name)
-    (inner : Outcome) →
-    named GfmFootnoteDefinition name ≡ true → may_place (with_links content) (sort_of name) ≡ true →
-    Own nested d content name inner.pieces → Stands nested Flow
-    (layout d.context.ending inner.pieces)
-note-found nested d content GfmFootnoteDefinition inner is stands a =
-    adds-alone d.context.ending (Stands nested Flow) inner.pieces
-    (subst (λ c. Prints nested d (place_in nested c GfmFootnoteDefinition) inner.pieces)
-    (block-flow content stands) (a refl))
+    (inner : Outcome) → named GfmFootnoteDefinition name ≡ true →
+    may_place (with_links content) (sort_of name) ≡ true → Own nested d content name inner.pieces →
+    Stands nested Flow (layout d.context.ending inner.pieces)
+note-found nested d content GfmFootnoteDefinition inner is stands a = adds-alone (subst (λ c. Prints
+    nested d (place_in nested c GfmFootnoteDefinition) inner.pieces) (block-flow _ stands) (a refl))
 note-found nested d content _ inner is stands a = lie is
-
--- images alone begin an image, and no blocks stand in them
-pub still-outside : (options : CompileOptions) (loose : Bool) (name : Name)
-    (around : Surroundings) →
-    is_blocks (content_inside Blocks name) ≡ true → around.in_image ≡ false →
-    (inside options loose name around).in_image ≡ false
-still-outside options loose Image around blocks out = lie blocks
-still-outside options loose _ around blocks out = out
 
 pub heading-both : (nested : Bool) (first later : Option (List ℕ)) → IsHeading nested first →
     IsHeading nested later →
@@ -92,4 +72,4 @@ heading-next nested (Some x) before a b = a
 pub heading-inside : (nested : Bool) (is : Bool) (before : List ℕ) → Stands nested Phrasing before →
     Stands nested Phrasing (cond is before [])
 heading-inside nested true before h = h
-heading-inside nested false before h = stands-nothing nested Phrasing
+heading-inside nested false before h = stands-nothing

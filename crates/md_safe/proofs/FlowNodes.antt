@@ -1,6 +1,6 @@
--- The nodes of blocks with tags or raw text print texts with readings.
-use Rattle.std.proofs.Common.{◌≡◌, ℕ, ◌≤◌, Bool, true, false, cond, List, [], ◌∷◌, ◌++◌, refl}
-use Rattle.std.proofs.Common.{◌||◌, inl, inr, arith, codes}
+-- Blocks with tags or raw text; lines of code and HTML print escaped texts.
+use Rattle.std.proofs.Common.{◌≡◌, ℕ, ◌≤◌, Bool, true, false, cond, List, [], refl, ◌||◌, inl, inr}
+use Rattle.std.proofs.Common.{arith}
 use Rattle.std.specs.Prelude.{unwrap_or}
 use Rattle.std.specs.List.{list_any}
 use Rattle.std.proofs.lemmas.Bool.{or_cases}
@@ -12,37 +12,23 @@ use name_variants.{LineEnding, BlankLineEnding, BlockQuote, ListOrdered, ListUno
 use name_variants.{CodeIndented, CodeFenced, CodeFlowChunk, MathFlow, MathFlowChunk, HtmlFlow}
 use name_variants.{HtmlFlowData, HtmlTextData, HeadingAtx, HeadingSetextUnderlineSequence}
 use name_variants.{Paragraph, ThematicBreak}
-use Rattle.md_text.specs.Encode.{encoded}
 use Rattle.md_text.proofs.EncodeLaws.{is_escaped-encoded}
-use Rattle.md_text.proofs.EscapedLemmas.{escaped-append}
-use Rattle.md_text.proofs.HtmlJoin.{text}
 use Rattle.md_base.specs.declared.event.Point.{Point}
 use Rattle.md_base.specs.Tree.{Forest}
 use Rattle.md_base.specs.Children.{spine_names}
 use Rattle.md_meaning.specs.Meaning.At.{Context, At}
-use Rattle.md_meaning.specs.Meaning.Inherited.{is_tight}
-use Rattle.md_meaning.specs.Meaning.Layout.{Piece, Needed, Forced, said, on_own_line}
+use Rattle.md_meaning.specs.Meaning.Layout.{Piece}
 use Rattle.md_meaning.specs.Meaning.Means.{prints}
-use Rattle.md_meaning.specs.Meaning.Spans.{escaped, html, is_at}
-use Rattle.md_meaning.specs.Meaning.Blocks.{ends_in_line, atx_rank, underline_rank}
-use Rattle.md_meaning.specs.Meaning.Blocks.{chunk, code_end, fenced}
-use Rattle.md_content.specs.Underlined.{is_underline}
-use Rattle.md_content.specs.Built.{Blocks, FirstFence, FirstMathFence, IsFit, is_line}
-use Rattle.md_content.specs.Built.{is_fence, content_of}
+use Rattle.md_meaning.specs.Meaning.Spans.{escaped, html}
+use Rattle.md_meaning.specs.Meaning.Blocks.{chunk, fenced}
+use Rattle.md_content.specs.Built.{Blocks, FirstFence, FirstMathFence, IsFit, is_line, is_fence}
+use Rattle.md_content.specs.Built.{content_of}
 use Rattle.md_steps.proofs.Standing.{picked}
-use Rattle.md_safe.proofs.Spot.{NodeAdds}
+use Rattle.md_safe.proofs.Spot.{Setting, IsFitAt, Prints, encoded-escaped}
 use Rattle.md_safe.proofs.Texts.{Escaped}
-use Rattle.md_safe.proofs.Laid.{adds-weaker, adds-text, adds-needed, adds-when, escaped_beside}
-use Rattle.md_safe.proofs.Tags.{Bracket, bracket-tag, takes-escaped, void-read, adds-flat}
-use Rattle.md_safe.proofs.Tags.{adds-pair}
-use Rattle.md_safe.proofs.Tags.{adds-before, adds-escaped, framed-text, framed-needed}
-use Rattle.md_safe.proofs.Tags.{framed-forced}
-use Rattle.md_safe.proofs.Elements.{bracket-plain, bracket-code, adds-heading, adds-ordered}
-use Rattle.md_safe.proofs.Elements.{item-end, code_closing}
-use Rattle.md_safe.proofs.RawElements.{IsRaw, IsOpened, adds-raw, raw-opened, code-end, fenced-end}
+use Rattle.md_safe.proofs.Laid.{adds-text, adds-needed, adds-when, escaped_beside}
 use Rattle.md_safe.proofs.RawElements.{code_tag, math_tag}
 use Rattle.md_safe.proofs.Insides.{is_raw}
-use Rattle.md_safe.proofs.Spot.{Setting, IsFitAt, Prints, encoded-escaped}
 use Rattle.md_safe.proofs.StringNodes.{line_ending-escaped}
 
 -- blocks with tags or raw text
@@ -87,12 +73,10 @@ raw_tag math = cond math math_tag code_tag
 
 pub raw-prints : (context : Context) (t : At) (name : Name) → is_raw name ≡ true →
     (inner : List Piece) → prints context t name inner ≡ fenced t (raw_tag (is_math name)) inner
-raw-prints context t name is inner =
-    picked (is_raw name) (prints context t name inner) _ (by name) is
+raw-prints context t name is inner = picked _ _ _ (by name) is
   where
-    by : (name : Name) →
-        cond (is_raw name) (prints context t name inner) (fenced t (raw_tag (is_math name)) inner)
-        ≡ fenced t (raw_tag (is_math name)) inner
+    by : (name : Name) → cond (is_raw name) (prints context t name inner)
+        (fenced t (raw_tag (is_math name)) inner) ≡ fenced t (raw_tag (is_math name)) inner
     by Paragraph = refl
     by _ = refl
 
@@ -110,56 +94,27 @@ in-raw name is = picked (is_raw name) (content_of name Blocks) _ (by name) is
 abbrev pub Reads : Setting → List ℕ → Type 0
 Reads s x = s.p.holds x
 
--- a block's tags on lines of their own
-pub block-pair : (s : Setting) (o c : List ℕ) → Bracket s.p o c → (inner : List Piece) →
-    Prints s (Reads s) inner →
-    Prints s (Reads s) (on_own_line o ++ (inner ++ on_own_line c))
-block-pair s o c bracket inner a =
-    adds-pair s.p s.context.ending o c (on_own_line o) inner (on_own_line c) bracket
-    (framed-needed escaped_beside s.context.ending o s.ending) a
-    (framed-needed escaped_beside s.context.ending c s.ending)
-
--- a paragraph
-paragraph-node : (s : Setting) (tight : Bool) (inner : List Piece) → Prints s (Reads s) inner →
-    Prints s (Reads s)
-    (cond tight inner (on_own_line (codes "<p>") ++ (inner ++ said (codes "</p>"))))
-paragraph-node s true inner a = a
-paragraph-node s false inner a =
-    adds-pair s.p s.context.ending (codes "<p>") (codes "</p>") (on_own_line (codes "<p>")) inner
-    (said (codes "</p>")) (bracket-plain s.p (codes "p") refl)
-    (framed-needed escaped_beside s.context.ending (codes "<p>") s.ending) a
-    (framed-text escaped_beside s.context.ending (codes "</p>"))
-
 pub setext-fits : (dash : Bool) → (1 ≤ cond dash 2 1) × (cond dash 2 1 ≤ 6)
 setext-fits true = (omega arith, omega arith)
 setext-fits false = (omega arith, omega arith)
-
--- an escaped text, or pieces of one
-prints-plain : (s : Setting) (pieces : List Piece) → Prints s Escaped pieces →
-    Prints s (Reads s) pieces
-prints-plain s pieces a =
-    adds-weaker s.context.ending Escaped (Reads s) pieces (λ x h. s.p.plain x (text s.p.test x h)) a
 
 -- a line of code
 chunk-escaped : (s : Setting) (t : At) → Prints s Escaped (chunk s.context t)
 chunk-escaped s t =
     let x : List ℕ = unwrap_or (serialized_between s.context.bytes t.place.start t.place.end) [] in
-    adds-text s.context.ending Escaped (encoded true x) (is_escaped-encoded x)
+    adds-text (is_escaped-encoded x)
 
 -- HTML, escaped
 html-escaped : (s : Setting) (t : At) → t.around.is_escaping ≡ true →
     Prints s Escaped (escaped t (html s.context t))
-html-escaped s t e =
-    adds-text s.context.ending Escaped (encoded t.around.is_escaping (html s.context t))
-    (encoded-escaped t.around.is_escaping (html s.context t) e)
+html-escaped s t e = adds-text (encoded-escaped t.around.is_escaping (html s.context t) e)
 
 -- lines are escaped, wherever they stand
 pub line-escaped : (s : Setting) (t : At) (name : Name) → is_line name ≡ true → IsFitAt s t name →
     (inner : List Piece) → Prints s Escaped (prints s.context t name inner)
 line-escaped s t LineEnding is fit inner = line_ending-escaped s t fit
-line-escaped s t BlankLineEnding is fit inner =
-    adds-when escaped_beside s.context.ending t.is_last (Needed ∷ [])
-    (adds-needed escaped_beside s.context.ending s.ending)
+line-escaped s t BlankLineEnding is fit inner = adds-when escaped_beside t.is_last
+    (adds-needed escaped_beside s.ending)
 line-escaped s t CodeFlowChunk is fit inner = chunk-escaped s t
 line-escaped s t MathFlowChunk is fit inner = chunk-escaped s t
 line-escaped s t _ is fit inner = lie is
@@ -176,65 +131,3 @@ leaf-escaped s t name e is fit inner = elim (or_cases (is_line name) (is_html na
     by HtmlFlowData is = html-escaped s t e
     by HtmlTextData is = html-escaped s t e
     by _ is = lie is
-
-pub leaf-node : (s : Setting) (t : At) (name : Name) → t.around.is_escaping ≡ true →
-    is_leaf name ≡ true → IsFitAt s t name → (inner : List Piece) →
-    Prints s (Reads s) (prints s.context t name inner)
-leaf-node s t name e is fit inner =
-    prints-plain s (prints s.context t name inner) (leaf-escaped s t name e is fit inner)
-
--- fenced code or math
-raw-node : (s : Setting) (t : At) (tag : List ℕ) (inner : List Piece) →
-    Prints s (IsRaw s.p tag) inner → Prints s (Reads s) (fenced t tag inner)
-raw-node s t tag inner a =
-    adds-raw Escaped s.p.holds s.p.holds escaped_beside (takes-escaped s.p)
-    (λ x w h g. s.p.plain (x ++ w) (text s.p.test (x ++ w) (escaped-append x w h g)))
-    s.context.ending s.ending tag inner _
-    (adds-weaker s.context.ending (IsRaw s.p tag) (IsOpened s.p.holds s.p.holds tag) inner
-    (λ x r. raw-opened s.p tag x r) a)
-    (fenced-end escaped_beside s.context.ending s.ending t)
-
-pub flow-node : (s : Setting) (t : At) (name : Name) → t.around.is_escaping ≡ true → is_flow name ≡
-    true → IsFitAt s t name → (is_underline name ≡ true → Reads s t.before.heading) → NodeAdds s t
-    Blocks name
-flow-node s t BlockQuote e is fit head inner a =
-    block-pair s (codes "<blockquote>") (codes "</blockquote>")
-    (bracket-plain s.p (codes "blockquote") refl) inner a
-flow-node s t ListOrdered e is fit head inner a =
-    adds-ordered Escaped s.p.holds s.p.holds escaped_beside (takes-escaped s.p) (takes-escaped s.p)
-    s.p.test s.context s.ending s.test (bracket-tag s.p (codes "ol")) t fit inner a
-flow-node s t ListUnordered e is fit head inner a =
-    adds-pair s.p s.context.ending (codes "<ul>") (codes "</ul>") (on_own_line (codes "<ul>")) inner
-    (Forced ∷ said (codes "</ul>")) (bracket-plain s.p (codes "ul") refl)
-    (framed-needed escaped_beside s.context.ending (codes "<ul>") s.ending) a
-    (framed-forced escaped_beside s.context.ending (codes "</ul>") s.ending)
-flow-node s t ListItem e is fit head inner a =
-    adds-pair s.p s.context.ending (codes "<li>") (codes "</li>") (on_own_line (codes "<li>")) inner
-    ((cond (ends_in_line t) [] (Needed ∷ [])) ++ said (codes "</li>"))
-    (bracket-plain s.p (codes "li") refl) (framed-needed escaped_beside s.context.ending
-    (codes "<li>") s.ending) a (item-end escaped_beside s.context.ending s.ending (ends_in_line t))
-flow-node s t Paragraph e is fit head inner a =
-    paragraph-node s (is_tight t.around.container) inner a
-flow-node s t ThematicBreak e is fit head inner a =
-    adds-before s.p s.context.ending (Needed ∷ []) (said (codes "<hr />"))
-    (adds-escaped s.p s.context.ending (Needed ∷ []) (adds-needed escaped_beside s.context.ending
-    s.ending)) (adds-flat s.context.ending (Reads s) (said (codes "<hr />")) refl
-    (void-read s.p (codes "hr") [] refl refl))
-flow-node s t HeadingAtx e is fit head inner a =
-    adds-heading s.p s.context.ending s.ending (atx_rank t) (fit.0, fit.1) inner a
-flow-node s t HeadingSetextUnderlineSequence e is fit head inner a =
-    adds-heading s.p s.context.ending s.ending (underline_rank s.context t)
-    (setext-fits (is_at 45 s.context.bytes t.place.start.index)) (said t.before.heading)
-    (adds-text s.context.ending (Reads s) t.before.heading (head refl))
-flow-node s t CodeIndented e is fit head inner a =
-    adds-pair s.p s.context.ending (codes "<pre><code>") code_closing
-    (on_own_line (codes "<pre><code>")) inner (code_end t) (bracket-code s.p)
-    (framed-needed escaped_beside s.context.ending (codes "<pre><code>") s.ending) a
-    (code-end escaped_beside s.context.ending s.ending t)
-flow-node s t CodeFenced e is fit head inner a = raw-node s t code_tag inner a
-flow-node s t MathFlow e is fit head inner a = raw-node s t math_tag inner a
-flow-node s t HtmlFlow e is fit head inner a =
-    adds-before s.p s.context.ending (Needed ∷ []) inner
-    (adds-escaped s.p s.context.ending (Needed ∷ []) (adds-needed escaped_beside s.context.ending
-    s.ending)) a
-flow-node s t _ e is fit head inner a = lie is

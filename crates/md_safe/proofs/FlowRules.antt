@@ -1,8 +1,7 @@
 -- What is known of each element that stands in flow content or in a list.
 use Rattle.std.proofs.Common.{◌≡◌, ◌⊎◌, inl, inr, ℕ, Bool, true, false, List, ◌∷◌, refl, sym, ◌∙◌}
 use Rattle.std.proofs.Common.{codes, map, ◌++◌, []}
-use Rattle.std.specs.Prelude.{Some}
-use Rattle.std.specs.Prelude.{bytes_eq}
+use Rattle.std.specs.Prelude.{Some, bytes_eq}
 use Rattle.md_base.proofs.Lies.{lie}
 use Rattle.md_text.specs.Bytes.{is_one_of}
 use Rattle.md_safe.specs.Token.{TokenAttribute}
@@ -81,36 +80,29 @@ plainly names starts ends keeps other calm passes =
     record { block = plain names starts ends keeps; other = other; calm = calm; passes = passes }
 
 block-rules : Each (Ruled Flow) block_elements
-block-rules =
-    also (listing (plainly (outside refl refl refl refl) (λ t p. refl) (λ i t c x. refl)
-    (λ i t c s o n. n) refl refl (λ i t c s. refl)) (λ i t c s. refl) refl)
-    (also (listing (plainly (outside refl refl refl refl) (λ t p. refl) (λ i t c x. refl)
-    (λ i t c s o n. n) refl refl (λ i t c s. refl)) (λ i t c s. refl) refl)
-    (also (record { kind = inr (inr (inr (inr (inl (refl, refl))))); item = λ e. lie e })
-    (also (record { kind = inr (inr (inr (inr (inr (refl, refl))))); item = λ e. lie e })
-    (also (holding (plainly (outside refl refl refl refl) (λ t p. refl) (λ i t c x. refl)
-    (λ i t c s o n. n) refl refl (λ i t c s. refl)) refl)
-    (also (holding (plainly (outside refl refl refl refl) (λ t p. refl) (λ i t c x. refl)
-    (λ i t c s o n. n) refl refl (λ i t c s. refl)) refl)
-    (also (speaking (plain (outside refl refl refl refl) (λ t p. refl) (λ i t c x. refl)
-    (λ i t c s o n. lie (sym o))) refl)
+block-rules = also (listing (plainly (outside refl) (λ t p. refl) (λ i t c x. refl)
+    (λ i t c s o n. n) refl refl (λ i t c s. refl)) (λ i t c s. refl) refl) (also (listing (plainly
+    (outside refl) (λ t p. refl) (λ i t c x. refl) (λ i t c s o n. n) refl refl (λ i t c s. refl))
+    (λ i t c s. refl) refl) (also
+    (record { kind = inr (inr (inr (inr (inl (refl, refl))))); item = λ e. lie e }) (also (record {
+      kind = inr (inr (inr (inr (inr (refl, refl)))));
+      item = λ e. lie e;
+    }) (also (holding (plainly (outside refl) (λ t p. refl) (λ i t c x. refl) (λ i t c s o n. n)
+    refl refl (λ i t c s. refl)) refl) (also (holding (plainly (outside refl) (λ t p. refl)
+    (λ i t c x. refl) (λ i t c s o n. n) refl refl (λ i t c s. refl)) refl) (also (speaking (plain
+    (outside refl) (λ t p. refl) (λ i t c x. refl) (λ i t c s o n. lie (sym o))) refl)
     headings-speak))))))
   where
     -- each of the six alike
     headings-speak : Each (Ruled Flow) (map (λ name. (name, Phrasing)) headings)
-    headings-speak =
-        also (speaking (heading (outside refl refl refl refl) (λ t p. refl) (λ i t c x. refl)
-        (λ i t c s o n. n)) refl)
-        (also (speaking (heading (outside refl refl refl refl) (λ t p. refl) (λ i t c x. refl)
-        (λ i t c s o n. n)) refl)
-        (also (speaking (heading (outside refl refl refl refl) (λ t p. refl) (λ i t c x. refl)
-        (λ i t c s o n. n)) refl)
-        (also (speaking (heading (outside refl refl refl refl) (λ t p. refl) (λ i t c x. refl)
-        (λ i t c s o n. n)) refl)
-        (also (speaking (heading (outside refl refl refl refl) (λ t p. refl) (λ i t c x. refl)
-        (λ i t c s o n. n)) refl)
-        (also (speaking (heading (outside refl refl refl refl) (λ t p. refl) (λ i t c x. refl)
-        (λ i t c s o n. n)) refl) tt)))))
+    headings-speak = also (speaking (heading (outside refl) (λ t p. refl) (λ i t c x. refl)
+        (λ i t c s o n. n)) refl) (also (speaking (heading (outside refl) (λ t p. refl)
+        (λ i t c x. refl) (λ i t c s o n. n)) refl) (also (speaking (heading (outside refl)
+        (λ t p. refl) (λ i t c x. refl) (λ i t c s o n. n)) refl) (also (speaking (heading
+        (outside refl) (λ t p. refl) (λ i t c x. refl) (λ i t c s o n. n)) refl) (also (speaking
+        (heading (outside refl) (λ t p. refl) (λ i t c x. refl) (λ i t c s o n. n)) refl) (also
+        (speaking (heading (outside refl) (λ t p. refl) (λ i t c x. refl) (λ i t c s o n. n)) refl)
+        tt)))))
 
 -- the elements of spans, and then these
 spanned : (those others : List (List ℕ × Content)) → Each (Rule Flow) those →

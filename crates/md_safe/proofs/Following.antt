@@ -1,4 +1,5 @@
--- Which names may stand before a node's children, and before what follows it.
+-- Which names may stand before a node's children, and before what follows it; blocks occur only in
+-- blocks, and a condition on blocks alone covers no more after nodes.
 use Rattle.std.proofs.Common.{◌≡◌, ℕ, Bool, true, false, ◌||◌, cond, List, [], ◌∷◌, ◌++◌, refl, sym}
 use Rattle.std.proofs.Common.{ap, ◌∙◌, subst, append_assoc, append-nil}
 use Rattle.std.specs.List.{list_any}
@@ -9,13 +10,12 @@ use Rattle.md_base.specs.declared.event.Name.TheVariants.{LineEnding}
 use Rattle.md_base.specs.Tree.{Forest, Empty, Node}
 use Rattle.md_base.specs.NameTests.{is_transparent, is_fence as fence_name}
 use Rattle.md_base.specs.Children.{spine_names}
-use Rattle.md_content.specs.Built.{Content, FirstFence, FirstMathFence}
-use Rattle.md_content.specs.Built.{Chunks, InfoAndMeta, MetaAlone, Nothing, is_fence}
-use Rattle.md_content.specs.Built.{is_info, may_stand}
-use Rattle.md_content.specs.Built.{content_of, content_past, content_after, content_inside}
-use Rattle.md_content.specs.Built.{content_after_node, IsBuilt}
-use Rattle.md_safe.proofs.Contents.{Follows, spine_after_node}
-use Rattle.md_safe.proofs.Insides.{is_chunks, allowed_inside}
+use Rattle.md_content.specs.Built.{Content, FirstFence, FirstMathFence, Chunks, InfoAndMeta}
+use Rattle.md_content.specs.Built.{MetaAlone, Nothing, is_fence, is_info, may_stand, content_of}
+use Rattle.md_content.specs.Built.{content_past, content_after, content_inside, content_after_node}
+use Rattle.md_content.specs.Built.{IsBuilt, Blocks}
+use Rattle.md_safe.proofs.Contents.{Follows, spine_after_node, stays-after}
+use Rattle.md_safe.proofs.Insides.{is_chunks, allowed_inside, is_blocks, of-blocks}
 
 -- the two tests of fences are one
 pub same_fence : (name : Name) → is_fence name ≡ fence_name name
@@ -38,14 +38,11 @@ any-append (x ∷ xs) ys = ap (λ b. fence_name x || b) (any-append xs ys)
 
 last_fence : (names : List Name) (name : Name) → fence_name name ≡ true →
     list_any fence_name (names ++ (name ∷ [])) ≡ true
-last_fence names name h =
-    any-append names (name ∷ []) ∙ or_right (list_any fence_name names) (fence_name name
-    || false) (or_left (fence_name name) false h)
+last_fence names name h = any-append names (name ∷ []) ∙ or_right _ _ (or_left _ _ h)
 
 first_fence : (names more : List Name) → list_any fence_name names ≡ true →
     list_any fence_name (names ++ more) ≡ true
-first_fence names more h =
-    any-append names more ∙ or_left (list_any fence_name names) (list_any fence_name more) h
+first_fence names more h = any-append names more ∙ or_left _ _ h
 
 follows-past : (content : Content) (name : Name) (names : List Name) →
     may_stand content name ≡ true →
@@ -72,18 +69,16 @@ through bytes content name children e built = subst (λ b. IsBuilt bytes
     (cond b content (content_of name content)) children) e built
 
 follows-node : (content : Content) (name : Name) (names : List Name) (children : Forest) →
-    (is_transparent name || may_stand content name) ≡ true → Follows content names
-    → (is_transparent name ≡ true →
-    Follows (content_after content children) (names ++ spine_names children)) →
+    (is_transparent name || may_stand content name) ≡ true → Follows content names → (is_transparent
+    name ≡ true → Follows (content_after content children) (names ++ spine_names children)) →
     Follows (content_after_node content name children) (spine_after_node name children names)
 follows-node content name names children stands f inner = by (is_transparent name) refl
   where
-    by : (through : Bool) → is_transparent name ≡ through →
-        Follows (cond through (content_after content children) (content_past content name)) (names
-        ++ (cond through (spine_names children) (name ∷ [])))
+    by : (through : Bool) → is_transparent name ≡ through → Follows (cond through
+        (content_after content children)
+        (content_past content name)) (names ++ (cond through (spine_names children) (name ∷ [])))
     by true e = inner e
-    by false e = follows-past content name names
-        (second (is_transparent name) (may_stand content name) e stands) f
+    by false e = follows-past content name names (second _ _ e stands) f
 
 pub follows-after : (bytes : List ℕ) (content : Content) (names : List Name) (forest : Forest) →
     IsBuilt bytes content forest → Follows content names →
@@ -118,3 +113,22 @@ follows-inside content name s = by (content_of name content) (allowed_inside con
     by FirstMathFence h = refl
     by Chunks h = lie (sym h)
     by _ h = tt
+
+pub inside-blocks : (content : Content) (name : Name) → is_blocks (content_inside content name)
+    ≡ true → is_blocks content ≡ true
+inside-blocks content name = cond_both _ _ _ (λ c. is_blocks c ≡ true → is_blocks content ≡ true)
+    (λ _ h. h) (λ _ h. of-blocks content name h)
+
+past-blocks : (content : Content) (name : Name) → is_blocks (content_past content name) ≡ true →
+    is_blocks content ≡ true
+past-blocks Blocks name h = refl
+past-blocks InfoAndMeta name h = cond_both (is_info name) MetaAlone Nothing
+    (λ c. is_blocks c ≡ true → false ≡ true) (λ _ h. h) (λ _ h. h) h
+past-blocks _ name h = h
+
+-- a condition on blocks alone covers no more after nodes
+pub asked-after-node : (A : Type 0) (content : Content) (name : Name) (children : Forest) →
+    (is_blocks content ≡ true → A) → is_blocks (content_after_node content name children) ≡ true → A
+asked-after-node A content name children asked = cond_both _ _ _ (λ c. is_blocks c ≡ true → A) (λ _.
+    stays-after (λ c. is_blocks c ≡ true → A) (λ c name asked h. asked (past-blocks c name h))
+    content children asked) (λ _ h. asked (past-blocks content name h))

@@ -24,13 +24,10 @@ rest-ends (byte ∷ bytes) =
     let ending : Bool = (byte == 13) || (byte == 10) in
     let none : Bool = unended_length bytes == 0 in
     cond_both (ending && none) 0 (suc (unended_length bytes))
-    (λ n. is_line_ends (drop n (byte ∷ bytes)) ≡ true)
-    (λ h.
-    let parts = and_parts ending none h in
-    and_from ending (is_line_ends bytes) parts.0
-    (subst (λ n. is_line_ends (drop n bytes) ≡ true) (eqb-true (unended_length bytes) 0 parts.1)
-    (rest-ends bytes)))
-    (λ _. rest-ends bytes)
+    (λ n. is_line_ends (drop n (byte ∷ bytes)) ≡ true) (λ h.
+    let parts = and_parts _ _ h in
+    and_from _ _ parts.0 (subst (λ n. is_line_ends (drop n bytes) ≡ true) (eqb-true _ _ parts.1)
+    (rest-ends bytes))) (λ _. rest-ends bytes)
 
 -- the last paragraph of a text takes a space and something else before its end
 abbrev pub TakesBack : (List ℕ → Type 0) → (List ℕ → Type 0) → Type 0
@@ -62,28 +59,19 @@ in_paragraph Q B takes x back r rb h =
     (takes (take n x) endings back (rest-ends x) (subst Q cut r) rb)
 
 -- the ways back, there or on a line of their own
-pub adds-body : (Q B : List ℕ → Type 0) (ending : List ℕ) → TakesBack Q B → (x back : List ℕ) →
+pub adds-body : (Q B : List ℕ → Type 0) {ending : List ℕ} → TakesBack Q B → (x back : List ℕ) →
     Q x → B back → Adds ending Q (Text x ∷ Needed ∷ Text back ∷ []) → Adds ending Q (body x back)
-adds-body Q B ending takes x back r rb after =
+adds-body Q B {ending} takes x back r rb after =
     let n : ℕ = unended_length x - 4 in
-    let split : List Piece =
-    Text (take n x) ∷ Text (codes " ") ∷ Text back ∷ Text (drop n x) ∷ [] in
-    cond_both (bytes_eq (drop n (take (unended_length x) x)) (codes "</p>")) split
-    (Text x ∷ Needed ∷ Text back ∷ []) (Adds ending Q)
-    (λ is. adds-flat ending Q split refl
-    (subst Q (ap (λ y. take n x ++ (32 ∷ (back ++ y))) (sym (append-nil (drop n x))))
-    (in_paragraph Q B takes x back r rb is)))
-    (λ _. after)
+    let split : List Piece = Text (take n x) ∷ Text (codes " ") ∷ Text back ∷ Text (drop n x) ∷ []
+    in
+    cond_both _ _ _ (Adds ending Q) (λ is. adds-flat refl (subst Q (ap
+    (λ y. take n x ++ (32 ∷ (back ++ y))) (sym (append-nil (drop n x))))
+    (in_paragraph Q B takes x back r rb is))) (λ _. after)
 
 pub body-prints : (s : Setting) (x back : List ℕ) → Reads s x → HasReadingWith s.p.test back →
     Prints s (Reads s) (body x back)
-body-prints s x back r rb =
-    adds-body (Reads s) (HasReadingWith s.p.test) s.context.ending
-    (λ before endings back h q rb. s.p.takes before endings (32 ∷ back) h q
-    (join s.p.test (32 ∷ []) back (text s.p.test (32 ∷ []) refl) rb)) x back r rb
-    (adds-after s.p s.context.ending (Text x ∷ []) (Needed ∷ Text back ∷ [])
-    (adds-text s.context.ending (Reads s) x r)
-    (adds-before (plain_of s.p) s.context.ending (Needed ∷ []) (Text back ∷ [])
-    (adds-escaped s.p s.context.ending (Needed ∷ [])
-    (adds-needed escaped_beside s.context.ending s.ending))
-    (adds-text s.context.ending (HasReadingWith s.p.test) back rb)))
+body-prints s x back r rb = adds-body (Reads s) (HasReadingWith s.p.test)
+    (λ before endings back h q rb. s.p.takes before endings (32 ∷ back) h q (join s.p.test (32 ∷ [])
+    back (text s.p.test (32 ∷ []) refl) rb)) x back r rb (adds-after s.p (adds-text r) (adds-before
+    (plain_of s.p) (adds-escaped s.p (adds-needed escaped_beside s.ending)) (adds-text rb)))

@@ -1,7 +1,7 @@
 -- What the nodes of a document mean: the induction over nodes of any content, for any claim that is
 -- kept where two texts meet. It goes over all that an outcome has at once.
-use Rattle.std.proofs.Common.{◌≡◌, Bool, true, false, ◌&&◌, ◌||◌, cond, List, [], ◌∷◌, ◌++◌, refl}
-use Rattle.std.proofs.Common.{sym, ap, subst, append_assoc}
+use Rattle.std.proofs.Common.{◌≡◌, Bool, true, false, ◌||◌, cond, List, [], ◌∷◌, ◌++◌, refl, sym}
+use Rattle.std.proofs.Common.{ap, subst, append_assoc}
 use Rattle.std.proofs.lemmas.Bool.{cond_both}
 use Rattle.md_base.proofs.Lies.{lie}
 use Rattle.md_base.specs.declared.event.Name.{Name}
@@ -10,10 +10,8 @@ use name_variants.{Other, BlockQuotePrefix, SpaceOrTab, Definition, GfmFootnoteD
 use Rattle.md_base.specs.Is.{is as named}
 use Rattle.md_base.specs.Tree.{Forest, Empty, Node}
 use Rattle.md_base.specs.NameTests.{is_transparent}
-use Rattle.md_base.specs.Children.{is_empty}
 use Rattle.md_pattern.specs.Looseness.{is_loose}
 use Rattle.md_text.specs.declared.options.CompileOptions.{CompileOptions}
-use Rattle.md_tree.specs.Rules.{place}
 use Rattle.md_meaning.specs.declared.surroundings.Surroundings.{Surroundings}
 use Rattle.md_meaning.specs.Meaning.Inherited.{inside}
 use Rattle.md_meaning.specs.Meaning.At.{Defined, Footnote, target_in, Before, At, identifier_of}
@@ -22,13 +20,12 @@ use Rattle.md_meaning.specs.Meaning.Layout.{Piece, layout, when}
 use Rattle.md_meaning.specs.Meaning.Nodes.{Outcome, found_at, node, before_next, outcome}
 use Rattle.md_content.specs.Built.{Content, Blocks, may_stand, content_of, content_inside}
 use Rattle.md_content.specs.Built.{content_after_node, content_after, content_past, IsBuilt}
-use Rattle.md_safe.proofs.Contents.{stays-after, Holds}
+use Rattle.md_safe.proofs.Contents.{stays-after, Holds, Suits, Follows}
 use Rattle.md_safe.proofs.Insides.{is_blocks}
-use Rattle.md_safe.proofs.BlocksAsked.{inside-blocks, asked-after-node}
-use Rattle.md_safe.proofs.Contents.{Suits, Follows}
+use Rattle.md_safe.proofs.Following.{inside-blocks, asked-after-node, second, follows-inside}
+use Rattle.md_safe.proofs.Following.{follows-after-node}
 use Rattle.md_safe.proofs.Suiting.{suits-inside, suits-after-node}
-use Rattle.md_safe.proofs.Following.{second, follows-inside, follows-after-node}
-use Rattle.md_safe.proofs.Spot.{IsWhole, Setting, AreTitles, IsFitAt, Prints, Inside}
+use Rattle.md_safe.proofs.Spot.{IsWhole, Setting, AreTitles, IsFitAt, Prints, Inside, at_in}
 use Rattle.md_safe.proofs.FlowNodes.{Reads}
 use Rattle.md_safe.proofs.BlockNodes.{holds-none}
 use Rattle.md_safe.proofs.Nodes.{Knows, any-node, inside-alone, Before as PrintsBefore}
@@ -49,19 +46,16 @@ through-suits options loose around content _ is h = lie is
 
 children-suit : (options : CompileOptions) → options.allow_dangerous_html ≡ false →
     (loose : Bool) (around : Surroundings) (content : Content) (name : Name) →
-    (is_transparent name || may_stand content name) ≡ true →
-    Suits around.is_escaping around.in_image content
-    →
-    Suits (inside options loose name around).is_escaping (inside options loose name around).in_image
-    (content_inside content name)
+    (is_transparent name || may_stand content name) ≡ true → Suits around.is_escaping
+    around.in_image content → Suits (inside options loose name around).is_escaping
+    (inside options loose name around).in_image (content_inside content name)
 children-suit options html loose around content name stands h = by (is_transparent name) refl
   where
-    by : (through : Bool) → is_transparent name ≡ through →
-        Suits (inside options loose name around).is_escaping
+    by : (through : Bool) → is_transparent name ≡ through → Suits
+        (inside options loose name around).is_escaping
         (inside options loose name around).in_image (cond through content (content_of name content))
     by true e = through-suits options loose around content name e h
-    by false e = suits-inside options html loose around content name
-        (second (is_transparent name) (may_stand content name) e stands) h
+    by false e = suits-inside options html loose around content name (second _ _ e stands) h
 
 -- the state before a node's first child
 children-follow : (content : Content) (name : Name) (before : Before) (children : Forest) →
@@ -69,11 +63,10 @@ children-follow : (content : Content) (name : Name) (before : Before) (children 
     Follows (content_inside content name) (before_children name children before).spine
 children-follow content name before children stands f = by (is_transparent name) refl
   where
-    by : (through : Bool) → is_transparent name ≡ through →
-        Follows (cond through content (content_of name content)) (cond through before.spine [])
+    by : (through : Bool) → is_transparent name ≡ through → Follows
+        (cond through content (content_of name content)) (cond through before.spine [])
     by true e = f
-    by false e =
-        follows-inside content name (second (is_transparent name) (may_stand content name) e stands)
+    by false e = follows-inside content name (second _ _ e stands)
 
 -- blocks stay blocks
 blocks-past : (content : Content) (name : Name) → is_blocks content ≡ true →
@@ -82,12 +75,9 @@ blocks-past Blocks name h = refl
 blocks-past _ name h = lie h
 
 blocks-after-node : (content : Content) (name : Name) (children : Forest) →
-    is_blocks content ≡ true →
-    is_blocks (content_after_node content name children) ≡ true
-blocks-after-node content name children h =
-    cond_both (is_transparent name) (content_after content children) (content_past content name)
-    (λ c. is_blocks c ≡ true)
-    (λ _. stays-after (λ c. is_blocks c ≡ true) blocks-past content children h)
+    is_blocks content ≡ true → is_blocks (content_after_node content name children) ≡ true
+blocks-after-node content name children h = cond_both _ _ _ (λ c. is_blocks c ≡ true) (λ _.
+    stays-after (λ c. is_blocks c ≡ true) blocks-past content children h)
     (λ _. blocks-past content name h)
 
 -- what nodes mean: they print what may stand where they are, before what is printed after
@@ -111,39 +101,38 @@ pub record Ready (s : Setting) (around : Surroundings) (before : Before)
   pub heading : is_blocks content ≡ true → Reads s before.heading
 
 -- what is known where the children of a node stand
-pub ready-inside : (s : Setting) (around : Surroundings) (before : Before) (content : Content)
+pub ready-inside : {s : Setting} {around : Surroundings} {before : Before} {content : Content}
     (name : Name) (children : Forest) → (is_transparent name || may_stand content name) ≡ true →
-    Ready s around before content →
-    Ready s (inside s.context.options (is_loose children) name around)
+    Ready s around before content → Ready s
+    (inside s.context.options (is_loose children) name around)
     (before_children name children before) (content_inside content name)
-ready-inside s around before content name children stands r = record {
-  suits = children-suit s.context.options s.test.html (is_loose children) around content
-      name stands r.suits;
-  follows = children-follow content name before children stands r.follows;
-  whole = λ h. r.whole (inside-blocks content name h);
-  heading = λ h. cond_both (is_transparent name) before.heading [] (Reads s)
-      (λ _. r.heading (inside-blocks content name h)) (λ _. holds-none s);
-}
+ready-inside {s = s} {around = around} {before = before} {content = content} name children stands
+    r = record {
+      suits = children-suit s.context.options s.test.html (is_loose children) around content name
+          stands r.suits;
+      follows = children-follow content name before children stands r.follows;
+      whole = λ h. r.whole (inside-blocks content name h);
+      heading = λ h. cond_both (is_transparent name) before.heading [] (Reads s)
+          (λ _. r.heading (inside-blocks content name h)) (λ _. holds-none s);
+    }
 
 -- and where the next node stands
-pub ready-after : (s : Setting) (t : At) (content : Content) (name : Name) (here : Outcome) →
-    (is_transparent name || may_stand content name) ≡ true →
-    IsBuilt s.context.bytes (content_inside content name) t.children → AreFound s content
-    here.found →
-    Ready s t.around t.before content → Ready s t.around (before_next t name here)
-    (content_after_node content name t.children)
-ready-after s t content name here stands built own r = record {
+pub ready-after : {s : Setting} {content : Content} (t : At) (name : Name) (here : Outcome) →
+    (is_transparent name || may_stand content name) ≡ true → IsBuilt s.context.bytes
+    (content_inside content name) t.children → AreFound s content here.found →
+    Ready s t.around t.before content → Ready s t.around
+    (before_next t name here) (content_after_node content name t.children)
+ready-after {s = s} {content = content} t name here stands built own r = record {
   suits = suits-after-node t.around.is_escaping t.around.in_image content name t.children r.suits;
-  follows = follows-after-node s.context.bytes content name t.before.spine t.children
-      stands built r.follows;
+  follows = follows-after-node s.context.bytes content name t.before.spine t.children stands built
+      r.follows;
   whole = asked-after-node (IsWhole s.p) content name t.children r.whole;
   heading = asked-after-node (Reads s (before_next t name here).heading) content name t.children
       (λ is. heading-before s here.found.heading t.before.heading (own.heading is) (r.heading is));
 }
 
 pub means : (s : Setting) (forest : Forest) (around : Surroundings) (before : Before)
-    (content : Content) →
-    IsBuilt s.context.bytes content forest → Ready s around before content →
+    (content : Content) → IsBuilt s.context.bytes content forest → Ready s around before content →
     Means s around content forest (outcome s.context around before forest)
 means s Empty around before content built r = record {
   prints = λ later h. h;
@@ -155,21 +144,12 @@ means s (Node name start end children rest) around before content built r =
     let around' : Surroundings = inside s.context.options (is_loose children) name around in
     let before' : Before = before_children name children before in
     let inner : Outcome = outcome s.context around' before' children in
-    let t : At = record {
-      around = around;
-      before = before;
-      children = children;
-      found = inner.found;
-      calls = before.calls ++ inner.calls;
-      place = place start end;
-      is_last = around.is_outermost && is_empty rest;
-    } in
+    let t : At = at_in around before start end children rest inner in
     let here : Outcome = node s.context t name inner in
     let next : Before = before_next t name here in
     let others : Outcome = outcome s.context around next rest in
-    let within : Means s around' (content_inside content name) children inner =
-    means s children around' before' (content_inside content name) built.2
-    (ready-inside s around before content name children built.0 r) in
+    let within : Means s around' (content_inside content name) children inner = means s children
+    around' before' (content_inside content name) built.2 (ready-inside name children built.0 r) in
     let i : Inner s t content name inner.pieces = record {
       stands = built.0;
       fit = built.1;
@@ -178,10 +158,10 @@ means s (Node name start end children rest) around before content built r =
       before = within.prints;
       found = within.found;
     } in
-    let own : AreFound s content here.found = found-node s t content name inner.pieces i in
-    let after : Means s around (content_after_node content name children) rest others =
-    means s rest around next (content_after_node content name children) built.3
-    (ready-after s t content name here built.0 built.2 own r) in
+    let own : AreFound s content here.found = found-node t name i in
+    let after : Means s around (content_after_node content name children) rest others = means s rest
+    around next (content_after_node content name children) built.3
+    (ready-after t name here built.0 built.2 own r) in
     let k : Knows s t content name = record {
       fit = built.1;
       suits = r.suits;
@@ -199,56 +179,46 @@ means s (Node name start end children rest) around before content built r =
       text = layout s.context.ending inner.pieces;
     } in
     record {
-      prints = λ later h.
-          subst (Prints s (Holds s.p around.is_escaping around.in_image content))
-          (sym (append_assoc here.pieces others.pieces later))
-          (any-node s t content name built.0 k inner.pieces (others.pieces ++ later) built.2
-          (λ pieces g. within.prints pieces g) (after.prints later h));
+      prints = λ later h. subst (Prints s (Holds s.p around.is_escaping around.in_image content))
+          (sym (append_assoc here.pieces others.pieces later)) (any-node s t content name built.0 k
+          inner.pieces (others.pieces ++ later) built.2 (λ pieces g. within.prints pieces g)
+          (after.prints later h));
       found = record {
         heading = λ is. later-heading s here.found.heading others.found.heading (own.heading is)
             (after.found.heading (blocks-after-node content name children is));
-        title = later-title here.found.title others.found.title own.title after.found.title;
-        resource = later-resource here.found.resource others.found.resource own.resource
-            after.found.resource;
+        title = later-title _ _ own.title after.found.title;
+        resource = later-resource _ _ own.resource after.found.resource;
       };
-      titles = titles-append here.definitions others.definitions
-          (titles-append inner.definitions (when (named Definition name) (defined ∷ []))
-          within.titles (cond_both (named Definition name) (defined ∷ []) [] AreTitles
-          (λ _. (within.found.title, tt)) (λ _. tt))) after.titles;
-      texts = texts-append (Reads s) here.footnotes others.footnotes
-          (texts-append (Reads s) inner.footnotes (when (named GfmFootnoteDefinition name)
-          (noted ∷ []))
-          within.texts (cond_both (named GfmFootnoteDefinition name) (noted ∷ []) [] (AreRead s)
-          (λ is. (note-node s t content name inner.pieces i is, tt)) (λ _. tt)))
-          after.texts;
+      titles = titles-append _ _ (titles-append _ _ within.titles (cond_both (named Definition name)
+          (defined ∷ []) [] AreTitles (λ _. (within.found.title, tt)) (λ _. tt))) after.titles;
+      texts = texts-append (Reads s) here.footnotes others.footnotes (texts-append (Reads s)
+          inner.footnotes (when (named GfmFootnoteDefinition name) (noted ∷ [])) within.texts
+          (cond_both (named GfmFootnoteDefinition name) (noted ∷ []) [] (AreRead s)
+          (λ is. (note-node t name i is, tt)) (λ _. tt))) after.texts;
     }
 
 -- what the children of a node that isn't transparent print
-pub inside-means : (s : Setting) (t : At) (content : Content) (name : Name) (inner : Outcome) →
+pub inside-means : {s : Setting} {inner : Outcome} (t : At) (content : Content) (name : Name) →
     is_transparent name ≡ false → (is_transparent name || may_stand content name) ≡ true →
-    IsFitAt s t name →
-    IsBuilt s.context.bytes (content_inside content name) t.children →
-    Means s (inside s.context.options (is_loose t.children) name t.around)
-    (content_inside content name) t.children inner
-    → Inside s t content name inner.pieces
-inside-means s t content name inner solid stands fit built means =
-    let same : content_inside content name ≡ content_of name content =
-    ap (λ b. cond b content (content_of name content)) solid in
-    inside-alone s t content name
-    (second (is_transparent name) (may_stand content name) solid stands) fit
-    (subst (λ c. IsBuilt s.context.bytes c t.children) same built) inner.pieces
-    (subst (λ c. PrintsBefore s t c name inner.pieces) same means.prints)
+    IsFitAt s t name → IsBuilt s.context.bytes (content_inside content name) t.children → Means s
+    (inside s.context.options (is_loose t.children) name t.around) (content_inside content name)
+    t.children inner → Inside s t content name inner.pieces
+inside-means {s = s} {inner = inner} t content name solid stands fit built means =
+    let same : content_inside content name ≡ content_of name content = ap
+    (λ b. cond b content (content_of name content)) solid in
+    inside-alone s t content name (second _ _ solid stands) fit (subst
+    (λ c. IsBuilt s.context.bytes c t.children) same built) inner.pieces (subst
+    (λ c. PrintsBefore s t c name inner.pieces) same means.prints)
 
 -- what is found at a node whose children print and find what they may
-pub found-at : (s : Setting) (t : At) (content : Content) (name : Name) (inner : List Piece) →
+pub found-at : {s : Setting} {content : Content} (t : At) (name : Name) (inner : List Piece) →
     (is_transparent name || may_stand content name) ≡ true → IsFitAt s t name →
-    Suits t.around.is_escaping t.around.in_image content →
-    IsBuilt s.context.bytes (content_inside content name) t.children
-    → PrintsBefore s t (content_inside content name) name inner →
-    AreFound s (content_inside content name) t.found →
+    Suits t.around.is_escaping t.around.in_image content → IsBuilt s.context.bytes
+    (content_inside content name) t.children → PrintsBefore s t (content_inside content name) name
+    inner → AreFound s (content_inside content name) t.found →
     AreFound s content (found_at t name (layout s.context.ending inner))
-found-at s t content name inner stands fit suits built before found =
-    found-node s t content name inner (record {
+found-at t name inner stands fit suits built before found =
+    found-node t name (record {
       stands = stands;
       fit = fit;
       suits = suits;

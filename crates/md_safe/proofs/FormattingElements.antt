@@ -1,6 +1,6 @@
 -- Ordinary and formatting elements are built as they are read, by what their children do.
-use Rattle.std.proofs.Common.{◌≡◌, inl, inr, ℕ, ◌==◌, true, false}
-use Rattle.std.proofs.Common.{List, ◌∷◌, refl, sym, ◌∙◌, subst, codes, eq-eqb}
+use Rattle.std.proofs.Common.{◌≡◌, inl, inr, ℕ, ◌==◌, true, false, List, ◌∷◌, refl, sym, ◌∙◌, subst}
+use Rattle.std.proofs.Common.{codes, eq-eqb}
 use Rattle.std.specs.Prelude.{Some, None, bytes_eq}
 use Rattle.md_text.specs.Bytes.{is_one_of}
 use Rattle.md_text.specs.Html.{Attribute, Forest}
@@ -9,8 +9,7 @@ use Rattle.md_safe.specs.Tokens.{seen_attributes}
 use Rattle.md_safe.specs.Node.{Nodes, Open, Entry, Formatting, Mode, Empty as NoNode}
 use Rattle.md_safe.specs.Elements.{special}
 use Rattle.md_safe.specs.Stack.{insert, popped}
-use Rattle.md_safe.specs.Formatting.{push, last_active}
-use Rattle.md_safe.specs.Formatting.{adopt, end_formatting}
+use Rattle.md_safe.specs.Formatting.{push, last_active, adopt, end_formatting}
 use Rattle.md_safe.specs.InBody.{insert_formatting}
 use Rattle.md_safe.specs.Built.{put, at, is_body, AreCreated, AreOpen}
 use Rattle.md_safe.proofs.Lists.{Keeps, keeps-twice, room, keeps-room, keeps-created, not-active}
@@ -19,18 +18,15 @@ use Rattle.md_safe.proofs.TreeSteps.{Position, parser_of, element_of, within, re
 use Rattle.md_safe.proofs.PhrasingNames.{Done, Passed, IsOrdinary, IsFormatting, full, passes}
 
 -- an ordinary element
-pub ordinary-passes : (x : Position) (name : List ℕ) (attributes : List Attribute)
-    (inner : Forest) → is_body x.mode ≡ true → AreOpen (x.node ∷ x.others) x.active →
+pub ordinary-passes : {x : Position} {name : List ℕ} {attributes : List Attribute}
+    {inner : Forest} → is_body x.mode ≡ true → AreOpen (x.node ∷ x.others) x.active →
     IsOrdinary name → Done (within x name (seen_attributes attributes) x.active) inner →
     Passed x name attributes inner
-ordinary-passes x name attributes inner body opened k d =
-    passes x name attributes inner x.active d.left
-    (parser_of (within x name (seen_attributes attributes) x.active)) body k.names
-    (k.starts (seen_attributes attributes) (parser_of x)
-    ∙ reconstructs x (insert name (seen_attributes attributes)) opened)
-    (λ ys. refl) d
-    (k.ends (at x.mode (full x name attributes inner) d.left d.more) ∙ here _ k.names.self refl)
-    d.keeps
+ordinary-passes {x = x} {name = name} {attributes = attributes} {inner = inner} body opened k d =
+    passes x.active d.left (parser_of (within x name (seen_attributes attributes) x.active)) body
+    k.names (k.starts (seen_attributes attributes) (parser_of x) ∙ reconstructs x
+    (insert name (seen_attributes attributes)) opened) (λ ys. refl) d (k.ends
+    (at x.mode (full x name attributes inner) d.left d.more) ∙ here _ k.names.self refl) d.keeps
 
 -- ---- a formatting element
 pub self_same : (n : ℕ) → (n == n) ≡ true
@@ -46,52 +42,44 @@ adopted : (mode : Mode) (node : Open) (others : List Open) (kept : List Entry) (
 adopted mode node others kept more identity name attributes children self plain =
     rw (self_same identity, self, adopt, self_same identity, plain) refl
 
-formatting-ends :
-    (mode : Mode) (node : Open) (others : List Open) (active left : List Entry) (more identity : ℕ)
-    (name : List ℕ) (attributes : List TokenAttribute) (children : Nodes) →
-    is_one_of special name ≡ false →
-    bytes_eq name name ≡ true → AreCreated identity active →
-    Keeps (Formatting identity name attributes ∷ active) left →
-    (kept : List Entry)
+formatting-ends : (mode : Mode) (node : Open) (others : List Open) (active left : List Entry)
+    (more identity : ℕ) (name : List ℕ) (attributes : List TokenAttribute) (children : Nodes) →
+    is_one_of special name ≡ false → bytes_eq name name ≡ true → AreCreated identity active →
+    Keeps (Formatting identity name attributes ∷ active) left → (kept : List Entry)
     × (end_formatting name (at mode (element_of identity name attributes children ∷ node ∷ others)
-    left more) ≡ Some (at mode
-    (popped (element_of identity name attributes children ∷ node ∷ others)) kept more))
-    × Keeps active kept
-formatting-ends mode node others active left more identity name attributes children
-    plain self made (inl k) = (
+    left more) ≡ Some (at mode (popped (element_of identity name attributes children ∷ node
+    ∷ others)) kept more)) × Keeps active kept
+formatting-ends mode node others active left more identity name attributes children plain self made
+    (inl k) = (
       left,
-      rw (self, not-active identity left (keeps-created identity active left made k)) refl,
+      rw (self, not-active _ _ (keeps-created _ _ _ made k)) refl,
       k,
     )
-formatting-ends mode node others active left more identity name attributes children plain
-    self made (inr k) = (
+formatting-ends mode node others active left more identity name attributes children plain self made
+    (inr k) = (
       k.0,
-      subst (λ left. end_formatting name
-          (at mode (element_of identity name attributes children ∷ node ∷ others) left more)
-          ≡ Some (at mode (popped (element_of identity name attributes children ∷ node ∷ others))
-          k.0 more)) (sym k.1)
-          (adopted mode node others k.0 more identity name attributes children self plain),
+      subst (λ left. end_formatting name (at mode (element_of identity name attributes children
+          ∷ node ∷ others) left more) ≡ Some (at mode (popped (element_of identity name attributes
+          children ∷ node ∷ others)) k.0 more)) (sym k.1) (adopted _ _ _ _ _ _ _ _ _ self plain),
       k.2,
     )
 
 -- a formatting element, with what it holds
-pub formatting-passes : (x : Position) (name : List ℕ) (attributes : List Attribute)
-    (inner : Forest) → is_body x.mode ≡ true → AreOpen (x.node ∷ x.others) x.active →
-    AreCreated x.created x.active → IsFormatting name →
-    (bytes_eq name (codes "a") ≡ true → last_active (codes "a") x.active ≡ None) →
-    Done (within x name (seen_attributes attributes)
+pub formatting-passes : {x : Position} {name : List ℕ} {attributes : List Attribute}
+    {inner : Forest} → is_body x.mode ≡ true → AreOpen (x.node ∷ x.others) x.active →
+    AreCreated x.created x.active → IsFormatting name → (bytes_eq name (codes "a") ≡ true →
+    last_active (codes "a") x.active ≡ None) → Done (within x name (seen_attributes attributes)
     (push x.created name (seen_attributes attributes) x.active)) inner →
     Passed x name attributes inner
-formatting-passes x name attributes inner body opened made k free d =
+formatting-passes {x = x} {name = name} {attributes = attributes} {inner = inner} body opened made k
+    free d =
     let those : List TokenAttribute = seen_attributes attributes in
     let pushed : List Entry = push x.created name those x.active in
     let kept = keeps-room name those x.active in
-    let ends =
-    formatting-ends x.mode x.node x.others (room name those x.active) d.left d.more x.created name
-    those (put NoNode inner) k.plain k.names.self
-    (keeps-created x.created x.active (room name those x.active) made kept) d.keeps in
-    passes x name attributes inner pushed ends.0 (parser_of (within x name those pushed)) body
-    k.names (k.starts those (parser_of x) free
-    ∙ reconstructs x (insert_formatting name those) opened) (λ ys. refl) d
-    (k.ends (at x.mode (full x name attributes inner) d.left d.more) ∙ ends.1)
-    (keeps-twice x.active (room name those x.active) ends.0 kept ends.2)
+    let ends = formatting-ends x.mode x.node x.others (room name those x.active) d.left d.more
+    x.created name those (put NoNode inner) k.plain k.names.self (keeps-created x.created x.active
+    (room name those x.active) made kept) d.keeps in
+    passes pushed ends.0 (parser_of (within x name those pushed)) body k.names (k.starts those
+    (parser_of x) free ∙ reconstructs x (insert_formatting name those) opened) (λ ys. refl) d
+    (k.ends (at x.mode (full x name attributes inner) d.left d.more) ∙ ends.1) (keeps-twice x.active
+    (room name those x.active) ends.0 kept ends.2)

@@ -5,8 +5,7 @@ use Rattle.std.specs.Prelude.{Some, None, option_map}
 use Rattle.md_text.specs.Html.{Forest}
 use Rattle.md_safe.specs.Token.{EndOfFile}
 use Rattle.md_safe.specs.Tokens.{tokens}
-use Rattle.md_safe.specs.Node.{InBody, Parser}
-use Rattle.md_safe.specs.Node.{Empty as NoNode}
+use Rattle.md_safe.specs.Node.{InBody, Parser, Empty as NoNode}
 use Rattle.md_safe.specs.Built.{at, open_at, put, IsPlace, Builds}
 use Rattle.md_safe.specs.Page.{constructed}
 use Rattle.md_safe.specs.Fragment.{is_flow_context, children_of, fragment_of}

@@ -55,36 +55,31 @@ attributes-good : (listed : List (List ℕ)) (attributes : List Attribute) →
 attributes-good listed [] g e = refl
 attributes-good listed (a ∷ rest) g e =
     let alone = not (list_any (λ later. bytes_eq a.name later.name) rest) in
-    let p = and_parts (is_one_of listed a.name && is_escaped a.value && alone)
-    (are_attributes listed rest) e in
-    let q = and_parts (is_one_of listed a.name && is_escaped a.value) alone p.0 in
-    let r = and_parts (is_one_of listed a.name) (is_escaped a.value) q.0 in
-    and_from (is_good_attribute_name a.name) _ (one_of-passes is_good_attribute_name listed a.name g
-    r.0) (and_from (is_escaped a.value) _ r.1
-    (and_from alone (are_good rest) q.1 (attributes-good listed rest g p.1)))
+    let p = and_parts _ _ e in
+    let q = and_parts _ _ p.0 in
+    let r = and_parts _ _ q.0 in
+    and_from _ _ (one_of-passes is_good_attribute_name listed a.name g r.0) (and_from _ _ r.1
+    (and_from _ _ q.1 (attributes-good listed rest g p.1)))
 
 -- what holds of the name of each rule that allows some attributes holds of the name of a tag
 pub by_rule : (P : List ℕ → Type 0) (test : List ℕ × List (List ℕ) → Bool)
     (rules : List (List ℕ × List (List ℕ))) (name : List ℕ) (attributes : List Attribute) →
-    list_all test rules ≡ true →
-    ((rule : List ℕ × List (List ℕ)) → test rule ≡ true →
+    list_all test rules ≡ true → ((rule : List ℕ × List (List ℕ)) → test rule ≡ true →
     are_attributes rule.1 attributes ≡ true → P rule.0) → is_tag rules name attributes ≡ true →
     P name
 by_rule P test [] name attributes g f e = lie e
 by_rule P test (rule ∷ rules) name attributes g f e =
-    let p = and_parts (test rule) (list_all test rules) g in
-    either (bytes_eq rule.0 name && are_attributes rule.1 attributes) (is_tag rules name attributes)
-    e (λ this. let r = and_parts (bytes_eq rule.0 name) (are_attributes rule.1 attributes) this in
+    let p = and_parts _ _ g in
+    either _ _ e (λ this. let r = and_parts _ _ this in
     subst P ((bytes_decides rule.0 name).0 r.0) (f rule p.0 r.1))
     (by_rule P test rules name attributes p.1 f)
 
 tag-good : (rules : List (List ℕ × List (List ℕ))) (name : List ℕ) (attributes : List Attribute) →
     list_all rule_is_good rules ≡ true → is_tag rules name attributes ≡ true →
     (is_good_name name ≡ true) × (are_good attributes ≡ true)
-tag-good rules name attributes g e =
-    by_rule (λ name. (is_good_name name ≡ true) × (are_good attributes ≡ true)) rule_is_good
-    rules name attributes g (λ rule good allowed.
-    let q = and_parts (is_good_name rule.0) (list_all is_good_attribute_name rule.1) good in
+tag-good rules name attributes g e = by_rule (λ name. (is_good_name name ≡ true)
+    × (are_good attributes ≡ true)) rule_is_good rules name attributes g (λ rule good allowed.
+    let q = and_parts _ _ good in
     (q.0, attributes-good rule.1 attributes q.1 allowed)) e
 
 pub element-good : (name : List ℕ) (attributes : List Attribute) →
@@ -99,11 +94,8 @@ void-good name attributes e = tag-good void_tags name attributes refl e
 
 -- no such name is one at which the state may be switched
 pub good-leaves : (name : List ℕ) → is_good_name name ≡ true → not (is_one_of switching name) ≡ true
-good-leaves name g = (and_parts (list_all is_good_byte name) (not (is_one_of switching name))
-    (and_parts (begins_tag name) _ g).1).1
+good-leaves name g = (and_parts _ _ (and_parts _ _ g).1).1
 
 pub good-not_title : (name : List ℕ) → is_good_name name ≡ true →
     bytes_eq name (codes "title") ≡ false
-good-not_title name g =
-    (or_parts (bytes_eq name (codes "title")) _
-    (not-true (is_one_of switching name) (good-leaves name g))).0
+good-not_title name g = (or_parts _ _ (not-true _ (good-leaves name g))).0

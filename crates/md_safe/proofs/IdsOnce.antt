@@ -3,7 +3,7 @@ use Rattle.std.proofs.Common.{◌≡◌, ℕ, ◌+◌, ◌≤◌, ◌<◌, ◌^�
 use Rattle.std.proofs.Common.{[], ◌∷◌, ◌++◌, length, refl, sym, ap, ◌∙◌, subst, arith, append_assoc}
 use Rattle.std.proofs.Common.{codes, bytes_eq}
 use Rattle.std.specs.Prelude.{map}
-use Rattle.std.proofs.lemmas.Bool.{or_parts}
+use Rattle.std.proofs.lemmas.Bool.{or_parts, or_right}
 use Rattle.std.proofs.lemmas.List.{length-append}
 use Rattle.md_base.proofs.Lies.{lie}
 use Rattle.md_text.specs.References.{read_back}
@@ -15,61 +15,54 @@ use Rattle.md_safe.proofs.NumberedIds.{back_prefix, note_tail, note-back, same-n
 use Rattle.md_safe.proofs.CallNumbers.{id_after, ids_after, ids-differ, is_in-middle, same-place}
 use Rattle.md_safe.proofs.CallNumbers.{number-bound}
 
+-- another text before some
+pub occurs-other : (w x : List ℕ) (xs : List (List ℕ)) → (x ≡ w → ⊥) →
+    occurs w (x ∷ xs) ≡ occurs w xs
+occurs-other w x xs differ = by (bytes_eq x w) refl
+  where
+    by : (is : Bool) → bytes_eq x w ≡ is → cond is (suc (occurs w xs)) (occurs w xs) ≡ occurs w xs
+    by true e = absurd (differ (same x w e))
+    by false e = refl
+
+-- a text that none of the others is
+occurs-once : (w x : List ℕ) (xs : List (List ℕ)) → occurs x xs ≡ 0 → occurs w xs ≤ 1 →
+    occurs w (x ∷ xs) ≤ 1
+occurs-once w x xs none few = by (bytes_eq x w) refl
+  where
+    by : (is : Bool) → bytes_eq x w ≡ is → cond is (suc (occurs w xs)) (occurs w xs) ≤ 1
+    by true e = omega (ap (λ w. occurs w xs) (same x w e), none, arith)
+    by false e = few
+
 -- no later call has the id of an earlier one
 none-later : (options : CompileOptions) → options.gfm_footnote_number_ids ≡ true →
     (all before mid : List (List ℕ)) (x : List ℕ) (calls : List (List ℕ)) → is_in x all ≡ true →
-    length all + 1 < 2 ^ 64 →
-    length (before ++ x ∷ mid) + length calls + 1 < 2 ^ 64 →
+    length all + 1 < 2 ^ 64 → length (before ++ x ∷ mid) + length calls + 1 < 2 ^ 64 →
     occurs (id_after options all before x) (ids_after options all (before ++ x ∷ mid) calls) ≡ 0
 none-later options on all before mid x [] among few small = refl
-none-later options on all before mid x (y ∷ calls) among few small =
-    by (bytes_eq (id_after options all (before ++ x ∷ mid) y) (id_after options all before x)) refl
-    (subst (λ b. occurs (id_after options all before x) (ids_after options all b calls) ≡ 0)
-    (sym (append_assoc before (x ∷ mid) (y ∷ [])))
-    (none-later options on all before (mid ++ y ∷ []) x calls among few
-    (omega (
+none-later options on all before mid x (y ∷ calls) among few small = occurs-other _ _ _ (ids-differ
+    options on all before mid x y among few (omega (small, arith))) ∙ subst (λ b. occurs
+    (id_after options all before x) (ids_after options all b calls) ≡ 0)
+    (sym (append_assoc before (x ∷ mid) (y ∷ []))) (none-later options on all before (mid ++ y ∷ [])
+    x calls among few (omega (
       ap length (append_assoc before (x ∷ mid) (y ∷ [])),
       length-append (before ++ x ∷ mid) (y ∷ []),
       small,
       arith,
-    ))))
-  where
-    by : (is : Bool) →
-        bytes_eq (id_after options all (before ++ x ∷ mid) y) (id_after options all before x) ≡ is →
-        occurs (id_after options all before x)
-        (ids_after options all ((before ++ x ∷ mid) ++ y ∷ []) calls) ≡ 0 →
-        cond is (suc (occurs (id_after options all before x) (ids_after options
-        all ((before ++ x ∷ mid) ++ y ∷ []) calls))) (occurs (id_after options all before x)
-        (ids_after options all ((before ++ x ∷ mid) ++ y ∷ []) calls)) ≡ 0
-    by true e later =
-        absurd (ids-differ options on all before mid x y among few (omega (small, arith))
-        (same (id_after options all (before ++ x ∷ mid) y) (id_after options all before x) e))
-    by false e later = later
+    )))
 
 -- each id is that of one call at most
-pub calls-once : (options : CompileOptions) → options.gfm_footnote_number_ids ≡ true → (w : List ℕ)
-    (all before calls : List (List ℕ)) → before ++ calls ≡ all → length all + 1 < 2 ^ 64 →
-    length before + length calls + 1 < 2 ^ 64 → occurs w (ids_after options all before calls) ≤ 1
+pub calls-once : (options : CompileOptions) → options.gfm_footnote_number_ids ≡ true →
+    (w : List ℕ) (all before calls : List (List ℕ)) → before ++ calls ≡ all →
+    length all + 1 < 2 ^ 64 → length before + length calls + 1 < 2 ^ 64 →
+    occurs w (ids_after options all before calls) ≤ 1
 calls-once options on w all before [] whole few small = omega arith
-calls-once options on w all before (x ∷ calls) whole few small =
-    by (bytes_eq (id_after options all before x) w) refl (calls-once options on w all
-    (before ++ x ∷ []) calls (append_assoc before (x ∷ []) calls ∙ whole) few
+calls-once options on w all before (x ∷ calls) whole few small = occurs-once w
+    (id_after options all before x) (ids_after options all (before ++ x ∷ []) calls) (none-later
+    options on all before [] x calls (subst (λ all. is_in x all ≡ true) whole
+    (is_in-middle before calls x)) few (omega (length-append before (x ∷ []), small, arith)))
+    (calls-once options on w all (before ++ x ∷ []) calls
+    (append_assoc before (x ∷ []) calls ∙ whole) few
     (omega (length-append before (x ∷ []), small, arith)))
-  where
-    by : (is : Bool) → bytes_eq (id_after options all before x) w ≡ is →
-        occurs w (ids_after options all (before ++ x ∷ []) calls) ≤ 1
-        → cond is (suc (occurs w (ids_after options all (before ++ x ∷ []) calls)))
-        (occurs w (ids_after options all (before ++ x ∷ []) calls)) ≤ 1
-    by true e later =
-        omega (
-          ap (λ w. occurs w (ids_after options all (before ++ x ∷ []) calls))
-              (sym (same (id_after options all before x) w e)),
-          none-later options on all before [] x calls (subst (λ all. is_in x all ≡ true) whole
-              (is_in-middle before calls x)) few
-              (omega (length-append before (x ∷ []), small, arith)),
-          arith,
-        )
-    by false e later = later
 
 -- the ids of footnotes
 abbrev pub note_id : CompileOptions → List (List ℕ) → List ℕ → List ℕ
@@ -88,66 +81,36 @@ notes-differ : (options : CompileOptions) → options.gfm_footnote_number_ids �
     (all : List (List ℕ)) (x y : List ℕ) → length all + 1 < 2 ^ 64 → is_in y (distinct all) ≡ true →
     note_id options all y ≡ note_id options all x → y ≡ x
 notes-differ options on all x y few among e =
-    let tails : back_prefix options ++ note_tail (place_among (distinct all) y)
-    ≡ back_prefix options ++ note_tail (place_among (distinct all) x) =
-    sym (note-back options on y (place_among (distinct all) y)) ∙ e
-    ∙ note-back options on x (place_among (distinct all) x) in
-    same-place (distinct all) y x among
-    (same-note options (place_among (distinct all) y) (place_among (distinct all) x)
+    let tails : back_prefix options ++ note_tail (place_among (distinct all) y) ≡ back_prefix
+    options ++ note_tail (place_among (distinct all) x) = sym
+    (note-back options on y (place_among (distinct all) y)) ∙ e ∙ note-back options on x
+    (place_among (distinct all) x) in
+    same-place (distinct all) y x among (same-note options _ _
     (omega (number-bound all y, few, arith)) (omega (number-bound all x, few, arith)) tails)
 
 none-other : (options : CompileOptions) → options.gfm_footnote_number_ids ≡ true →
-    (all : List (List ℕ))
-    (x : List ℕ) (identifiers : List (List ℕ)) → length all + 1 < 2 ^ 64 →
-    AreIn identifiers (distinct all) →
-    is_in x identifiers ≡ false →
+    (all : List (List ℕ)) (x : List ℕ) (identifiers : List (List ℕ)) → length all + 1 < 2 ^ 64 →
+    AreIn identifiers (distinct all) → is_in x identifiers ≡ false →
     occurs (note_id options all x) (note_ids options all identifiers) ≡ 0
 none-other options on all x [] few among none = refl
 none-other options on all x (y ∷ identifiers) few among none =
-    let parts = or_parts (bytes_eq y x) (is_in x identifiers) none in
-    by (bytes_eq (note_id options all y) (note_id options all x)) refl parts.0
-    (none-other options on all x identifiers few among.1 parts.1)
-  where
-    by : (is : Bool) → bytes_eq (note_id options all y) (note_id options all x) ≡ is →
-        bytes_eq y x ≡ false →
-        occurs (note_id options all x) (note_ids options all identifiers) ≡ 0 →
-        cond is (suc (occurs (note_id options all x) (note_ids options all identifiers)))
-        (occurs (note_id options all x) (note_ids options all identifiers)) ≡ 0
-    by true e other later =
-        let one : y ≡ x = notes-differ options on all x y few among.0
-        (same (note_id options all y) (note_id options all x) e) in
-        lie (sym other ∙ ap (λ z. bytes_eq z x) one ∙ itself x)
-    by false e other later = later
+    let parts = or_parts _ _ none in
+    occurs-other _ _ _ (λ e. lie (sym parts.0 ∙ ap (λ z. bytes_eq z x)
+    (notes-differ options on all x y few among.0 e) ∙ itself x)) ∙ none-other options on all x
+    identifiers few among.1 parts.1
 
 -- each id is that of one footnote at most
-pub notes-once : (options : CompileOptions) → options.gfm_footnote_number_ids ≡ true → (w : List ℕ)
-    (all identifiers : List (List ℕ)) → length all + 1 < 2 ^ 64 → Apart identifiers →
+pub notes-once : (options : CompileOptions) → options.gfm_footnote_number_ids ≡ true →
+    (w : List ℕ) (all identifiers : List (List ℕ)) → length all + 1 < 2 ^ 64 → Apart identifiers →
     AreIn identifiers (distinct all) → occurs w (note_ids options all identifiers) ≤ 1
 notes-once options on w all [] few apart among = omega arith
-notes-once options on w all (x ∷ identifiers) few apart among =
-    by (bytes_eq (note_id options all x) w) refl
-    (notes-once options on w all identifiers few apart.1 among.1)
-  where
-    by : (is : Bool) → bytes_eq (note_id options all x) w ≡ is →
-        occurs w (note_ids options all identifiers) ≤ 1
-        → cond is (suc (occurs w (note_ids options all identifiers)))
-        (occurs w (note_ids options all identifiers)) ≤ 1
-    by true e later =
-        omega (
-          ap (λ w. occurs w (note_ids options all identifiers))
-              (sym (same (note_id options all x) w e)),
-          none-other options on all x identifiers few among.1 apart.0,
-          arith,
-        )
-    by false e later = later
+notes-once options on w all (x ∷ identifiers) few apart among = occurs-once w
+    (note_id options all x) (note_ids options all identifiers) (none-other options on all x
+    identifiers few among.1 apart.0) (notes-once options on w all identifiers few apart.1 among.1)
 
 in-more : (x : List ℕ) (xs others : List (List ℕ)) → AreIn xs others → AreIn xs (x ∷ others)
 in-more x [] others h = tt
-in-more x (y ∷ ys) others h = (by (bytes_eq x y) h.0, in-more x ys others h.1)
-  where
-    by : (is : Bool) → is_in y others ≡ true → (is || is_in y others) ≡ true
-    by true h = refl
-    by false h = h
+in-more x (y ∷ ys) others h = (or_right (bytes_eq x y) _ h.0, in-more x ys others h.1)
 
 pub in-itself : (xs : List (List ℕ)) → AreIn xs xs
 in-itself [] = tt

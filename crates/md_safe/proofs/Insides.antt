@@ -6,16 +6,19 @@ use Rattle.md_base.specs.declared.event.Name.{Name}
 use Rattle.md_base.specs.declared.event.Name.TheVariants.{Image}
 use Rattle.md_base.specs.Is.{is as named}
 use Rattle.md_base.specs.NameTests.{is_fence}
-use Rattle.md_content.specs.Built.{Content, Blocks, Spans, FirstFence}
-use Rattle.md_content.specs.Built.{Chunks, InfoAndMeta, Sources}
-use Rattle.md_content.specs.Built.{is_source}
-use Rattle.md_content.specs.Built.{may_stand, content_of}
+use Rattle.md_content.specs.Built.{Content, Blocks, Spans, FirstFence, Chunks, InfoAndMeta, Sources}
+use Rattle.md_content.specs.Built.{is_source, may_stand, content_of}
 use Rattle.md_steps.proofs.Standing.{implies, follows}
 use Rattle.md_safe.proofs.Contents.{is_first}
+use Rattle.md_base.proofs.Lies.{lie}
 
 -- blocks
 abbrev pub is_blocks : Content → Bool
 is_blocks content = elim content [ Blocks ↦ true | _ ↦ false ]
+
+pub is_blocks-same : (content : Content) → is_blocks content ≡ true → content ≡ Blocks
+is_blocks-same Blocks h = refl
+is_blocks-same _ h = lie h
 
 -- what follows a first fence
 abbrev pub is_chunks : Content → Bool
@@ -61,9 +64,7 @@ all-facts _ _ = refl
 
 -- blocks stand only in blocks
 pub of-blocks : (c : Content) (n : Name) → is_blocks (content_of n c) ≡ true → is_blocks c ≡ true
-of-blocks c n =
-    follows (is_blocks (content_of n c)) (is_blocks c)
-    (and_parts (implies (is_blocks (content_of n c)) (is_blocks c)) _ (all-facts c n)).0
+of-blocks c n = follows _ _ (and_parts _ _ (all-facts c n)).0
 
 -- what is known of a name that may stand in the content
 pub record Allowed (c : Content) (n : Name) : Type 0 where
@@ -77,19 +78,16 @@ pub record Allowed (c : Content) (n : Name) : Type 0 where
 pub allowed_inside : (c : Content) (n : Name) → may_stand c n ≡ true → Allowed c n
 allowed_inside c n stands =
     let i : Content = content_of n c in
-    let p0 = and_parts (implies (asks_escaping i) (asks_escaping c && not (is_source n))) _
-    (follows (may_stand c n) (tells c n i)
-    (and_parts (implies (is_blocks i) (is_blocks c)) _ (all-facts c n)).1 stands) in
-    let p1 = and_parts (implies (asks_image i) (asks_image c || named Image n)) _ p0.1 in
-    let p2 = and_parts (implies (is_first i) (is_raw n)) _ p1.1 in
-    let p3 = and_parts (implies (is_first c) (is_fence n)) (not (is_chunks i)) p2.1 in
+    let p0 = and_parts _ _ (follows _ _ (and_parts _ _ (all-facts c n)).1 stands) in
+    let p1 = and_parts _ _ p0.1 in
+    let p2 = and_parts _ _ p1.1 in
+    let p3 = and_parts _ _ p2.1 in
     record {
       escaping = λ t.
-          let a = and_parts (asks_escaping c) (not (is_source n))
-          (follows (asks_escaping i) _ p0.0 t) in
-          (a.0, not-true (is_source n) a.1);
-      image = λ t. follows (asks_image i) (asks_image c || named Image n) p1.0 t;
-      first = λ t. follows (is_first i) (is_raw n) p2.0 t;
-      fence = λ t. follows (is_first c) (is_fence n) p3.0 t;
-      chunks = not-true (is_chunks i) p3.1;
+          let a = and_parts _ _ (follows _ _ p0.0 t) in
+          (a.0, not-true _ a.1);
+      image = λ t. follows _ _ p1.0 t;
+      first = λ t. follows _ _ p2.0 t;
+      fence = λ t. follows _ _ p3.0 t;
+      chunks = not-true _ p3.1;
     }

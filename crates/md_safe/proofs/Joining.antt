@@ -3,8 +3,7 @@ use Rattle.std.proofs.Common.{◌≡◌, ℕ, List, ◌++◌, refl, sym, ap, ap�
 use Rattle.std.proofs.Common.{Some, option_map, zero, suc}
 use Rattle.md_safe.specs.Token.{Token}
 use Rattle.md_safe.specs.TokenizerStates.{State, Data, Step, Goes, Stops, Stuck}
-use Rattle.md_safe.specs.Tokenizer.{step, run, after_step}
-use Rattle.md_safe.specs.Tokenizer.{IsRun}
+use Rattle.md_safe.specs.Tokenizer.{step, run, after_step, IsRun}
 use Rattle.md_safe.specs.Tokenizes.{Tokenizes, emitted_before, and_then, steps}
 use Rattle.md_safe.proofs.OneRun.{map_some}
 
@@ -40,27 +39,24 @@ Backs P mid u n =
     P state input (t ++ u)
 
 back-step : (P : State → List ℕ → List Token → Type 0) → GoesBack P →
-    (mid : List ℕ) (u : List Token) (n : ℕ) →
-    Backs P mid u n → (state : State) (input : List ℕ) (t : List Token) (s : Step) →
-    step state input ≡ s →
+    (mid : List ℕ) (u : List Token) (n : ℕ) → Backs P mid u n →
+    (state : State) (input : List ℕ) (t : List Token) (s : Step) → step state input ≡ s →
     and_then (steps n) s ≡ Goes t Data mid → P state input (t ++ u)
 back-step P g mid u n go state input t (Goes out next rest) is e =
-    let w = went out (steps n next rest) t mid e in
-    subst (λ x. P state input (x ++ u)) w.2
-    (subst (λ x. P state input x) (sym (append_assoc out w.0 u))
-    (g state next input rest out (w.0 ++ u) is (go next rest w.0 w.1)))
+    let w = went _ _ t _ e in
+    subst (λ x. P state input (x ++ u)) w.2 (subst (λ x. P state input x)
+    (sym (append_assoc out w.0 u)) (g state next input rest out (w.0 ++ u) is
+    (go next rest w.0 w.1)))
 back-step P g mid u n go state input t (Stops out) is e = absurd (no_stop e)
 back-step P g mid u n go state input t Stuck is e = absurd (no_stuck e)
 
-back : (P : State → List ℕ → List Token → Type 0) → GoesBack P →
-    (mid : List ℕ) (u : List Token) → P Data mid u →
-    (n : ℕ) → Backs P mid u n
+back : (P : State → List ℕ → List Token → Type 0) → GoesBack P → (mid : List ℕ) (u : List Token) →
+    P Data mid u → (n : ℕ) → Backs P mid u n
 back P g mid u h zero state input t e =
     let is = same_step e in
-    subst (λ x. P state input (x ++ u)) is.2
-    (subst (λ a. P a input u) (sym is.0) (subst (λ x. P Data x u) (sym is.1) h))
-back P g mid u h (suc n) state input t e =
-    back-step P g mid u n (back P g mid u h n) state input t (step state input) refl e
+    subst (λ x. P state input (x ++ u)) is.2 (subst (λ a. P a input u) (sym is.0)
+    (subst (λ x. P Data x u) (sym is.1) h))
+back P g mid u h (suc n) state input t e = back-step P g _ u n (back P g _ u h n) _ _ t _ refl e
 
 leads-back : (left : List ℕ) → GoesBack (λ state input t. Tokenizes state input t left)
 leads-back left state next input rest out t e h = record {
@@ -76,17 +72,13 @@ run-back state next input rest out t e h = record {
 
 -- some steps, and then others
 pub leads-on : (state : State) (input mid left : List ℕ) (t u : List Token) →
-    Tokenizes state input t mid →
-    Tokenizes Data mid u left → Tokenizes state input (t ++ u) left
-leads-on state input mid left t u h k =
-    back (λ state input t. Tokenizes state input t left) (leads-back left) mid u k h.count
-    state input t h.goes
+    Tokenizes state input t mid → Tokenizes Data mid u left → Tokenizes state input (t ++ u) left
+leads-on state input mid left t u h k = back _ (leads-back _) _ u k _ state input t h.goes
 
 -- some steps, and then a run
-pub runs-on : (state : State) (input mid : List ℕ) (t u : List Token) → Tokenizes state input t
-    mid →
-    IsRun Data mid u → IsRun state input (t ++ u)
-runs-on state input mid t u h k = back IsRun run-back mid u k h.count state input t h.goes
+pub runs-on : (state : State) (input mid : List ℕ) (t u : List Token) →
+    Tokenizes state input t mid → IsRun Data mid u → IsRun state input (t ++ u)
+runs-on state input mid t u h k = back _ run-back _ u k _ state input t h.goes
 
 -- ---- a run begins with the steps that there are
 
@@ -126,7 +118,6 @@ run-rest mid (suc n) zero state input t all e f = absurd (runs_nothing state inp
 run-rest mid (suc n) (suc k) state input t all e f =
     rest-step mid n (run-rest mid n) k t all (step state input) e f
 
-pub run-on : (state : State) (input mid : List ℕ) (t all : List Token) → Tokenizes state input t
-    mid →
-    IsRun state input all → Rest mid t all
-run-on state input mid t all h k = run-rest mid h.count k.steps state input t all h.goes k.emits
+pub run-on : (state : State) (input mid : List ℕ) (t all : List Token) →
+    Tokenizes state input t mid → IsRun state input all → Rest mid t all
+run-on state input mid t all h k = run-rest _ _ k.steps state input t all h.goes k.emits

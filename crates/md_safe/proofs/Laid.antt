@@ -22,36 +22,42 @@ pub record Grows (holds : List ℕ → Type 0) (before after : List ℕ) : Type 
   pub it_holds : holds added
 
 -- pieces add to each text another one that fulfils a claim
-abbrev pub Adds : List ℕ → (List ℕ → Type 0) → List Piece → Type 0
-Adds ending holds pieces = (text : List ℕ) → Grows holds text (laid_after ending text pieces)
+pub record Adds (ending : List ℕ) (holds : List ℕ → Type 0) (pieces : List Piece) : Type 0 where
+  pub to : (text : List ℕ) → Grows holds text (laid_after ending text pieces)
 
 -- something else holds as well
-pub adds-weaker : (ending : List ℕ) (f g : List ℕ → Type 0) (pieces : List Piece) →
+pub adds-weaker : {ending : List ℕ} {f g : List ℕ → Type 0} {pieces : List Piece} →
     ((x : List ℕ) → f x → g x) → Adds ending f pieces → Adds ending g pieces
-adds-weaker ending f g pieces weaker a text =
-    let r = a text in
-    record { added = r.added; grown = r.grown; it_holds = weaker r.added r.it_holds }
+adds-weaker weaker a = record {
+  to = λ text.
+      let r = a.to text in
+      record { added = r.added; grown = r.grown; it_holds = weaker r.added r.it_holds };
+}
 
 -- one list after another
-pub adds-append : (ending : List ℕ) (f g h : List ℕ → Type 0) (xs ys : List Piece) →
+pub adds-append : {ending : List ℕ} {f g h : List ℕ → Type 0} {xs ys : List Piece} →
     ((x y : List ℕ) → f x → g y → h (x ++ y)) → Adds ending f xs → Adds ending g ys →
     Adds ending h (xs ++ ys)
-adds-append ending f g h xs ys both a b text =
-    let r = a text in
-    let s = b (laid_after ending text xs) in
-    subst (Grows h text) (sym (laid-append ending text xs ys))
-    (record {
-      added = r.added ++ s.added;
-      grown = s.grown ∙ ap (λ t. t ++ s.added) r.grown ∙ append_assoc text r.added s.added;
-      it_holds = both r.added s.added r.it_holds s.it_holds;
-    })
+adds-append {ending} {h = h} {xs} {ys} both a b = record {
+  to = λ text.
+      let r = a.to text in
+      let s = b.to (laid_after ending text xs) in
+      subst (Grows h text) (sym (laid-append ending text xs ys)) (record {
+        added = r.added ++ s.added;
+        grown = s.grown ∙ ap (λ t. t ++ s.added) r.grown ∙ append_assoc text r.added s.added;
+        it_holds = both r.added s.added r.it_holds s.it_holds;
+      });
+}
 
-pub adds-nothing : (ending : List ℕ) (f : List ℕ → Type 0) → f [] → Adds ending f []
-adds-nothing ending f h text = record { added = []; grown = sym (append-nil text); it_holds = h }
+nothing_added : (f : List ℕ → Type 0) (text : List ℕ) → f [] → Grows f text text
+nothing_added f text h = record { added = []; grown = sym (append-nil text); it_holds = h }
 
-pub adds-text : (ending : List ℕ) (f : List ℕ → Type 0) (x : List ℕ) → f x →
+pub adds-nothing : {ending : List ℕ} {f : List ℕ → Type 0} → f [] → Adds ending f []
+adds-nothing {f = f} h = record { to = λ text. nothing_added f text h }
+
+pub adds-text : {ending : List ℕ} {f : List ℕ → Type 0} {x : List ℕ} → f x →
     Adds ending f (Text x ∷ [])
-adds-text ending f x h text = record { added = x; grown = refl; it_holds = h }
+adds-text {x = x} h = record { to = λ text. record { added = x; grown = refl; it_holds = h } }
 
 -- texts that may stand beside others: none, and two in a row
 pub record IsBeside (W : List ℕ → Type 0) : Type 0 where
@@ -61,66 +67,41 @@ pub record IsBeside (W : List ℕ → Type 0) : Type 0 where
 pub escaped_beside : IsBeside Escaped
 escaped_beside = record { none = refl; both = escaped-append }
 
-pub adds-forced : {W : List ℕ → Type 0} (ending : List ℕ) → W ending → Adds ending W (Forced ∷ [])
-adds-forced ending h text = record { added = ending; grown = refl; it_holds = h }
+pub adds-forced : {W : List ℕ → Type 0} {ending : List ℕ} → W ending → Adds ending W (Forced ∷ [])
+adds-forced {ending = ending} h =
+    record { to = λ text. record { added = ending; grown = refl; it_holds = h } }
 
-pub adds-needed : {W : List ℕ → Type 0} → IsBeside W → (ending : List ℕ) → W ending →
+pub adds-needed : {W : List ℕ → Type 0} {ending : List ℕ} → IsBeside W → W ending →
     Adds ending W (Needed ∷ [])
-adds-needed {W = W} beside ending h text = by (begins_line text)
+adds-needed {W} {ending} beside h = record { to = λ text. by text (begins_line text) }
   where
-    by : (starts : Bool) → Grows W text (cond starts text (text ++ ending))
-    by true = record { added = []; grown = sym (append-nil text); it_holds = beside.none }
-    by false = record { added = ending; grown = refl; it_holds = h }
+    by : (text : List ℕ) (starts : Bool) → Grows W text (cond starts text (text ++ ending))
+    by text true = nothing_added W text beside.none
+    by text false = record { added = ending; grown = refl; it_holds = h }
 
 -- pieces, where a test holds
-pub adds-when : {W : List ℕ → Type 0} → IsBeside W → (ending : List ℕ) (holds : Bool)
-    (pieces : List Piece) → Adds ending W pieces → Adds ending W (when holds pieces)
-adds-when beside ending true pieces a = a
-adds-when {W = W} beside ending false pieces a = adds-nothing ending W beside.none
+pub adds-when : {W : List ℕ → Type 0} {ending : List ℕ} {pieces : List Piece} → IsBeside W →
+    (holds : Bool) → Adds ending W pieces → Adds ending W (when holds pieces)
+adds-when beside true a = a
+adds-when beside false a = adds-nothing beside.none
 
 -- one list after another for each of some things
-pub adds-all : {A : Type 0} (ending : List ℕ) (R : List ℕ → Type 0) → IsBeside R →
-    (f : A → List Piece) → ((a : A) → Adds ending R (f a)) → (xs : List A) →
-    Adds ending R (flat_map f xs)
-adds-all ending R beside f each [] = adds-nothing ending R beside.none
-adds-all ending R beside f each (x ∷ xs) =
-    adds-append ending R R R (f x) (flat_map f xs) beside.both (each x)
-    (adds-all ending R beside f each xs)
+pub adds-all : {A : Type 0} {ending : List ℕ} {R : List ℕ → Type 0} {f : A → List Piece} →
+    IsBeside R → ((a : A) → Adds ending R (f a)) → (xs : List A) → Adds ending R (flat_map f xs)
+adds-all beside each [] = adds-nothing beside.none
+adds-all beside each (x ∷ xs) = adds-append beside.both (each x) (adds-all beside each xs)
 
 -- any pieces add a text
 pub adds-any : (ending : List ℕ) (pieces : List Piece) → Adds ending (λ x. Unit {0}) pieces
-adds-any ending [] text = record { added = []; grown = sym (append-nil text); it_holds = tt }
-adds-any ending (Text more ∷ pieces) text =
-    let r = adds-any ending pieces (text ++ more) in
-    record {
-      added = more ++ r.added;
-      grown = r.grown ∙ append_assoc text more r.added;
-      it_holds = tt;
-    }
-adds-any ending (Needed ∷ pieces) text =
-    by (begins_line text) (adds-any ending pieces text) (adds-any ending pieces (text ++ ending))
+adds-any ending [] = adds-nothing tt
+adds-any ending (piece ∷ pieces) = adds-append (λ x y f g. tt) (by piece) (adds-any ending pieces)
   where
-    by : (starts : Bool) → Grows (λ x. Unit {0}) text (laid_after ending text pieces) →
-        Grows (λ x. Unit {0}) (text ++ ending) (laid_after ending (text ++ ending) pieces) →
-        Grows (λ x. Unit {0}) text (laid_after ending (cond starts text (text ++ ending)) pieces)
-    by true here more = here
-    by false here more = record {
-      added = ending ++ more.added;
-      grown = more.grown ∙ append_assoc text ending more.added;
-      it_holds = tt;
-    }
-adds-any ending (Forced ∷ pieces) text =
-    let r = adds-any ending pieces (text ++ ending) in
-    record {
-      added = ending ++ r.added;
-      grown = r.grown ∙ append_assoc text ending r.added;
-      it_holds = tt;
-    }
+    by : (piece : Piece) → Adds ending (λ x. Unit {0}) (piece ∷ [])
+    by (Text x) = adds-text tt
+    by Needed = adds-needed (record { none = tt; both = λ x y f g. tt }) tt
+    by Forced = adds-forced tt
 
 -- pieces laid out by themselves
-pub adds-alone : (ending : List ℕ) (f : List ℕ → Type 0) (pieces : List Piece) →
-    Adds ending f pieces →
-    f (layout ending pieces)
-adds-alone ending f pieces a =
-    let r = a [] in
-    subst f (sym r.grown) r.it_holds
+pub adds-alone : {ending : List ℕ} {f : List ℕ → Type 0} {pieces : List Piece} →
+    Adds ending f pieces → f (layout ending pieces)
+adds-alone {f = f} a = let r = a.to [] in subst f (sym r.grown) r.it_holds

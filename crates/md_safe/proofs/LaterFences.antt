@@ -8,10 +8,9 @@ use Rattle.md_base.specs.declared.event.Point.{Point}
 use Rattle.md_base.specs.Tree.{Forest}
 use Rattle.md_base.specs.NameTests.{is_fence as fence_name}
 use Rattle.md_base.specs.Children.{spine_names}
-use Rattle.md_content.specs.Built.{Content, FirstFence, FirstMathFence}
-use Rattle.md_content.specs.Built.{InfoAndMeta, MetaAlone, Nothing, is_fence}
-use Rattle.md_content.specs.Built.{is_info, may_stand, content_of, content_past, content_after}
-use Rattle.md_content.specs.Built.{IsBuilt, IsFit}
+use Rattle.md_content.specs.Built.{Content, FirstFence, FirstMathFence, InfoAndMeta, MetaAlone}
+use Rattle.md_content.specs.Built.{Nothing, is_fence, is_info, may_stand, content_of, content_past}
+use Rattle.md_content.specs.Built.{content_after, IsBuilt, IsFit}
 use Rattle.md_safe.proofs.Contents.{is_first, stays-after, Follows}
 use Rattle.md_safe.proofs.Insides.{is_raw, allowed_inside}
 use Rattle.md_safe.proofs.Following.{same_fences, follows-after, follows-inside}

@@ -14,13 +14,19 @@ pub mod Insides
 pub mod Suiting
 pub mod Following
 pub mod LaterFences
-pub mod BlocksAsked
 pub mod Spot
 pub mod StringNodes
 pub mod SpanSorts
 pub mod SpanNodes
 pub mod FlowNodes
 pub mod BlockNodes
+pub mod Stands
+pub mod Wider
+pub mod Linking
+pub mod Claims
+pub mod SpanCases
+pub mod FlowCases
+pub mod ReadingNodes
 pub mod FenceNodes
 pub mod Nodes
 pub mod Findings
@@ -43,25 +49,10 @@ pub mod Whole
 pub mod WholeIds
 -- and of what stands in what.
 pub mod Placing
-pub mod Stands
-pub mod Wider
 pub mod ContainedLaid
-pub mod Linking
-pub mod SpanContents
-pub mod LinksAndImages
-pub mod TasksAndCalls
-pub mod SpanCases
-pub mod Spans
-pub mod OwnLines
-pub mod HeadingsAndLists
-pub mod CodeBlocks
-pub mod CellsAndRows
-pub mod FlowCases
-pub mod Blocks
 pub mod Paragraphs
 pub mod FlowFindings
 pub mod ContainedForests
-pub mod ContainedBacks
 pub mod ContainedSection
 pub mod ContainedWhole
 -- The lemmas of the laws: of the tokenizer,

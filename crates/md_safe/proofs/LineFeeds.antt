@@ -3,7 +3,7 @@ use Rattle.std.proofs.Common.{◌≡◌, ℕ, ◌==◌, Bool, true, false, not, 
 use Rattle.std.proofs.Common.{ap, ap₂, ◌∙◌}
 use Rattle.std.specs.List.{list_all}
 use Rattle.std.proofs.lemmas.Bool.{and_parts, and_from, cond_both, not-true}
-use Rattle.md_text.specs.References.{is_escaped, is_escaped_byte}
+use Rattle.md_text.specs.References.{is_escaped}
 use Rattle.md_safe.specs.Input.{begins_with_line_feed, with_line_feeds}
 use Rattle.md_safe.proofs.EscapedCases.{plain-escaped, by_escaped}
 
@@ -15,6 +15,15 @@ no_return b = not (b == 13)
 abbrev pub one : ℕ → Bool → List ℕ → List ℕ
 one b feed later = cond (b == 13) (cond feed later (10 ∷ later)) (b ∷ later)
 
+pub one-append : (b : ℕ) (feed : Bool) (x r : List ℕ) → one b feed (x ++ r) ≡ one b feed x ++ r
+one-append b feed x r = by (b == 13) feed
+  where
+    by : (return feed : Bool) → cond return (cond feed (x ++ r) (10 ∷ (x ++ r))) (b ∷ (x ++ r))
+        ≡ cond return (cond feed x (10 ∷ x)) (b ∷ x) ++ r
+    by true true = refl
+    by true false = refl
+    by false feed = refl
+
 begins-append : (x r : List ℕ) → begins_with_line_feed r ≡ false →
     begins_with_line_feed (x ++ r) ≡ begins_with_line_feed x
 begins-append [] r h = h
@@ -24,16 +33,8 @@ begins-append (b ∷ x) r h = refl
 pub line_feeds-append : (x r : List ℕ) → begins_with_line_feed r ≡ false →
     with_line_feeds (x ++ r) ≡ with_line_feeds x ++ with_line_feeds r
 line_feeds-append [] r h = refl
-line_feeds-append (b ∷ x) r h =
-    ap₂ (one b) (begins-append x r h) (line_feeds-append x r h)
-    ∙ by (b == 13) (begins_with_line_feed x) (with_line_feeds x) (with_line_feeds r)
-  where
-    by : (return feed : Bool) (x r : List ℕ) →
-        cond return (cond feed (x ++ r) (10 ∷ (x ++ r))) (b ∷ (x ++ r))
-        ≡ cond return (cond feed x (10 ∷ x)) (b ∷ x) ++ r
-    by true true x r = refl
-    by true false x r = refl
-    by false feed x r = refl
+line_feeds-append (b ∷ x) r h = ap₂ (one b) (begins-append x r h) (line_feeds-append x r h)
+    ∙ one-append b (begins_with_line_feed x) (with_line_feeds x) (with_line_feeds r)
 
 -- a name has no CR
 pub line_feeds-name : (name r : List ℕ) → list_all no_return name ≡ true →
@@ -47,13 +48,10 @@ line_feeds-name (b ∷ name) r h =
 
 -- an escaped text stays escaped
 pub line_feeds-escaped : (x : List ℕ) → is_escaped x ≡ true → is_escaped (with_line_feeds x) ≡ true
-line_feeds-escaped x h =
-    by_escaped (λ x. is_escaped (with_line_feeds x) ≡ true) refl
-    (λ b rest plain later.
-    cond_both (b == 13) (cond (begins_with_line_feed rest) (with_line_feeds rest)
-    (10 ∷ with_line_feeds rest)) (b ∷ with_line_feeds rest) (λ v. is_escaped v ≡ true)
-    (λ _. cond_both (begins_with_line_feed rest) (with_line_feeds rest) (10 ∷ with_line_feeds rest)
-    (λ v. is_escaped v ≡ true) (λ _. later) (λ _. later))
-    (λ _. and_from (is_escaped_byte b (with_line_feeds rest)) (is_escaped (with_line_feeds rest))
-    (plain-escaped b (with_line_feeds rest) plain) later))
-    (λ rest later. later) (λ rest later. later) (λ rest later. later) (λ rest later. later) x h
+line_feeds-escaped x h = by_escaped (λ x. is_escaped (with_line_feeds x) ≡ true) refl
+    (λ b rest plain later. cond_both (b == 13) (cond (begins_with_line_feed rest)
+    (with_line_feeds rest) (10 ∷ with_line_feeds rest)) (b ∷ with_line_feeds rest)
+    (λ v. is_escaped v ≡ true) (λ _. cond_both (begins_with_line_feed rest) (with_line_feeds rest)
+    (10 ∷ with_line_feeds rest) (λ v. is_escaped v ≡ true) (λ _. later) (λ _. later)) (λ _. and_from
+    _ _ (plain-escaped b (with_line_feeds rest) plain) later)) (λ rest later. later)
+    (λ rest later. later) (λ rest later. later) (λ rest later. later) x h

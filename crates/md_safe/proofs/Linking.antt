@@ -173,14 +173,10 @@ parts false b c d h = (λ e. by c d e h, λ e. lie e)
     by false d e h = lie e
 
 unnested-parts : (name : Name) (in_link : Bool) (start end : Point) (children rest : Forest) →
-    has_nested_link in_link (Node name start end children rest) ≡ false →
-    ((in_link && prints_link name
-    || not (named Image name) && has_nested_link (named Link name || in_link) children)
+    has_nested_link in_link (Node name start end children rest) ≡ false → ((in_link && prints_link
+    name || not (named Image name) && has_nested_link (named Link name || in_link) children)
     ≡ false) × (has_nested_link in_link rest ≡ false)
-unnested-parts name in_link start end children rest h =
-    or_parts (in_link && prints_link name
-    || not (named Image name) && has_nested_link (named Link name || in_link) children)
-    (has_nested_link in_link rest) h
+unnested-parts name in_link start end children rest h = or_parts _ _ h
 
 pub unnested-after : (name : Name) (in_link : Bool) (start end : Point) (children rest : Forest) →
     has_nested_link in_link (Node name start end children rest) ≡ false →

@@ -56,10 +56,8 @@ pass_three : (p : Attribute → Bool) (a b c : Attribute) → p a ≡ true → p
 pass_three p a b c h g k = and_from (p a) (p b && (p c && true)) h (pass_two p b c g k)
 
 pub pass_four : (p : Attribute → Bool) (a b c d : Attribute) → p a ≡ true → p b ≡ true →
-    p c ≡ true → p d ≡ true →
-    list_all p (a ∷ b ∷ c ∷ d ∷ []) ≡ true
-pass_four p a b c d h g k l =
-    and_from (p a) (p b && (p c && (p d && true))) h (pass_three p b c d g k l)
+    p c ≡ true → p d ≡ true → list_all p (a ∷ b ∷ c ∷ d ∷ []) ≡ true
+pass_four p a b c d h g k l = and_from _ _ h (pass_three p b c d g k l)
 
 -- a title is escaped, where there is one
 abbrev pub IsEscapedTitle : Option (List ℕ) → Type 0
@@ -67,64 +65,44 @@ IsEscapedTitle None = Unit {0}
 IsEscapedTitle (Some title) = Escaped title
 
 -- a link
-pub adds-link : (test : Attribute → Bool) (Q R : List ℕ → Type 0) (ending : List ℕ)
-    (options : CompileOptions) → IsTest test options → Tagged test Q R (codes "a") →
+pub adds-link : {test : Attribute → Bool} {Q R : List ℕ → Type 0} {ending : List ℕ}
+    {options : CompileOptions} → IsTest test options → Tagged test Q R (codes "a") →
     (target : Target) (label : List ℕ) → IsEscapedTitle target.title → Q label →
     Adds ending R (anchor options target label)
-adds-link test Q R ending options known tagged target label h r = by target.title h
+adds-link {test = test} {R = R} {ending = ending} {options = options} known tagged target label h
+    r = by target.title h
   where
     v : List ℕ
     v = href options target.destination
 
-    by : (title : Option (List ℕ)) → IsEscapedTitle title → Adds ending R
-        (anchor options (record { destination = target.destination; title = title }) label)
-    by None h =
-        adds-flat ending R (anchor options (record {
-          destination = target.destination;
-          title = None;
-        }) label) refl
-        (tagged (attribute (codes "href") v ∷ []) label
+    by : (title : Option (List ℕ)) → IsEscapedTitle title → Adds ending R (anchor options
+        (record { destination = target.destination; title = title }) label)
+    by None h = adds-flat refl (tagged.tag (attribute (codes "href") v ∷ []) label
         (a_href v (href-escaped options target.destination))
-        (pass_one test (attribute (codes "href") v) (known.link target.destination)) r)
-    by (Some title) h =
-        adds-flat ending R (anchor options (record {
-          destination = target.destination;
-          title = Some title;
-        }) label) refl
-        (tagged (attribute (codes "href") v ∷ attribute (codes "title") title ∷ []) label
-        (a_href_title v title (href-escaped options target.destination) h)
-        (pass_two test (attribute (codes "href") v) (attribute (codes "title") title)
+        (pass_one test _ (known.link target.destination)) r)
+    by (Some title) h = adds-flat refl (tagged.tag (attribute (codes "href") v ∷ attribute
+        (codes "title") title ∷ []) label (a_href_title v title
+        (href-escaped options target.destination) h) (pass_two test _ _
         (known.link target.destination) (known.other (codes "title") title refl)) r)
 
 -- an image
-pub adds-image : (test : Attribute → Bool) (R : List ℕ → Type 0) (ending : List ℕ)
-    (options : CompileOptions) → IsTest test options → Single test R (codes "img") →
+pub adds-image : {test : Attribute → Bool} {R : List ℕ → Type 0} {ending : List ℕ}
+    {options : CompileOptions} → IsTest test options → Single test R (codes "img") →
     (target : Target) (label : List ℕ) → IsEscapedTitle target.title → Escaped label →
     Adds ending R (picture options target label)
-adds-image test R ending options known single target label h e = by target.title h
+adds-image {test = test} {R = R} {ending = ending} {options = options} known single target label h
+    e = by target.title h
   where
     v : List ℕ
     v = src options target.destination
 
-    by : (title : Option (List ℕ)) → IsEscapedTitle title → Adds ending R
-        (picture options (record { destination = target.destination; title = title }) label)
-    by None h =
-        adds-flat ending R (picture options (record {
-          destination = target.destination;
-          title = None;
-        }) label) refl
-        (single (attribute (codes "src") v ∷ attribute (codes "alt") label ∷ [])
-        (img v label (src-escaped options target.destination) e)
-        (pass_two test (attribute (codes "src") v) (attribute (codes "alt") label)
+    by : (title : Option (List ℕ)) → IsEscapedTitle title → Adds ending R (picture options
+        (record { destination = target.destination; title = title }) label)
+    by None h = adds-flat refl (single.tag (attribute (codes "src") v ∷ attribute (codes "alt")
+        label ∷ []) (img v label (src-escaped options target.destination) e) (pass_two test _ _
         (known.image target.destination) (known.other (codes "alt") label refl)))
-    by (Some title) h =
-        adds-flat ending R (picture options (record {
-          destination = target.destination;
-          title = Some title;
-        }) label) refl
-        (single (attribute (codes "src") v ∷ attribute (codes "alt") label
-        ∷ attribute (codes "title") title ∷ [])
-        (img_title v label title (src-escaped options target.destination) e h)
-        (pass_three test (attribute (codes "src") v) (attribute (codes "alt") label)
-        (attribute (codes "title") title) (known.image target.destination)
-        (known.other (codes "alt") label refl) (known.other (codes "title") title refl)))
+    by (Some title) h = adds-flat refl (single.tag (attribute (codes "src") v ∷ attribute
+        (codes "alt") label ∷ attribute (codes "title") title ∷ []) (img_title v label title
+        (src-escaped options target.destination) e h) (pass_three test _ _ _
+        (known.image target.destination) (known.other (codes "alt") label refl)
+        (known.other (codes "title") title refl)))

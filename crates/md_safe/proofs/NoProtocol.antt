@@ -1,7 +1,6 @@
 -- A value without a protocol has no scheme.
-use Rattle.std.proofs.Common.{◌≡◌, ℕ, ◌==◌, Bool, true, false, not, ◌&&◌, ◌||◌, cond, List, [], ◌∷◌}
-use Rattle.std.proofs.Common.{◌++◌, refl, sym, ap, ap₂, ◌∙◌, inl, inr, Some, None}
-use Rattle.std.proofs.Common.{option_map}
+use Rattle.std.proofs.Common.{◌≡◌, ℕ, ◌==◌, Bool, true, false, not, ◌&&◌, cond, List, [], ◌∷◌, ◌++◌}
+use Rattle.std.proofs.Common.{refl, sym, ap, ap₂, ◌∙◌, inl, inr, Some, None, option_map}
 use Rattle.std.specs.List.{list_all}
 use Rattle.std.proofs.lemmas.Bool.{and_parts, or_from, cond_both, cases_Bool, not-true}
 use Rattle.md_text.specs.Bytes.{is_letter, lower}
@@ -49,14 +48,10 @@ none-keep b x y f h = elim (cases_Bool (b == 58)) [
   ]
 ]
 
-goes_on-by : (t : ℕ → Bool) → t 58 ≡ false → t 63 ≡ false → t 35 ≡ false → t 47 ≡ false →
-    (b : ℕ) → t b ≡ true →
-    goes_on b ≡ true
-goes_on-by t e58 e63 e35 e47 b h =
-    ap₂ (λ s t. not s && not t) (passes_not t b 58 e58 h)
-    (or_from ((b == 63) || (b == 35)) (b == 47)
-    (or_from (b == 63) (b == 35) (passes_not t b 63 e63 h) (passes_not t b 35 e35 h))
-    (passes_not t b 47 e47 h))
+goes_on-by : (t : ℕ → Bool) → t 58 ≡ false → t 63 ≡ false → t 35 ≡ false → t 47 ≡ false → (b : ℕ) →
+    t b ≡ true → goes_on b ≡ true
+goes_on-by t e58 e63 e35 e47 b h = ap₂ (λ s t. not s && not t) (passes_not t b 58 e58 h) (or_from _
+    _ (or_from _ _ (passes_not t b 63 e63 h) (passes_not t b 35 e35 h)) (passes_not t b 47 e47 h))
 
 abbrev pub HasNone : List ℕ → Type 0
 HasNone x = protocol_of x ≡ None
@@ -88,11 +83,9 @@ trailing-none (b ∷ rest) h =
 
 newlines-none : (x : List ℕ) → HasNone x → HasNone (without_newlines x)
 newlines-none [] h = refl
-newlines-none (b ∷ rest) h =
-    cond_both (is_tab_or_newline b) (without_newlines rest) (b ∷ without_newlines rest) HasNone
-    (λ e. newlines-none rest
-    (none-drop b rest (goes_on-by is_tab_or_newline refl refl refl refl b e) h))
-    (λ _. none-keep b rest (without_newlines rest) (newlines-none rest) h)
+newlines-none (b ∷ rest) h = cond_both _ _ _ HasNone (λ e. newlines-none rest (none-drop b rest
+    (goes_on-by is_tab_or_newline refl refl refl refl b e) h)) (λ _. none-keep b rest
+    (without_newlines rest) (newlines-none rest) h)
 
 not_colon : (b : ℕ) (rest : List ℕ) → HasNone (b ∷ rest) → (b == 58) ≡ false
 not_colon b rest h = elim (cases_Bool (b == 58)) [
@@ -102,19 +95,15 @@ not_colon b rest h = elim (cases_Bool (b == 58)) [
 
 in_scheme-none : (buffer x : List ℕ) → HasNone x → in_scheme buffer x ≡ None
 in_scheme-none buffer [] h = refl
-in_scheme-none buffer (b ∷ rest) h =
-    cond_both (is_scheme_byte b) (in_scheme (buffer ++ (lower b ∷ [])) rest)
-    (cond (b == 58) (Some buffer) None) (λ v. v ≡ None)
-    (λ e. in_scheme-none (buffer ++ (lower b ∷ [])) rest
-    (none-drop b rest (goes_on-by is_scheme_byte refl refl refl refl b e) h))
-    (λ _. past _ (not_colon b rest h) refl)
+in_scheme-none buffer (b ∷ rest) h = cond_both _ _ _ (λ v. v ≡ None) (λ e. in_scheme-none
+    (buffer ++ (lower b ∷ [])) rest (none-drop b rest
+    (goes_on-by is_scheme_byte refl refl refl refl b e) h)) (λ _. past _ (not_colon b rest h) refl)
 
 in_scheme_start-none : (x : List ℕ) → HasNone x → in_scheme_start x ≡ None
 in_scheme_start-none [] h = refl
-in_scheme_start-none (b ∷ rest) h =
-    cond_both (is_letter b) (in_scheme (lower b ∷ []) rest) None (λ v. v ≡ None)
-    (λ e. in_scheme-none (lower b ∷ []) rest
-    (none-drop b rest (goes_on-by is_letter refl refl refl refl b e) h)) (λ _. refl)
+in_scheme_start-none (b ∷ rest) h = cond_both _ _ _ (λ v. v ≡ None) (λ e. in_scheme-none
+    (lower b ∷ []) rest (none-drop b rest (goes_on-by is_letter refl refl refl refl b e) h))
+    (λ _. refl)
 
 pub scheme_of-none : (x : List ℕ) → HasNone x → scheme_of (with_line_feeds x) ≡ None
 scheme_of-none x h =

@@ -17,27 +17,25 @@ use Rattle.md_meaning.specs.Meaning.Layout.{Piece, said, when}
 use Rattle.md_meaning.specs.Meaning.Means.{prints}
 use Rattle.md_content.specs.Built.{Content, Blocks, Spans, Strings, FirstFence, FirstMathFence}
 use Rattle.md_content.specs.Built.{Chunks, InfoAndMeta, MetaAlone, Done, Nothing, Sources, is_part}
-use Rattle.md_content.specs.Built.{is_source, is_autolink}
-use Rattle.md_content.specs.Built.{may_stand, content_of, content_past, content_after, IsBuilt}
+use Rattle.md_content.specs.Built.{is_source, is_autolink, may_stand, content_of, content_past}
+use Rattle.md_content.specs.Built.{content_after, IsBuilt}
 use Rattle.md_steps.proofs.Standing.{picked}
 use Rattle.md_safe.proofs.Cases.{either}
 use Rattle.md_safe.proofs.Texts.{Escaped}
 use Rattle.md_safe.proofs.Laid.{adds-append, adds-text, adds-nothing, adds-weaker, adds-any}
 use Rattle.md_safe.proofs.Elements.{IsDone}
-use Rattle.md_safe.proofs.RawElements.{IsInCode, bare-in_code, info-in_code}
 use Rattle.md_safe.proofs.Contents.{Holds, Suits, Follows, holds-nothing}
 use Rattle.md_safe.proofs.Insides.{is_blocks}
 use Rattle.md_safe.proofs.Following.{second}
 use Rattle.md_safe.proofs.LaterFences.{later-inside}
 use Rattle.md_safe.proofs.Spot.{IsWhole, Setting, IsFitAt, IsGoodTarget, Here, Prints, Inside}
-use Rattle.md_safe.proofs.Spot.{narrow-wide, wide-escaped}
 use Rattle.md_safe.proofs.StringNodes.{string-node, is_text, text-node}
-use Rattle.md_safe.proofs.SpanNodes.{is_shown, span-node, autolink-node}
+use Rattle.md_safe.proofs.SpanNodes.{is_shown, shown-in_image, autolink-in_image}
 use Rattle.md_safe.proofs.FlowNodes.{Reads, is_leaf, leaf-escaped}
-use Rattle.md_safe.proofs.FenceNodes.{IsNil, inside-is, code_fence-node, math_fence-node}
-use Rattle.md_safe.proofs.FenceNodes.{line-node}
+use Rattle.md_safe.proofs.FenceNodes.{IsNil, inside-is, code_fence-node, math_fence-node, line-node}
 use Rattle.md_safe.proofs.BlockNodes.{is_hidden, hidden-prints, is_silent, silent-prints}
-use Rattle.md_safe.proofs.BlockNodes.{block-node}
+use Rattle.md_safe.proofs.ReadingNodes.{block-node}
+use Rattle.md_safe.proofs.RawElements.{IsInfo, code_tag}
 
 -- spans print nothing, or only their children, or one of these
 span-sorts : (name : Name) → not (may_stand Spans name) || (is_hidden name || (is_silent name
@@ -51,69 +49,46 @@ silent-spans : (name : Name) →
 silent-spans SpaceOrTab = refl
 silent-spans _ = refl
 
-span-any : (s : Setting) (t : At) (name : Name) →
-    Suits t.around.is_escaping t.around.in_image Spans →
-    may_stand Spans name ≡ true → IsFitAt s t name → IsGoodTarget t.found.resource →
-    (inner : List Piece) →
+span-any : (s : Setting) (t : At) (name : Name) → Suits t.around.is_escaping t.around.in_image
+    Spans → may_stand Spans name ≡ true → IsFitAt s t name → (inner : List Piece) →
     Inside s t Spans name inner → Prints s Escaped (prints s.context t name inner)
-span-any s t name suits stands fit good inner a =
-    let w = wide-escaped s.p t.around.in_image suits.1 in
-    let sorts = subst (λ b. not b || (is_hidden name || (is_silent name
-    || (is_text name || (is_shown name || (is_leaf name || is_autolink name))))) ≡ true) stands
-    (span-sorts name) in
-    either (is_hidden name) _ sorts
-    (λ is. subst (Prints s Escaped) (sym (hidden-prints s.context t name is inner))
-    (adds-nothing s.context.ending Escaped refl)) (λ c.
-    either (is_silent name) _ c
-    (λ is. subst (Prints s Escaped) (sym (silent-prints s.context t name is inner))
-    (inside-is s t Spans Spans name inner
-    (picked (is_silent name && may_stand Spans name) (content_of name Spans) Spans
-    (silent-spans name) (and_from (is_silent name) (may_stand Spans name) is stands)) a)) (λ c.
-    either (is_text name) _ c
-    (λ is. text-node s t Escaped name (narrow-wide s.p t.around.is_escaping t.around.in_image
-    Escaped suits.0 w) is fit inner) (λ c.
-    either (is_shown name) _ c
-    (λ is. span-node s t Spans name suits.0 w is (λ _ out. lie (sym out ∙ suits.1)) good inner a)
-    (λ c. either (is_leaf name) (is_autolink name) c
+span-any s t name suits stands fit inner a =
+    let sorts = subst (λ b. not b || (is_hidden name || (is_silent name || (is_text name
+    || (is_shown name || (is_leaf name || is_autolink name))))) ≡ true) stands (span-sorts name) in
+    either _ _ sorts (λ is. subst (Prints s Escaped) (sym (hidden-prints s.context t name is inner))
+    (adds-nothing refl)) (λ c. either _ _ c (λ is. subst (Prints s Escaped)
+    (sym (silent-prints s.context t name is inner)) (inside-is s t Spans Spans name inner (picked
+    (is_silent name && may_stand Spans name) (content_of name Spans) Spans (silent-spans name)
+    (and_from _ _ is stands)) a)) (λ c. either _ _ c (λ is. text-node s t Escaped name
+    (λ x h. h suits.0) is fit inner) (λ c. either _ _ c
+    (λ is. shown-in_image s t name suits.0 suits.1 is inner a) (λ c. either _ _ c
     (λ is. leaf-escaped s t name suits.0 is fit inner)
-    (λ is. autolink-node s t Spans name w is inner)))))
+    (λ is. autolink-in_image s t name suits.1 is inner)))))
 
 -- the info string
-info-node : (s : Setting) (escaping : Bool) → escaping ≡ true → (inner rest : List Piece) →
-    Prints s (λ x. escaping ≡ true → Escaped x) inner → Prints s IsNil rest
-    → Prints s (IsInCode s.p)
-    ((said (codes " class=\"language-") ++ (inner ++ said (codes "\""))) ++ rest)
-info-node s escaping e inner rest a b =
-    adds-append s.context.ending
-    (λ w. (v : List ℕ) × (w ≡ codes " class=\"language-" ++ (v ++ codes "\""))
-    × Escaped v) IsNil (IsInCode s.p)
-    (said (codes " class=\"language-") ++ (inner ++ said (codes "\""))) rest
-    (λ x y f g. subst (IsInCode s.p) (sym (ap (λ y. x ++ y) g ∙ append-nil x ∙ f.1))
-    (info-in_code s.p s.context.options s.test f.0 f.2)) (adds-append s.context.ending
-    (λ x. x ≡ codes " class=\"language-") (λ w. (v : List ℕ) × (w ≡ v ++ codes "\"") × Escaped v)
-    (λ w. (v : List ℕ) × (w ≡ codes " class=\"language-" ++ (v ++ codes "\"")) × Escaped v)
-    (said (codes " class=\"language-")) (inner ++ said (codes "\""))
-    (λ x w f g. (g.0, ap (λ x. x ++ w) f ∙ ap (λ w. codes " class=\"language-" ++ w) g.1, g.2))
-    (adds-text s.context.ending (λ x. x ≡ codes " class=\"language-") (codes " class=\"language-")
-    refl) (adds-append s.context.ending (λ x. escaping ≡ true →
-    Escaped x) (λ x. x ≡ codes "\"") (λ w. (v : List ℕ) × (w ≡ v ++ codes "\"") × Escaped v) inner
-    (said (codes "\"")) (λ v y f g. (v, ap (λ y. v ++ y) g, f e)) a
-    (adds-text s.context.ending (λ x. x ≡ codes "\"") (codes "\"") refl)))
-    b
+info-node : (s : Setting) (escaping : Bool) {inner rest : List Piece} → escaping ≡ true →
+    Prints s (λ x. escaping ≡ true → Escaped x) inner → Prints s IsNil rest → Prints s
+    (IsInfo code_tag) ((said (codes " class=\"language-") ++ (inner ++ said (codes "\""))) ++ rest)
+info-node s escaping e a b = adds-append
+    {f = λ w. (v : List ℕ) × (w ≡ codes " class=\"language-" ++ (v ++ codes "\"")) × Escaped v}
+    (λ x y f g. subst (IsInfo code_tag) (sym (ap (λ y. x ++ y) g ∙ append-nil x ∙ f.1))
+    (inr (f.0, refl, f.2, refl))) (adds-append {f = λ x. x ≡ codes " class=\"language-"}
+    {g = λ w. (v : List ℕ) × (w ≡ v ++ codes "\"") × Escaped v} (λ x w f g.
+    (g.0, ap (λ x. x ++ w) f ∙ ap (λ w. codes " class=\"language-" ++ w) g.1, g.2)) (adds-text refl)
+    (adds-append (λ v y f g. (v, ap (λ y. v ++ y) g, f e)) a
+    (adds-text {f = λ x. x ≡ codes "\""} refl))) b
 
-in_code-nil : (s : Setting) (rest : List Piece) → Prints s IsNil rest → Prints s (IsInCode s.p) rest
-in_code-nil s rest b = adds-weaker s.context.ending IsNil (IsInCode s.p) rest
-    (λ x e. subst (IsInCode s.p) (sym e) (bare-in_code s.p)) b
+in_code-nil : (s : Setting) {rest : List Piece} → Prints s IsNil rest →
+    Prints s (IsInfo code_tag) rest
+in_code-nil s b = adds-weaker (λ x e. inl e) b
 
 info_or_meta-node : (s : Setting) (t : At) (name : Name) → t.around.is_escaping ≡ true →
     may_stand InfoAndMeta name ≡ true → (inner rest : List Piece) →
-    Inside s t InfoAndMeta name inner →
-    Prints s (Here s t (content_past InfoAndMeta name)) rest
-    → Prints s (IsInCode s.p) (prints s.context t name inner ++ rest)
-info_or_meta-node s t CodeFencedFenceInfo e is inner rest a b =
-    info-node s t.around.is_escaping e inner rest a b
-info_or_meta-node s t CodeFencedFenceMeta e is inner rest a b = in_code-nil s rest b
-info_or_meta-node s t MathFlowFenceMeta e is inner rest a b = in_code-nil s rest b
+    Inside s t InfoAndMeta name inner → Prints s (Here s t (content_past InfoAndMeta name)) rest →
+    Prints s (IsInfo code_tag) (prints s.context t name inner ++ rest)
+info_or_meta-node s t CodeFencedFenceInfo e is inner rest a b = info-node s _ e a b
+info_or_meta-node s t CodeFencedFenceMeta e is inner rest a b = in_code-nil s b
+info_or_meta-node s t MathFlowFenceMeta e is inner rest a b = in_code-nil s b
 info_or_meta-node s t _ e is inner rest a b = lie is
 
 meta-node : (s : Setting) (t : At) (name : Name) → may_stand MetaAlone name ≡ true →
@@ -124,23 +99,20 @@ meta-node s t MathFlowFenceMeta is inner rest b = b
 meta-node s t _ is inner rest b = lie is
 
 -- the mark of a task that is done
-checked : (s : Setting) (in_image : Bool) (rest : List Piece) → Prints s IsNil rest →
+checked : (s : Setting) (in_image : Bool) {rest : List Piece} → Prints s IsNil rest →
     Prints s (IsDone in_image) (when (not in_image) (said (codes "checked=\"\" ")) ++ rest)
-checked s in_image rest b =
-    adds-append s.context.ending (IsDone in_image) IsNil (IsDone in_image)
-    (when (not in_image) (said (codes "checked=\"\" "))) rest
-    (λ x y f g. subst (IsDone in_image) (sym (ap (λ y. x ++ y) g ∙ append-nil x)) f) (by in_image) b
+checked s in_image b = adds-append (λ x y f g. subst (IsDone in_image)
+    (sym (ap (λ y. x ++ y) g ∙ append-nil x)) f) (by in_image) b
   where
-    by : (in_image : Bool) →
-        Prints s (IsDone in_image) (when (not in_image) (said (codes "checked=\"\" ")))
-    by true = adds-nothing s.context.ending (IsDone true) (inl refl)
-    by false = adds-text s.context.ending (IsDone false) (codes "checked=\"\" ") (inr (refl, refl))
+    by : (in_image : Bool) → Prints s
+        (IsDone in_image) (when (not in_image) (said (codes "checked=\"\" ")))
+    by true = adds-nothing (inl refl)
+    by false = adds-text (inr (refl, refl))
 
 done-node : (s : Setting) (t : At) (name : Name) → may_stand Done name ≡ true →
-    (inner rest : List Piece) →
-    Prints s IsNil rest → Prints s (IsDone t.around.in_image)
-    (prints s.context t name inner ++ rest)
-done-node s t GfmTaskListItemValueChecked is inner rest b = checked s t.around.in_image rest b
+    (inner rest : List Piece) → Prints s IsNil rest → Prints s
+    (IsDone t.around.in_image) (prints s.context t name inner ++ rest)
+done-node s t GfmTaskListItemValueChecked is inner rest b = checked s t.around.in_image b
 done-node s t _ is inner rest b = lie is
 
 -- a node among blocks is no part of another node
@@ -160,36 +132,38 @@ pub record Knows (s : Setting) (t : At) (content : Content) (name : Name) : Type
 
 -- a node that isn't transparent, and what is printed after it
 pub solid-node : (s : Setting) (t : At) (content : Content) (name : Name) →
-    is_transparent name ≡ false →
-    may_stand content name ≡ true → Knows s t content name → (inner rest : List Piece) →
-    Inside s t content name inner → Prints s (Here s t (content_past content name)) rest →
-    Prints s (Here s t content) (prints s.context t name inner ++ rest)
-solid-node s t Blocks name solid stands k inner rest a b =
-    adds-append s.context.ending s.p.holds s.p.holds s.p.holds (prints s.context t name inner)
-    rest (k.whole refl).both
-    (block-node s t name k.suits solid (not_part (is_part name || is_source name) stands) k.fit
-    (λ _. (k.whole refl).ids) (λ _. k.heading refl) k.resource inner a) b
-solid-node s t Spans name solid stands k inner rest a b =
-    adds-append s.context.ending Escaped Escaped Escaped (prints s.context t name inner) rest
-    escaped-append (span-any s t name k.suits stands k.fit k.resource inner a) b
-solid-node s t Strings name solid stands k inner rest a b =
-    adds-append s.context.ending (Here s t Strings) (Here s t Strings) (Here s t Strings)
-    (prints s.context t name inner) rest (λ x y f g e. escaped-append x y (f e) (g e))
-    (string-node s t Strings name (λ x h. h) stands k.fit inner a) b
-solid-node s t FirstFence name solid stands k inner rest a b =
-    code_fence-node s t name k.follows stands inner rest a b
-solid-node s t FirstMathFence name solid stands k inner rest a b =
-    math_fence-node s t name k.follows stands inner rest a b
-solid-node s t Chunks name solid stands k inner rest a b =
-    adds-append s.context.ending Escaped Escaped Escaped (prints s.context t name inner) rest
-    escaped-append (line-node s t name k.follows stands k.fit inner a) b
-solid-node s t InfoAndMeta name solid stands k inner rest a b =
-    info_or_meta-node s t name k.suits stands inner rest a b
+    is_transparent name ≡ false → may_stand content name ≡ true → Knows s t content name →
+    (inner rest : List Piece) → Inside s t content name inner →
+    Prints s (Here s t (content_past content name)) rest → Prints s
+    (Here s t content) (prints s.context t name inner ++ rest)
+solid-node s t Blocks name solid stands k inner rest a b = adds-append (k.whole refl).both
+    (block-node s t name solid (not_part (is_part name || is_source name) stands) inner (record {
+      escaping = k.suits.0;
+      outside = k.suits.1;
+      fit = k.fit;
+      resource = k.resource;
+      ids = λ _. (k.whole refl).ids;
+      heading = λ _. k.heading refl;
+      within = a;
+    })) b
+solid-node s t Spans name solid stands k inner rest a b = adds-append escaped-append
+    (span-any s t name k.suits stands k.fit inner a) b
+solid-node s t Strings name solid stands k inner rest a b = adds-append
+    (λ x y f g e. escaped-append x y (f e) (g e)) (string-node s t Strings name (λ x h. h) stands
+    k.fit inner a) b
+solid-node s t FirstFence name solid stands k inner rest a b = code_fence-node s t name k.follows
+    stands inner rest a b
+solid-node s t FirstMathFence name solid stands k inner rest a b = math_fence-node s t name
+    k.follows stands inner rest a b
+solid-node s t Chunks name solid stands k inner rest a b = adds-append escaped-append
+    (line-node s t name k.follows stands k.fit inner a) b
+solid-node s t InfoAndMeta name solid stands k inner rest a b = info_or_meta-node s t name k.suits
+    stands inner rest a b
 solid-node s t MetaAlone name solid stands k inner rest a b = meta-node s t name stands inner rest b
 solid-node s t Done name solid stands k inner rest a b = done-node s t name stands inner rest b
 solid-node s t Nothing name solid stands k inner rest a b = lie stands
-solid-node s t Sources name solid stands k inner rest a b =
-    adds-any s.context.ending (prints s.context t name inner ++ rest)
+solid-node s t Sources name solid stands k inner rest a b = adds-any s.context.ending
+    (prints s.context t name inner ++ rest)
 
 -- what children print before any other pieces
 abbrev pub Before : Setting → At → Content → Name → List Piece → Type 0
@@ -213,42 +187,35 @@ through-node s t content _ is inner rest a b = lie is
 
 -- what a node that isn't transparent holds
 pub inside-alone : (s : Setting) (t : At) (content : Content) (name : Name) →
-    may_stand content name ≡ true →
-    IsFitAt s t name → IsBuilt s.context.bytes (content_of name content) t.children →
-    (inner : List Piece) →
+    may_stand content name ≡ true → IsFitAt s t name → IsBuilt s.context.bytes
+    (content_of name content) t.children → (inner : List Piece) →
     Before s t (content_of name content) name inner → Inside s t content name inner
 inside-alone s t content name stands fit built inner a =
     let around = inside s.context.options (is_loose t.children) name t.around in
     let here = Holds s.p around.is_escaping around.in_image (content_of name content) in
     let after = Holds s.p around.is_escaping around.in_image
     (content_after (content_of name content) t.children) in
-    subst (Prints s here) (append-nil inner)
-    (a [] (adds-nothing s.context.ending after (holds-nothing s.p around.is_escaping around.in_image
-    (content_after (content_of name content) t.children) (later-inside s.context.bytes content name
-    t.place.start t.place.end t.children stands fit built))))
+    subst (Prints s here) (append-nil inner) (a [] (adds-nothing (holds-nothing s.p
+    around.is_escaping around.in_image (content_after (content_of name content) t.children)
+    (later-inside s.context.bytes content name t.place.start t.place.end t.children stands fit
+    built))))
 
 -- a node, and what is printed after it
 pub any-node : (s : Setting) (t : At) (content : Content) (name : Name) →
     (is_transparent name || may_stand content name) ≡ true → Knows s t content name →
-    (inner rest : List Piece)
-    →
-    IsBuilt s.context.bytes (cond (is_transparent name) content (content_of name content))
-    t.children
-    → Before s t (cond (is_transparent name) content (content_of name content)) name inner
-    → Prints s (Here s t
-    (cond (is_transparent name) (content_after content t.children) (content_past content name)))
-    rest → Prints s (Here s t content) (prints s.context t name inner ++ rest)
+    (inner rest : List Piece) → IsBuilt s.context.bytes (cond (is_transparent name) content
+    (content_of name content)) t.children → Before s t (cond (is_transparent name) content
+    (content_of name content)) name inner → Prints s (Here s t (cond (is_transparent name)
+    (content_after content t.children) (content_past content name))) rest →
+    Prints s (Here s t content) (prints s.context t name inner ++ rest)
 any-node s t content name stands k inner rest = by (is_transparent name) refl
   where
-    by : (through : Bool) → is_transparent name ≡ through
-        → IsBuilt s.context.bytes (cond through content (content_of name content)) t.children →
-        Before s t (cond through content (content_of name content)) name inner
-        → Prints s (Here s t
+    by : (through : Bool) → is_transparent name ≡ through → IsBuilt s.context.bytes
+        (cond through content (content_of name content)) t.children →
+        Before s t (cond through content (content_of name content)) name inner → Prints s (Here s t
         (cond through (content_after content t.children) (content_past content name))) rest →
         Prints s (Here s t content) (prints s.context t name inner ++ rest)
-    by true e built a b = through-node s t content name e inner rest a b
+    by true e built a b = through-node s t _ _ e _ _ a b
     by false e built a b =
-        let may : may_stand content name ≡ true =
-        second (is_transparent name) (may_stand content name) e stands in
-        solid-node s t content name e may k inner rest
-        (inside-alone s t content name may k.fit built inner a) b
+        let may : may_stand content name ≡ true = second _ _ e stands in
+        solid-node s t _ _ e may k _ _ (inside-alone s t _ _ may k.fit built _ a) b

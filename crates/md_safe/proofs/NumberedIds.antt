@@ -1,12 +1,12 @@
 -- Ids by number: which number each has is read back of it.
 use Rattle.std.proofs.Common.{◌≡◌, ℕ, ◌<◌, ◌^◌, ◌==◌, ◌/◌, ◌%◌, zero, suc, true, false, not, ◌&&◌}
-use Rattle.std.proofs.Common.{◌||◌, cond, List, [], ◌∷◌, ◌++◌, refl, sym, ap, ◌∙◌, subst, arith}
+use Rattle.std.proofs.Common.{cond, List, [], ◌∷◌, ◌++◌, refl, sym, ap, ◌∙◌, subst, arith}
 use Rattle.std.proofs.Common.{append_assoc, codes}
 use Rattle.std.specs.Prelude.{Option, Some, None}
 use Rattle.std.specs.Option.{option_map_or}
 use Rattle.std.specs.List.{list_all}
 use Rattle.std.specs.Fmt.{decimal, digits, digits_onto, digit_glyph}
-use Rattle.std.proofs.lemmas.Bool.{and_parts, and_from, cond_both, agree_below_at}
+use Rattle.std.proofs.lemmas.Bool.{and_parts, and_from, cond_both}
 use Rattle.std.proofs.lemmas.Fmt.{decimal_injective}
 use Rattle.std.proofs.lemmas.List.{append_cancel_left}
 use Rattle.std.proofs.lemmas.List.Folds.{list_all-append}
@@ -22,29 +22,10 @@ use Rattle.md_content.specs.Built.{is_digit}
 use Rattle.md_safe.proofs.Cases.{all-weaker}
 use Rattle.md_safe.specs.Apart.{prefix_of}
 use Rattle.md_safe.proofs.Calls.{prefix_given, id_prefix}
-use Rattle.md_safe.proofs.Texts.{digit-plain}
+use Rattle.md_safe.proofs.Texts.{digit-plain, glyph-digit, decimal-digits}
 use Rattle.md_text.proofs.ProtocolLemmas.{no_and}
 
 -- ---- what decimal writes
-glyph-digit : (d : ℕ) → d < 10 → is_digit (digit_glyph false d) ≡ true
-glyph-digit d l = agree_below_at (λ d. is_digit (digit_glyph false d)) (λ d. true) 10 d refl l
-
-onto-digits : (k n : ℕ) (acc : List ℕ) → list_all is_digit acc ≡ true →
-    list_all is_digit (digits_onto k 10 false n acc) ≡ true
-onto-digits zero n acc h = h
-onto-digits (suc k) n acc h =
-    let l : n % 10 < 10 = omega arith in
-    let first : list_all is_digit (digit_glyph false (n % 10) ∷ acc) ≡ true =
-    and_from (is_digit (digit_glyph false (n % 10))) (list_all is_digit acc)
-    (glyph-digit (n % 10) l) h in
-    cond_both (n / 10 == 0) (digit_glyph false (n % 10) ∷ acc)
-    (digits_onto k 10 false (n / 10) (digit_glyph false (n % 10) ∷ acc))
-    (λ x. list_all is_digit x ≡ true)
-    (λ _. first) (λ _. onto-digits k (n / 10) (digit_glyph false (n % 10) ∷ acc) first)
-
-pub decimal-digits : (n : ℕ) → list_all is_digit (decimal n) ≡ true
-unfolding digits
-decimal-digits n = onto-digits 64 n [] refl
 
 -- the last byte of a text, or 0
 abbrev last_byte : List ℕ → ℕ
@@ -58,18 +39,16 @@ EndsInDigit x = is_digit (last_byte x) ≡ true
 onto-ends : (k n c : ℕ) (acc : List ℕ) → EndsInDigit (c ∷ acc) →
     EndsInDigit (digits_onto k 10 false n (c ∷ acc))
 onto-ends zero n c acc h = h
-onto-ends (suc k) n c acc h =
-    cond_both (n / 10 == 0) (digit_glyph false (n % 10) ∷ c ∷ acc)
-    (digits_onto k 10 false (n / 10) (digit_glyph false (n % 10) ∷ c ∷ acc)) EndsInDigit
-    (λ _. h) (λ _. onto-ends k (n / 10) (digit_glyph false (n % 10)) (c ∷ acc) h)
+onto-ends (suc k) n c acc h = cond_both (n / 10 == 0) (digit_glyph false (n % 10) ∷ c ∷ acc)
+    (digits_onto k 10 false (n / 10) (digit_glyph false (n % 10) ∷ c ∷ acc)) EndsInDigit (λ _. h)
+    (λ _. onto-ends k _ _ _ h)
 
 onto-first : (k n : ℕ) → EndsInDigit (digits_onto (suc k) 10 false n [])
 onto-first k n =
     let l : n % 10 < 10 = omega arith in
-    cond_both (n / 10 == 0) (digit_glyph false (n % 10) ∷ [])
-    (digits_onto k 10 false (n / 10) (digit_glyph false (n % 10) ∷ [])) EndsInDigit
-    (λ _. glyph-digit (n % 10) l)
-    (λ _. onto-ends k (n / 10) (digit_glyph false (n % 10)) [] (glyph-digit (n % 10) l))
+    cond_both (n / 10 == 0) (digit_glyph false (n % 10) ∷ []) (digits_onto k 10 false (n / 10)
+    (digit_glyph false (n % 10) ∷ [])) EndsInDigit (λ _. glyph-digit _ l)
+    (λ _. onto-ends k _ _ _ (glyph-digit _ l))
 
 decimal-ends : (n : ℕ) → EndsInDigit (decimal n)
 unfolding digits
@@ -83,9 +62,7 @@ last-append (b ∷ c ∷ x) y h = last-append (c ∷ x) y h
 
 -- ---- what is read back
 digit-no_and : (b : ℕ) → is_digit b ≡ true → no_and b ≡ true
-digit-no_and b h =
-    (and_parts (not ((b == 0) || (b == 60) || (b == 62) || (b == 34))) (not (b == 38))
-    (digit-plain b h)).1
+digit-no_and b h = (and_parts _ _ (digit-plain b h)).1
 
 digits-no_and : (x : List ℕ) → list_all is_digit x ≡ true → list_all no_and x ≡ true
 digits-no_and x h = all-weaker is_digit no_and digit-no_and x h
@@ -100,8 +77,7 @@ plain-back (b ∷ x) h =
 
 no_and-append : (x y : List ℕ) → list_all no_and x ≡ true → list_all no_and y ≡ true →
     list_all no_and (x ++ y) ≡ true
-no_and-append x y h g =
-    list_all-append no_and x y ∙ and_from (list_all no_and x) (list_all no_and y) h g
+no_and-append x y h g = list_all-append no_and x y ∙ and_from _ _ h g
 
 -- the prefix, read back
 abbrev pub back_prefix : CompileOptions → List ℕ
@@ -179,8 +155,7 @@ same-call options n m k l hn hm hk hl e =
 pub note-no_call : (options : CompileOptions) (n m k : ℕ) → back_prefix options ++ note_tail n
     ≡ back_prefix options ++ call_tail m k → ⊥
 note-no_call options n m k e =
-    let tails : note_tail n ≡ call_tail m k =
-    append_cancel_left (back_prefix options) (note_tail n) (call_tail m k) e in
+    let tails : note_tail n ≡ call_tail m k = append_cancel_left (back_prefix options) _ _ e in
     cc tails
 
 pub label-no_digit : (x : List ℕ) → codes "footnote-label" ≡ x → EndsInDigit x → ⊥

@@ -3,7 +3,7 @@ use Rattle.std.proofs.Common.{◌≡◌, ℕ, List, ◌++◌, refl, sym, ap, ◌
 use Rattle.std.proofs.Common.{option_map, zero, suc}
 use Rattle.md_safe.specs.Token.{Token}
 use Rattle.md_safe.specs.TokenizerStates.{State, Step, Goes, Stops, Stuck}
-use Rattle.md_safe.specs.Tokenizer.{step, run, after_step, IsRun}
+use Rattle.md_safe.specs.Tokenizer.{run, after_step, IsRun}
 
 pub map_none : (out x : List Token) → option_map (λ later. out ++ later) None ≡ Some x → ⊥
 map_none out x e = cc
@@ -16,25 +16,21 @@ map_some out (Some y) x e = (y, refl, part (out ++ y) x e)
     part : (y x : List Token) → Some y ≡ Some x → x ≡ y
     part y x e = cc
 
-same_after : (n m : ℕ) →
-    ((state : State) (input : List ℕ) (x y : List Token) → run n state input ≡ Some x →
-    run m state input ≡ Some y → x ≡ y) →
-    (s : Step) (x y : List Token) → after_step (run n) s ≡ Some x →
-    after_step (run m) s ≡ Some y → x ≡ y
+same_after : (n m : ℕ) → ((state : State) (input : List ℕ) (x y : List Token) → run n state input
+    ≡ Some x → run m state input ≡ Some y → x ≡ y) → (s : Step) (x y : List Token) →
+    after_step (run n) s ≡ Some x → after_step (run m) s ≡ Some y → x ≡ y
 same_after n m go (Goes out state rest) x y e f =
-    let p = map_some out (run n state rest) x e in
-    let q = map_some out (run m state rest) y f in
+    let p = map_some _ _ x e in
+    let q = map_some _ _ y f in
     p.2 ∙ ap (λ later. out ++ later) (go state rest p.0 q.0 p.1 q.1) ∙ sym q.2
 same_after n m go (Stops out) x y e f = cc
 same_after n m go Stuck x y e f = cc
 
 same_run : (n m : ℕ) (state : State) (input : List ℕ) (x y : List Token) →
-    run n state input ≡ Some x →
-    run m state input ≡ Some y → x ≡ y
+    run n state input ≡ Some x → run m state input ≡ Some y → x ≡ y
 same_run zero m state input x y e f = cc
 same_run (suc n) zero state input x y e f = cc
-same_run (suc n) (suc m) state input x y e f =
-    same_after n m (same_run n m) (step state input) x y e f
+same_run (suc n) (suc m) state input x y e f = same_after n m (same_run n m) _ x y e f
 
 pub one_run : (state : State) (input : List ℕ) (x y : List Token) → IsRun state input x →
     IsRun state input y → x ≡ y

@@ -24,32 +24,29 @@ use Rattle.md_safe.proofs.SafeTokens.{links-pass, images-pass}
 -- `<!doctype html>`
 pub doctype : (r : List ℕ) (t : List Token) → IsRun Data r t →
     IsRun Data (codes "<!doctype html>" ++ r) (Doctype (codes "html") ∷ t)
-doctype r t h =
-    quiet refl (quiet refl (quiet refl (quiet refl (quiet refl (quiet refl (quiet refl (quiet refl
-    (loud (Doctype (codes "html")) refl h))))))))
+doctype r t h = quiet refl (quiet refl (quiet refl (quiet refl (quiet refl
+    (quiet refl (quiet refl (quiet refl (loud _ refl h))))))))
 
 pub title_begins : (r : List ℕ) (t : List Token) → IsRun Rcdata r t →
     IsRun Data (codes "<title>" ++ r) (plain_tag (codes "title") ∷ t)
-title_begins r t h =
-    quiet refl (quiet refl (quiet refl (quiet refl (quiet refl (quiet refl (quiet refl
-    (loud (plain_tag (codes "title")) refl h)))))))
+title_begins r t h = quiet refl (quiet refl (quiet refl (quiet refl
+    (quiet refl (quiet refl (quiet refl (loud _ refl h)))))))
 
 pub title_ends : (r : List ℕ) (t : List Token) → IsRun Data r t →
     IsRun Rcdata (codes "</title>" ++ r) (EndTag (codes "title") ∷ t)
-title_ends r t h =
-    quiet refl (quiet refl (quiet refl (quiet refl (quiet refl (quiet refl (quiet refl (quiet refl
-    (loud (EndTag (codes "title")) refl h))))))))
+title_ends r t h = quiet refl (quiet refl (quiet refl (quiet refl (quiet refl
+    (quiet refl (quiet refl (quiet refl (loud _ refl h))))))))
 
 pub page-runs : (title : List ℕ) (body : Forest) → is_escaped title ≡ true → is_forest body ≡ true →
     IsTokenized (page_text title (written body)) (page_tokens (seen title) body)
 page-runs title body e h =
-    let ending : List Token =
-    EndTag (codes "body") ∷ EndTag (codes "html") ∷ Character 10 ∷ EndOfFile ∷ [] in
+    let ending : List Token = EndTag (codes "body") ∷ EndTag (codes "html") ∷ Character 10
+    ∷ EndOfFile ∷ [] in
     let end_text = codes "</body></html>\n" in
-    let ends : IsTokenized end_text ending =
-    end-runs (codes "body") (codes "</html>\n") (EndTag (codes "html") ∷ Character 10 ∷ EndOfFile
-    ∷ []) refl (end-runs (codes "html") (codes "\n") (Character 10 ∷ EndOfFile ∷ []) refl
-    (loud (Character 10) refl record { steps = 1; emits = refl })) in
+    let ends : IsTokenized end_text ending = end-runs (codes "body") (codes "</html>\n")
+    (EndTag (codes "html") ∷ Character 10 ∷ EndOfFile ∷ []) refl (end-runs (codes "html")
+    (codes "\n") (Character 10 ∷ EndOfFile ∷ []) refl (loud (Character 10) refl
+    record { steps = 1; emits = refl })) in
     let body_text = with_line_feeds (written body ++ end_text) in
     let rest = codes "</title></head><body>" ++ (written body ++ end_text) in
     let after = tokens body ++ ending in
@@ -60,25 +57,22 @@ page-runs title body e h =
     let headed = end-runs (codes "head") (codes "<body>" ++ body_text) after_head refl bodied in
     let title_tokens = map Character (seen title) ++ (EndTag (codes "title") ∷ after_title) in
     let titled = rcdata-runs (with_line_feeds title) (line_feeds-escaped title e)
-    (codes "</title></head><body>" ++ body_text) (EndTag (codes "title") ∷ after_title)
-    (title_ends (codes "</head><body>" ++ body_text) after_title headed) in
+    (codes "</title></head><body>" ++ body_text) (EndTag (codes "title") ∷ after_title) (title_ends
+    (codes "</head><body>" ++ body_text) after_title headed) in
     let lines = with_line_feeds (title ++ rest) in
-    let from_title = along Rcdata (with_line_feeds title ++ with_line_feeds rest) lines title_tokens
-    title_tokens (sym (line_feeds-append title rest refl)) refl titled in
+    let from_title = along Rcdata _ _ _ _ (sym (line_feeds-append title rest refl)) refl titled in
     let charset : Attribute = record { name = codes "charset"; value = codes "utf-8" } in
     let at_title = title_begins lines title_tokens from_title in
     let meta = void-runs (codes "meta") (charset ∷ []) (codes "<title>" ++ lines)
     (plain_tag (codes "title") ∷ title_tokens) refl refl at_title in
     let meta_text = codes "<meta charset=\"utf-8\" /><title>" ++ lines in
-    let meta_tokens : List Token =
-    StartTag (codes "meta") (charset_seen ∷ []) true ∷ plain_tag (codes "title") ∷ title_tokens in
+    let meta_tokens : List Token = StartTag (codes "meta") (charset_seen ∷ []) true ∷ plain_tag
+    (codes "title") ∷ title_tokens in
     let head = element-runs (codes "head") [] meta_text meta_tokens refl refl meta in
-    let html =
-    element-runs (codes "html") [] (codes "<head>" ++ meta_text) (plain_tag (codes "head")
-    ∷ meta_tokens) refl refl head in
-    doctype (codes "\n<html><head>" ++ meta_text)
-    (Character 10 ∷ plain_tag (codes "html") ∷ plain_tag (codes "head")
-    ∷ meta_tokens) (loud (Character 10) refl html)
+    let html = element-runs (codes "html") [] (codes "<head>" ++ meta_text)
+    (plain_tag (codes "head") ∷ meta_tokens) refl refl head in
+    doctype (codes "\n<html><head>" ++ meta_text) (Character 10 ∷ plain_tag (codes "html")
+    ∷ plain_tag (codes "head") ∷ meta_tokens) (loud (Character 10) refl html)
 
 -- ---- a safe body
 

@@ -12,8 +12,7 @@ use Rattle.md_safe.specs.Tokens.{tokens}
 use Rattle.md_safe.specs.PageTokens.{charset, page_tokens, plain_tag}
 use Rattle.md_safe.specs.Contents.{Flow, is_contained}
 use Rattle.md_safe.specs.Node.{Nodes, Open, Entry, Element, InHead, InText, InBody, Parser, Mode}
-use Rattle.md_safe.specs.Node.{with_character}
-use Rattle.md_safe.specs.Node.{Empty as NoNode}
+use Rattle.md_safe.specs.Node.{with_character, Empty as NoNode}
 use Rattle.md_safe.specs.Construction.{step, run}
 use Rattle.md_safe.specs.Built.{at, open_at, put, with_characters, IsPlace, Builds, IsBuiltAsRead}
 use Rattle.md_safe.specs.Page.{constructed, document_of, page_document}
@@ -56,20 +55,17 @@ constructed-after doctype p q xs ys e =
     ∙ ap (λ r. option_and_then (λ next. constructed doctype next ys) r) e
 
 -- characters in "text"
-text-says : (mode : Mode) (bytes : List ℕ) (node : Open) (others : List Open)
-    (active : List Entry) (created : ℕ) →
-    list_all is_character bytes ≡ true →
-    run (at (InText mode) (node ∷ others) active created) (map Character bytes)
-    ≡ Some (at (InText mode)
+text-says : (mode : Mode) (bytes : List ℕ) (node : Open) (others : List Open) (active : List Entry)
+    (created : ℕ) → list_all is_character bytes ≡ true → run
+    (at (InText mode) (node ∷ others) active created) (map Character bytes) ≡ Some (at (InText mode)
     (record node { children = with_characters node.children bytes } ∷ others) active created)
 text-says mode [] node others active created h = refl
 text-says mode (byte ∷ bytes) node others active created h =
-    let parts = and_parts (is_character byte) (list_all is_character bytes) h in
+    let parts = and_parts _ _ h in
     let next : Open = record node { children = with_character node.children byte } in
     after-one (at (InText mode) (node ∷ others) active created)
-    (at (InText mode) (next ∷ others) active created)
-    (Character byte) (map Character bytes) (by (byte == 0) parts.0)
-    ∙ text-says mode bytes next others active created parts.1
+    (at (InText mode) (next ∷ others) active created) (Character byte) (map Character bytes)
+    (by (byte == 0) parts.0) ∙ text-says mode bytes next others active created parts.1
   where
     by : (nul : Bool) → not nul ≡ true → cond nul None (Some (at (InText mode) (record node {
       children = with_character node.children byte;

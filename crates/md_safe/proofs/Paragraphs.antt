@@ -1,17 +1,16 @@
 -- The last paragraph of flow content takes the ways back before its end.
-use Rattle.std.proofs.Common.{◌≡◌, ℕ, Bool, ◌==◌, true, false, ◌&&◌, List, [], ◌∷◌, ◌++◌, refl, sym}
-use Rattle.std.proofs.Common.{ap, ◌∙◌, subst, append_assoc, append-nil, codes}
+use Rattle.std.proofs.Common.{◌≡◌, ℕ, Bool, ◌==◌, true, false, List, [], ◌∷◌, ◌++◌, refl, sym, ap}
+use Rattle.std.proofs.Common.{◌∙◌, subst, append_assoc, append-nil, codes}
 use Rattle.std.proofs.lemmas.Bool.{and_parts, and_from}
 use Rattle.md_base.proofs.Lies.{lie}
-use Rattle.md_text.specs.Bytes.{is_one_of}
 use Rattle.md_text.specs.Laws.{is_line_ends}
 use Rattle.md_text.specs.Html.{Attribute, Forest, Empty, Text, Void, Element, is_forest, is_tag}
-use Rattle.md_text.specs.Html.{elements, void_tags, written, written_attributes, opening_tag}
-use Rattle.md_text.specs.Html.{closing_tag, any_attribute}
+use Rattle.md_text.specs.Html.{elements, written, written_attributes, opening_tag, closing_tag}
+use Rattle.md_text.specs.Html.{any_attribute}
 use Rattle.md_text.proofs.HtmlReading.{all-any}
 use Rattle.std.specs.List.{list_all}
 use Rattle.md_text.proofs.HtmlPut.{IsMade, made-before}
-use Rattle.md_safe.specs.Contents.{Content, Flow, Phrasing, held_in, voids_in, is_contained}
+use Rattle.md_safe.specs.Contents.{Content, Flow, Phrasing, held_in, is_contained}
 use Rattle.md_safe.proofs.Stands.{Stands, stands-join, stands-nothing, stands-text, turns-tag}
 use Rattle.md_safe.proofs.Stands.{is_held}
 
@@ -35,16 +34,15 @@ record Cut (nested : Bool) (x : List ℕ) (f : Forest) (y : List ℕ) : Type 0 w
 
 -- something before a forest that is cut
 cut-after : (nested : Bool) (x front : List ℕ) (f rest : Forest) (y : List ℕ) →
-    Stands nested Flow front →
-    written f ≡ front ++ written rest →
-    Cut nested x rest y → Cut nested x f (front ++ y)
+    Stands nested Flow front → written f ≡ front ++ written rest → Cut nested x rest y →
+    Cut nested x f (front ++ y)
 cut-after nested x front f rest y stands whole c = record {
   front = front ++ c.front;
   name = c.name;
   attributes = c.attributes;
   children = c.children;
   rest = c.rest;
-  front_stands = stands-join nested Flow front c.front stands c.front_stands;
+  front_stands = stands-join front c.front stands c.front_stands;
   tag = c.tag;
   held = c.held;
   forest = c.forest;
@@ -83,40 +81,31 @@ stands-forest nested content f h c = record {
   contained = c;
 }
 
-cuts : (nested : Bool) (x : List ℕ) →
-    IsMade x (λ f y. is_contained nested Flow f ≡ true → Cut nested x f y)
+cuts : (nested : Bool) (x : List ℕ) → IsMade x (λ f y. is_contained nested Flow f ≡ true → Cut
+    nested x f y)
 cuts nested x = record {
   texts = λ bytes rest y escaped later contained. cut-after nested x bytes (Text bytes rest) rest y
-      (stands-text nested Flow bytes escaped refl) refl (later contained);
-  voids = λ name attributes rest y tag later contained.
-      (let parts =
-      and_parts (is_one_of (voids_in Flow) name) (is_contained nested Flow rest) contained in
+      (stands-text escaped refl) refl (later contained);
+  voids = λ name attributes rest y tag later contained. (let parts = and_parts _ _ contained in
       cut-after nested x (written (Void name attributes Empty)) (Void name attributes rest) rest y
-      (stands-forest nested Flow (Void name attributes Empty) (and_from
-      (is_tag void_tags name attributes) true tag refl)
-      (and_from (is_one_of (voids_in Flow) name) true parts.0 refl))
-      (void-whole name attributes rest) (later parts.1));
-  rests = λ name attributes children rest y tag forest later contained.
-      (let parts =
-      and_parts (is_held nested Flow name children) (is_contained nested Flow rest) contained in
+      (stands-forest nested Flow (Void name attributes Empty) (and_from _ _ tag refl)
+      (and_from _ _ parts.0 refl)) (void-whole name attributes rest) (later parts.1));
+  rests = λ name attributes children rest y tag forest later contained. (let parts = and_parts _ _
+      contained in
       cut-after nested x (opening_tag name attributes ++ written children ++ closing_tag name)
-      (Element name attributes children rest) rest y
-      (subst (Stands nested Flow) (element-whole name attributes children Empty ∙ append-nil _)
-      (stands-forest nested Flow (Element name attributes children Empty)
-      (and_from (is_tag elements name attributes && is_forest children) true
-      (and_from (is_tag elements name attributes) (is_forest children) tag forest) refl)
-      (and_from (is_held nested Flow name children) true parts.0 refl)))
-      (element-whole name attributes children rest) (later parts.1));
-  insides = λ name attributes children rest tag forest rests contained.
-      (let parts =
-      and_parts (is_held nested Flow name children) (is_contained nested Flow rest) contained in
+      (Element name attributes children rest) rest y (subst (Stands nested Flow) (element-whole name
+      attributes children Empty ∙ append-nil _) (stands-forest nested Flow
+      (Element name attributes children Empty) (and_from _ _ (and_from _ _ tag forest) refl)
+      (and_from _ _ parts.0 refl))) (element-whole name attributes children rest) (later parts.1));
+  insides = λ name attributes children rest tag forest rests contained. (let parts = and_parts _ _
+      contained in
       record {
         front = [];
         name = name;
         attributes = attributes;
         children = children;
         rest = rest;
-        front_stands = stands-nothing nested Flow;
+        front_stands = stands-nothing;
         tag = tag;
         held = parts.0;
         forest = forest;
@@ -185,32 +174,28 @@ paragraph-takes nested before endings x h s r =
     let open_tag : List ℕ = opening_tag cut.name cut.attributes in
     let close : List ℕ = 47 ∷ (cut.name ++ (62 ∷ [])) in
     let left : before ++ (codes "</p>" ++ endings)
-    ≡ (cut.front ++ (open_tag ++ written cut.children)) ++ (60 ∷ (close ++ written cut.rest)) =
-    sym (append_assoc before (codes "</p>") endings) ∙ (sym s.reading.written_so ∙ (cut.whole
+    ≡ (cut.front ++ (open_tag ++ written cut.children)) ++ (60 ∷ (close ++ written cut.rest)) = sym
+    (append_assoc before (codes "</p>") endings) ∙ (sym s.reading.written_so ∙ (cut.whole
     ∙ cut-regrouped cut.front open_tag (written cut.children) (60 ∷ close) (written cut.rest))) in
     let right : before ++ (32 ∷ (x ++ (codes "</p>" ++ endings)))
     ≡ (cut.front ++ (open_tag ++ written cut.children))
-    ++ (32 ∷ (x ++ (60 ∷ (close ++ written cut.rest)))) =
-    sym (regrouped before (32 ∷ x) endings) ∙ (cut.made ∙ made-regrouped cut.front open_tag
-    (written cut.children) (32 ∷ x) (60 ∷ close) (written cut.rest)) in
-    let ends : 47 ∷ 112 ∷ 62 ∷ endings ≡ close ++ written cut.rest =
-    same-end before (cut.front ++ (open_tag ++ written cut.children)) (47 ∷ 112 ∷ 62 ∷ endings)
+    ++ (32 ∷ (x ++ (60 ∷ (close ++ written cut.rest)))) = sym (regrouped before (32 ∷ x) endings)
+    ∙ (cut.made ∙ made-regrouped cut.front open_tag (written cut.children) (32 ∷ x) (60 ∷ close)
+    (written cut.rest)) in
+    let ends : 47 ∷ 112 ∷ 62 ∷ endings ≡ close ++ written cut.rest = same-end before
+    (cut.front ++ (open_tag ++ written cut.children)) (47 ∷ 112 ∷ 62 ∷ endings)
     (close ++ written cut.rest) x left right in
-    let later : 112 ∷ 62 ∷ endings ≡ (cut.name ++ (62 ∷ [])) ++ written cut.rest =
-    rest_of ends in
-    let is : cut.name ≡ codes "p" =
-    paragraph-name nested cut.name cut.children endings (written cut.rest)
-    (later ∙ append_assoc cut.name (62 ∷ []) (written cut.rest)) cut.held in
-    let inside : Stands nested Phrasing (written cut.children) =
-    stands-forest nested Phrasing cut.children cut.forest
-    (subst (λ name. is_held nested Flow name cut.children ≡ true) is cut.held) in
-    subst (Stands nested Flow) (sym cut.made)
-    (stands-join nested Flow cut.front _ cut.front_stands (stands-join nested Flow
+    let later : 112 ∷ 62 ∷ endings ≡ (cut.name ++ (62 ∷ [])) ++ written cut.rest = rest_of ends in
+    let is : cut.name ≡ codes "p" = paragraph-name nested cut.name cut.children endings
+    (written cut.rest) (later ∙ append_assoc cut.name (62 ∷ []) (written cut.rest)) cut.held in
+    let inside : Stands nested Phrasing (written cut.children) = stands-forest nested Phrasing
+    cut.children cut.forest (subst (λ name. is_held nested Flow name cut.children ≡ true) is
+    cut.held) in
+    subst (Stands nested Flow) (sym cut.made) (stands-join cut.front _ cut.front_stands (stands-join
     (open_tag ++ (written cut.children ++ (32 ∷ x)) ++ closing_tag cut.name) (written cut.rest)
-    (subst (Stands nested Flow)
-    (sym (append_assoc open_tag (written cut.children ++ (32 ∷ x)) (closing_tag cut.name)))
-    (turns-tag nested Phrasing Flow cut.name (ap (λ name. held_in nested Flow name) is)
-    cut.attributes cut.tag (and_parts (list_all any_attribute cut.attributes) true
-    (all-any (Void [] cut.attributes Empty))).0 (written cut.children ++ (32 ∷ x))
-    (stands-join nested Phrasing (written cut.children) (32 ∷ x) inside r)))
+    (subst (Stands nested Flow) (sym (append_assoc open_tag (written cut.children ++ (32 ∷ x))
+    (closing_tag cut.name))) (((turns-tag Phrasing {name = cut.name}
+    (ap (λ name. held_in nested Flow name) is)).tag cut.attributes cut.tag (and_parts
+    (list_all any_attribute cut.attributes) true (all-any (Void [] cut.attributes Empty))).0).turn
+    (written cut.children ++ (32 ∷ x)) (stands-join (written cut.children) (32 ∷ x) inside r)))
     (stands-forest nested Flow cut.rest cut.rest_forest cut.rest_contained)))

@@ -1,17 +1,13 @@
 -- Phrasing content is built as it is read: texts, void tags, formatting elements and others,
 -- without a link in a link.
-use Rattle.std.proofs.Common.{◌≡◌, inl, inr, ℕ, ◌≤◌, suc, Bool, true, false, not, ◌&&◌, List, ◌∷◌}
-use Rattle.std.proofs.Common.{refl, ◌∙◌, map, codes, arith, Some}
-use Rattle.std.specs.Option.{option_map_or}
+use Rattle.std.proofs.Common.{◌≡◌, inl, inr, ℕ, ◌≤◌, suc, Bool, true, false, List, ◌∷◌, refl, ◌∙◌}
+use Rattle.std.proofs.Common.{map, codes, arith, Some}
 use Rattle.std.proofs.lemmas.Bool.{and_parts}
-use Rattle.md_text.specs.Bytes.{is_one_of}
 use Rattle.md_text.specs.Html.{Attribute, Forest, Empty, Text, Void, Element}
-use Rattle.md_text.specs.Html.{begins_with_text}
 use Rattle.md_text.specs.References.{is_escaped}
-use Rattle.md_base.specs.Identifier.{is_nonempty}
 use Rattle.md_safe.specs.Token.{Character, StartTag, TokenAttribute}
 use Rattle.md_safe.specs.Tokens.{seen, seen_attributes, tokens}
-use Rattle.md_safe.specs.Contents.{Content, elements_in, held_in, voids_in, may_say, is_contained}
+use Rattle.md_safe.specs.Contents.{Content, elements_in, is_contained}
 use Rattle.md_safe.specs.Node.{Nodes, Entry, with_element, Empty as NoNode}
 use Rattle.md_safe.specs.Formatting.{push}
 use Rattle.md_safe.specs.Construction.{step}
@@ -26,13 +22,13 @@ use Rattle.md_safe.proofs.PhrasingRules.{Rule, here-formatting, here-within, is_
 use Rattle.md_safe.proofs.PhrasingRules.{void-in}
 
 -- after what was inserted
-pub here-after : (x : Position) (children : Nodes) (left : List Entry) (more : ℕ) (free : Bool) →
-    Keeps x.active left → x.created ≤ more → Here x free →
-    Here (with_children x children left more) free
-here-after x children left more free kept later here = record {
+pub here-after : {x : Position} {children : Nodes} {left : List Entry} {more : ℕ} {free : Bool} →
+    Keeps x.active left → x.created ≤ more → Here x free → Here
+    (with_children x children left more) free
+here-after {x = x} {children = children} {left = left} {more = more} kept later here = record {
   body = here.body;
-  opened = same-open x.node children x.others left
-      (keeps-open (x.node ∷ x.others) x.active left here.opened kept);
+  opened = same-open x.node children x.others left (keeps-open (x.node ∷ x.others) x.active left
+      here.opened kept);
   made = later-created x.created more left later
       (keeps-created x.created x.active left here.made kept);
   no_link = λ is. keeps-none (codes "a") x.active left (here.no_link is) kept;
@@ -49,50 +45,44 @@ none-done x = record {
 }
 
 -- a text, and what comes after it
-pub text-done : (x : Position) (free : Bool) (bytes : List ℕ) (rest : Forest) →
-    is_escaped bytes ≡ true → Here x free →
-    Done (with_children x (with_characters x.node.children (seen bytes)) x.active x.created) rest →
+pub text-done : {x : Position} {free : Bool} {bytes : List ℕ} {rest : Forest} →
+    is_escaped bytes ≡ true → Here x free → Done (with_children x
+    (with_characters x.node.children (seen bytes)) x.active x.created) rest →
     Done x (Text bytes rest)
-text-done x free bytes rest escaped here later = record {
+text-done {x = x} {bytes = bytes} {rest = rest} escaped here later = record {
   left = later.left;
   more = later.more;
-  runs = after (parser_of x) (parser_of
-      (with_children x (with_characters x.node.children (seen bytes)) x.active x.created))
-      (map Character (seen bytes)) (tokens rest)
-      (characters-run (seen bytes) x here.body (seen-characters bytes escaped) here.opened)
-      ∙ later.runs;
+  runs = after (parser_of x) (parser_of (with_children x
+      (with_characters x.node.children (seen bytes)) x.active x.created))
+      (map Character (seen bytes)) (tokens rest) (characters-run (seen bytes) x here.body
+      (seen-characters bytes escaped) here.opened) ∙ later.runs;
   keeps = later.keeps;
   later = later.later;
 }
 
 -- a void tag, and what comes after it
-pub void-done : (x : Position) (name : List ℕ) (attributes : List Attribute) (rest : Forest) →
-    step (parser_of x) (StartTag name (seen_attributes attributes) true)
-    ≡ Some (parser_of (with_children x
-    (with_element x.node.children name (seen_attributes attributes) NoNode) x.active
-    (suc x.created))) →
-    Done (with_children x (with_element x.node.children name (seen_attributes attributes) NoNode)
-    x.active (suc x.created)) rest →
+pub void-done : {x : Position} {name : List ℕ} {attributes : List Attribute} {rest : Forest} → step
+    (parser_of x) (StartTag name (seen_attributes attributes) true) ≡ Some (parser_of (with_children
+    x (with_element x.node.children name (seen_attributes attributes) NoNode) x.active
+    (suc x.created))) → Done (with_children x (with_element x.node.children name
+    (seen_attributes attributes) NoNode) x.active (suc x.created)) rest →
     Done x (Void name attributes rest)
-void-done x name attributes rest inserts later = record {
+void-done {x = x} {name = name} {attributes = attributes} {rest = rest} inserts later = record {
   left = later.left;
   more = later.more;
-  runs = after-one (parser_of x) (parser_of (with_children x
-      (with_element x.node.children name (seen_attributes attributes) NoNode) x.active
-      (suc x.created))) (StartTag name (seen_attributes attributes) true) (tokens rest) inserts
-      ∙ later.runs;
+  runs = after-one (parser_of x) (parser_of (with_children x (with_element x.node.children name
+      (seen_attributes attributes) NoNode) x.active (suc x.created)))
+      (StartTag name (seen_attributes attributes) true) (tokens rest) inserts ∙ later.runs;
   keeps = later.keeps;
   later = omega (later.later, arith);
 }
 
 -- an element, and what comes after it
-pub element-done : (x : Position) (name : List ℕ) (attributes : List Attribute)
-    (inner rest : Forest) (passed : Passed x name attributes inner) →
-    Done (with_children x
-    (with_element x.node.children name (seen_attributes attributes) (put NoNode inner))
-    passed.left passed.more) rest →
-    Done x (Element name attributes inner rest)
-element-done x name attributes inner rest passed later = record {
+pub element-done : {x : Position} {name : List ℕ} {attributes : List Attribute}
+    {inner rest : Forest} (passed : Passed x name attributes inner) → Done (with_children x
+    (with_element x.node.children name (seen_attributes attributes) (put NoNode inner)) passed.left
+    passed.more) rest → Done x (Element name attributes inner rest)
+element-done {x = x} {rest = rest} passed later = record {
   left = later.left;
   more = later.more;
   runs = passed.runs (tokens rest) ∙ later.runs;
@@ -104,68 +94,54 @@ element-done x name attributes inner rest passed later = record {
 pub text-escaped : (bytes : List ℕ) (rest : Forest) → has_whole_texts (Text bytes rest) ≡ true →
     (is_escaped bytes ≡ true) × (has_whole_texts rest ≡ true)
 text-escaped bytes rest h =
-    let all = and_parts (is_nonempty bytes && is_escaped bytes && not (begins_with_text rest))
-    (has_whole_texts rest) h in
-    let own =
-    and_parts (is_nonempty bytes && is_escaped bytes) (not (begins_with_text rest)) all.0 in
-    ((and_parts (is_nonempty bytes) (is_escaped bytes) own.0).1, all.1)
+    let all = and_parts _ _ h in
+    let own = and_parts _ _ all.0 in
+    ((and_parts _ _ own.0).1, all.1)
 
 -- and those of an element
 pub element-parts : (name : List ℕ) (attributes : List Attribute) (inner rest : Forest) →
     has_whole_texts (Element name attributes inner rest) ≡ true →
     (has_whole_texts inner ≡ true) × (has_whole_texts rest ≡ true)
-element-parts name attributes inner rest h =
-    and_parts (has_whole_texts inner) (has_whole_texts rest) h
+element-parts name attributes inner rest h = and_parts _ _ h
 
 -- an element among spans, by what its children do
-pub span-passes : (x : Position) (name : List ℕ) (attributes : List Attribute) (inner : Forest)
-    (content held : Content) → Rule content name held → Here x (is_free content) →
-    ((y : Position) → Here y (is_free held) → Done y inner) →
-    Passed x name attributes inner
-span-passes x name attributes inner content held rule here inside =
+pub span-passes : {x : Position} {name : List ℕ} {attributes : List Attribute} {inner : Forest}
+    {content held : Content} → Rule content name held → Here x (is_free content) →
+    ((y : Position) → Here y (is_free held) → Done y inner) → Passed x name attributes inner
+span-passes {x = x} {name = name} {attributes = attributes} rule here inside =
     let those : List TokenAttribute = seen_attributes attributes in
     elim rule.kind [
-      | inl k ↦ formatting-passes x name attributes inner here.body here.opened here.made k
-          (λ e. here.no_link (rule.links e))
-          (inside (within x name those (push x.created name those x.active))
-          (here-formatting x name those content held rule here))
-      | inr k ↦ ordinary-passes x name attributes inner here.body here.opened k
-          (inside (within x name those x.active) (here-within x name those (is_free content)
-          (is_free held) (λ e. (rule.frees e).0) here))
+      | inl k ↦ formatting-passes here.body here.opened here.made k
+          (λ e. here.no_link (rule.links e)) (inside
+          (within x name those (push x.created name those x.active)) (here-formatting rule here))
+      | inr k ↦ ordinary-passes here.body here.opened k (inside (within x name those x.active)
+          (here-within (λ e. (rule.frees e).0) here))
     ]
 
 pub phrasing-done : (f : Forest) (content : Content) → is_inline content ≡ true →
-    has_whole_texts f ≡ true → is_contained false content f ≡ true →
-    (x : Position) → Here x (is_free content) → Done x f
+    has_whole_texts f ≡ true → is_contained false content f ≡ true → (x : Position) →
+    Here x (is_free content) → Done x f
 phrasing-done Empty content is h c x here = none-done x
 phrasing-done (Text bytes rest) content is h c x here =
     let parts = text-escaped bytes rest h in
     let next : Nodes = with_characters x.node.children (seen bytes) in
-    text-done x (is_free content) bytes rest parts.0 here
-    (phrasing-done rest content is parts.1
-    (and_parts (may_say content bytes) (is_contained false content rest) c).1
-    (with_children x next x.active x.created) (here-after x next x.active x.created
-    (is_free content) (keeps-all x.active) (omega arith) here))
+    text-done parts.0 here (phrasing-done rest content is parts.1 (and_parts _ _ c).1
+    (with_children x next x.active x.created) (here-after (keeps-all x.active) (omega arith) here))
 phrasing-done (Void name attributes rest) content is h c x here =
-    let parts = and_parts (is_one_of (voids_in content) name) (is_contained false content rest) c in
+    let parts = and_parts _ _ c in
     let next : Nodes = with_element x.node.children name (seen_attributes attributes) NoNode in
-    void-done x name attributes rest (void-step x name (seen_attributes attributes) here.body
-    here.opened (void-in content name is parts.0))
-    (phrasing-done rest content is h parts.1 (with_children x next x.active (suc x.created))
-    (here-after x next x.active (suc x.created) (is_free content) (keeps-all x.active)
-    (omega arith) here))
+    void-done (void-step x (seen_attributes attributes) here.body here.opened
+    (void-in content name is parts.0)) (phrasing-done rest content is h parts.1
+    (with_children x next x.active (suc x.created))
+    (here-after (keeps-all x.active) (omega arith) here))
 phrasing-done (Element name attributes inner rest) content is h c x here =
     let forests = element-parts name attributes inner rest h in
-    let parts = and_parts (option_map_or (λ held. is_contained false held inner)
-    (held_in false content name) false) (is_contained false content rest) c in
-    let held =
-    found (Rule content) (elements_in false content) name inner (rules content is) parts.0 in
-    let passed : Passed x name attributes inner =
-    span-passes x name attributes inner content held.0 held.1 here
-    (λ y there. phrasing-done inner held.0 held.1.inline forests.0 held.2 y there) in
-    let next : Nodes =
-    with_element x.node.children name (seen_attributes attributes) (put NoNode inner) in
-    element-done x name attributes inner rest passed
-    (phrasing-done rest content is forests.1 parts.1
-    (with_children x next passed.left passed.more) (here-after x next passed.left passed.more
-    (is_free content) passed.keeps passed.later here))
+    let parts = and_parts _ _ c in
+    let held = found (Rule content) (elements_in false content) name inner (rules content is)
+    parts.0 in
+    let passed : Passed x name attributes inner = span-passes held.1 here (λ y there. phrasing-done
+    inner held.0 held.1.inline forests.0 held.2 y there) in
+    let next : Nodes = with_element x.node.children name (seen_attributes attributes)
+    (put NoNode inner) in
+    element-done passed (phrasing-done rest content is forests.1 parts.1
+    (with_children x next passed.left passed.more) (here-after passed.keeps passed.later here))

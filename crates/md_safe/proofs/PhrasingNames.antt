@@ -1,7 +1,7 @@
 -- Where phrasing content may be inserted, what builds an element there, and which elements there
 -- are.
 use Rattle.std.proofs.Common.{◌≡◌, ℕ, ◌≤◌, suc, Bool, true, false, cond, List, [], ◌∷◌, ◌++◌, refl}
-use Rattle.std.proofs.Common.{sym, ap, ◌∙◌, subst, codes, arith}
+use Rattle.std.proofs.Common.{sym, ap, ◌∙◌, subst, codes, arith, not, ◌&&◌}
 use Rattle.std.specs.Prelude.{Some, None, find, option_map, is_some, bytes_eq}
 use Rattle.std.specs.Option.{option_map_or}
 use Rattle.std.proofs.lemmas.Slice.Eq.{bytes_eq-Decides}
@@ -21,8 +21,9 @@ use Rattle.md_safe.specs.InBody.{end_in_body}
 use Rattle.md_safe.specs.Construction.{run, step}
 use Rattle.md_safe.specs.Built.{put, at, is_body, AreCreated, AreOpen}
 use Rattle.md_safe.proofs.Lists.{Keeps}
-use Rattle.md_safe.proofs.TreeSteps.{Position, parser_of, with_children, element_of, within}
-use Rattle.md_safe.proofs.TreeSteps.{after, after-one, start-in-body, end-in-body, reconstructs}
+use Rattle.md_safe.proofs.TreeSteps.{Position, parser_of, with_children, element_of, within, after}
+use Rattle.md_safe.proofs.TreeSteps.{after-one, start-in-body, end-in-body, reconstructs}
+use Rattle.std.proofs.lemmas.Bool.{and_parts, not-true}
 
 -- where phrasing content may be inserted
 pub record Here (x : Position) (free : Bool) : Type 0 where
@@ -123,47 +124,51 @@ pub record IsOrdinary (name : List ℕ) : Type 0 where
       start_in_body name attributes p ≡ reconstructed p (insert name attributes)
   pub ends : (p : Parser) → end_in_body name p ≡ end_other name p
 
-pub outside : {name : List ℕ} → is_one_of parts name ≡ false → is_one_of cells name ≡ false →
-    is_one_of (codes "table" ∷ codes "tr" ∷ sections) name ≡ false →
-    bytes_eq name name ≡ true → IsOuter name
-outside a b c e = record { outer = a; no_cell = b; no_table = c; self = e }
+abbrev pub is_outer : List ℕ → Bool
+is_outer name = not (is_one_of parts name) && (not (is_one_of cells name) && (not
+    (is_one_of (codes "table" ∷ codes "tr" ∷ sections) name) && bytes_eq name name))
+
+pub outside : {name : List ℕ} → is_outer name ≡ true → IsOuter name
+outside {name} h =
+    let p = and_parts (not (is_one_of parts name)) _ h in
+    let q = and_parts (not (is_one_of cells name)) _ p.1 in
+    let r = and_parts _ (bytes_eq name name) q.1 in
+    record {
+      outer = not-true _ p.0;
+      no_cell = not-true _ q.0;
+      no_table = not-true _ r.0;
+      self = r.1;
+    }
 
 pub a-formats : IsFormatting (codes "a")
 a-formats = record {
-  names = outside refl refl refl refl;
+  names = outside refl;
   plain = refl;
   starts = λ attributes p free. ap (λ found. cond (is_some found) None (reconstructed p
       (insert_formatting (codes "a") attributes))) (free refl);
   ends = λ p. refl;
 }
 
-pub void-named : (name : List ℕ) →
-    is_one_of (codes "br" ∷ codes "img" ∷ codes "input" ∷ []) name ≡ true → IsVoid name
-void-named name h =
-    either (bytes_eq name (codes "br")) _ h
-    (λ e. void (codes "br") e refl (λ attributes p. refl)) (λ c.
-    either (bytes_eq name (codes "img")) _ c
-    (λ e. void (codes "img") e refl (λ attributes p. refl)) (λ c.
-    either (bytes_eq name (codes "input")) false c
+pub void-named : (name : List ℕ) → is_one_of (codes "br" ∷ codes "img" ∷ codes "input" ∷ []) name
+    ≡ true → IsVoid name
+void-named name h = either _ _ h (λ e. void (codes "br") e refl (λ attributes p. refl)) (λ c. either
+    _ _ c (λ e. void (codes "img") e refl (λ attributes p. refl)) (λ c. either _ _ c
     (λ e. void (codes "input") e refl (λ attributes p. refl)) (λ none. lie none)))
   where
-    void : (one : List ℕ) → bytes_eq name one ≡ true → is_one_of parts one ≡ false →
-        ((attributes : List TokenAttribute) (p : Parser) →
-        start_in_body one attributes p ≡ reconstructed p (insert_void one attributes)) →
-        IsVoid name
-    void one e outer starts =
-        subst IsVoid (sym ((bytes_eq-Decides name one).0 e))
+    void : (one : List ℕ) → bytes_eq name one ≡ true → is_one_of parts one ≡ false → ((attributes :
+        List TokenAttribute) (p : Parser) → start_in_body one attributes p ≡ reconstructed p
+        (insert_void one attributes)) → IsVoid name
+    void one e outer starts = subst IsVoid (sym ((bytes_eq-Decides name one).0 e))
         (record { outer = outer; starts = starts })
 
 -- ---- what is built
 
 -- a void tag
-pub void-step : (x : Position) (name : List ℕ) (attributes : List TokenAttribute) →
-    is_body x.mode ≡ true → AreOpen (x.node ∷ x.others) x.active → IsVoid name →
-    step (parser_of x) (StartTag name attributes true) ≡ Some (parser_of (with_children x
+pub void-step : (x : Position) {name : List ℕ} (attributes : List TokenAttribute) →
+    is_body x.mode ≡ true → AreOpen (x.node ∷ x.others) x.active → IsVoid name → step (parser_of x)
+    (StartTag name attributes true) ≡ Some (parser_of (with_children x
     (with_element x.node.children name attributes NoNode) x.active (suc x.created)))
-void-step x name attributes body opened v =
-    start-in-body x body name attributes true v.outer
+void-step x {name} attributes body opened v = start-in-body x body name attributes true v.outer
     ∙ (v.starts attributes (parser_of x) ∙ reconstructs x (insert_void name attributes) opened)
 
 -- an element with what it holds, on the stack
@@ -172,31 +177,29 @@ full x name attributes inner =
     element_of x.created name (seen_attributes attributes) (put NoNode inner) ∷ x.node ∷ x.others
 
 -- an element, by what its start tag, its children and its end tag do
-pub passes : (x : Position) (name : List ℕ) (attributes : List Attribute) (inner : Forest)
+pub passes : {x : Position} {name : List ℕ} {attributes : List Attribute} {inner : Forest}
     (pushed kept : List Entry) (begun : Parser) → is_body x.mode ≡ true → IsOuter name →
-    start_in_body name (seen_attributes attributes) (parser_of x) ≡ Some begun →
-    ((ys : List Token) → run begun (tokens inner ++ (EndTag name ∷ ys)) ≡ run
-    (parser_of (within x name (seen_attributes attributes) pushed))
-    (tokens inner ++ (EndTag name ∷ ys))) →
-    (d : Done (within x name (seen_attributes attributes) pushed) inner) →
-    end_in_body name (at x.mode (full x name attributes inner) d.left d.more)
-    ≡ Some (at x.mode (popped (full x name attributes inner)) kept d.more) →
-    Keeps x.active kept → Passed x name attributes inner
-passes x name attributes inner pushed kept begun body outer starts same d ends keeps =
+    start_in_body name (seen_attributes attributes) (parser_of x) ≡ Some begun → ((ys : List Token)
+    → run begun (tokens inner ++ (EndTag name ∷ ys)) ≡ run (parser_of
+    (within x name (seen_attributes attributes) pushed)) (tokens inner ++ (EndTag name ∷ ys))) →
+    (d : Done (within x name (seen_attributes attributes) pushed) inner) → end_in_body name
+    (at x.mode (full x name attributes inner) d.left d.more) ≡ Some (at x.mode
+    (popped (full x name attributes inner)) kept d.more) → Keeps x.active kept →
+    Passed x name attributes inner
+passes {x = x} {name = name} {attributes = attributes} {inner = inner} pushed kept begun body outer
+    starts same d ends keeps =
     let those : List TokenAttribute = seen_attributes attributes in
     let new : Position = within x name those pushed in
     let last : Position = with_children new (put NoNode inner) d.left d.more in
     record {
       left = kept;
       more = d.more;
-      runs = λ ys.
-          after-one (parser_of x) begun (StartTag name those false)
+      runs = λ ys. after-one (parser_of x) begun (StartTag name those false)
           (tokens inner ++ (EndTag name ∷ ys))
-          (start-in-body x body name those false outer.outer ∙ starts) ∙ (same ys
-          ∙ (after (parser_of new) (parser_of last) (tokens inner) (EndTag name ∷ ys) d.runs
-          ∙ after-one (parser_of last)
-          (at x.mode (popped (full x name attributes inner)) kept d.more) (EndTag name) ys
-          (end-in-body last body name outer.no_cell outer.no_table ∙ ends)));
+          (start-in-body x body name those false outer.outer ∙ starts) ∙ (same ys ∙ (after
+          (parser_of new) (parser_of last) (tokens inner) (EndTag name ∷ ys) d.runs ∙ after-one
+          (parser_of last) (at x.mode (popped (full x name attributes inner)) kept d.more)
+          (EndTag name) ys (end-in-body last body name outer.no_cell outer.no_table ∙ ends)));
       keeps = keeps;
       later = omega (d.later, arith);
     }

@@ -1,6 +1,6 @@
 -- What is known of each element of phrasing content, and where its children are inserted.
-use Rattle.std.proofs.Common.{◌≡◌, ◌⊎◌, inl, inr, ℕ, ◌==◌, suc, Bool, true, false, List, ◌∷◌, refl}
-use Rattle.std.proofs.Common.{sym, ◌∙◌, codes, arith}
+use Rattle.std.proofs.Common.{◌≡◌, ◌⊎◌, inl, inr, ℕ, suc, Bool, true, false, List, ◌∷◌, refl, sym}
+use Rattle.std.proofs.Common.{◌∙◌, codes, arith}
 use Rattle.std.specs.Prelude.{bytes_eq}
 use Rattle.std.proofs.lemmas.Bool.{or_left}
 use Rattle.md_base.proofs.Lies.{lie}
@@ -12,15 +12,13 @@ use Rattle.md_safe.specs.Node.{Entry, Parser}
 use Rattle.md_safe.specs.Elements.{special}
 use Rattle.md_safe.specs.Stack.{insert}
 use Rattle.md_safe.specs.InBody.{reconstructed, insert_formatting, start_in_body, end_in_body}
-use Rattle.md_safe.specs.Formatting.{is_open, push, end_other, end_formatting}
+use Rattle.md_safe.specs.Formatting.{push, end_other, end_formatting}
 use Rattle.md_safe.proofs.Lists.{Keeps, room, keeps-room, keeps-open, keeps-created, later-created}
 use Rattle.md_safe.proofs.Lists.{open-under, keeps-none}
 use Rattle.md_safe.proofs.Steps.{past}
 use Rattle.md_safe.proofs.TreeSteps.{Position, within}
 use Rattle.md_safe.proofs.PhrasingNames.{is_free, IsFormatting, IsOrdinary, Each, a-formats}
-use Rattle.md_safe.proofs.PhrasingNames.{outside}
-use Rattle.md_safe.proofs.PhrasingNames.{IsOuter, also}
-use Rattle.md_safe.proofs.PhrasingNames.{IsVoid, void-named, Here}
+use Rattle.md_safe.proofs.PhrasingNames.{outside, IsOuter, also, IsVoid, void-named, Here}
 use Rattle.md_safe.proofs.FormattingElements.{self_same}
 
 -- phrasing content, also in a link or in code
@@ -73,18 +71,16 @@ ordinary names starts ends inline free no_link no_item =
     inline free no_link no_item
 
 pub code-rule : (content : Content) → Rule content (codes "code") Characters
-code-rule content =
-    formatting (outside refl refl refl refl) refl (λ t p. refl) (λ p. refl) refl (λ e. lie e)
-    refl refl
+code-rule content = formatting (outside refl) refl (λ t p. refl) (λ p. refl) refl (λ e. lie e) refl
+    refl
 
 -- the elements that aren't links and hold this content
 spans : (content held : Content) → is_inline held ≡ true →
     (is_free held ≡ true → is_free content ≡ true) → Each (Rule content) (spans_of held)
-spans content held i f = also (code-rule content)
-    (also (formatting (outside refl refl refl refl) refl (λ t p. refl) (λ p. refl) i f refl refl)
-    (also (formatting (outside refl refl refl refl) refl (λ t p. refl) (λ p. refl) i f refl refl)
-    (also (ordinary (outside refl refl refl refl) (λ t p. refl) (λ p. refl) i f refl refl)
-    (also (ordinary (outside refl refl refl refl) (λ t p. refl) (λ p. refl) i f refl refl) tt))))
+spans content held i f = also (code-rule content) (also (formatting (outside refl) refl
+    (λ t p. refl) (λ p. refl) i f refl refl) (also (formatting (outside refl) refl (λ t p. refl)
+    (λ p. refl) i f refl refl) (also (ordinary (outside refl) (λ t p. refl) (λ p. refl) i f refl
+    refl) (also (ordinary (outside refl) (λ t p. refl) (λ p. refl) i f refl refl) tt))))
 
 pub span-rules : (content : Content) → is_free content ≡ true →
     Each (Rule content) (span_elements false)
@@ -113,18 +109,17 @@ void-in Characters name is h = lie h
 void-in _ name is h = lie is
 
 -- where the children of a formatting element are inserted
-pub here-formatting : (x : Position) (name : List ℕ) (those : List TokenAttribute)
-    (content held : Content) → Rule content name held → Here x (is_free content) →
+pub here-formatting : {x : Position} {name : List ℕ} {those : List TokenAttribute}
+    {content held : Content} → Rule content name held → Here x (is_free content) →
     Here (within x name those (push x.created name those x.active)) (is_free held)
-here-formatting x name those content held rule here =
+here-formatting {x = x} {name = name} {those = those} rule here =
     let left : List Entry = room name those x.active in
     let kept : Keeps x.active left = keeps-room name those x.active in
     let new : Position = within x name those left in
     record {
       body = here.body;
       opened = (
-        or_left (x.created == x.created) (is_open x.created (x.node ∷ x.others))
-            (self_same x.created),
+        or_left _ _ (self_same x.created),
         open-under new.node new.others left (keeps-open new.others x.active left here.opened kept),
       );
       made = (
@@ -132,15 +127,14 @@ here-formatting x name those content held rule here =
         later-created x.created (suc x.created) left (omega arith)
             (keeps-created x.created x.active left here.made kept),
       );
-      no_link = λ free. past _ (rule.frees free).1
-          (keeps-none (codes "a") x.active left (here.no_link (rule.frees free).0) kept);
+      no_link = λ free. past _ (rule.frees free).1 (keeps-none (codes "a") x.active left
+          (here.no_link (rule.frees free).0) kept);
     }
 
 -- and of an ordinary one, or of a block
-pub here-within : (x : Position) (name : List ℕ) (those : List TokenAttribute)
-    (free free' : Bool) → (free' ≡ true → free ≡ true) → Here x free →
-    Here (within x name those x.active) free'
-here-within x name those free free' frees here = record {
+pub here-within : {x : Position} {name : List ℕ} {those : List TokenAttribute} {free free' : Bool} →
+    (free' ≡ true → free ≡ true) → Here x free → Here (within x name those x.active) free'
+here-within {x = x} {name = name} {those = those} frees here = record {
   body = here.body;
   opened = open-under (within x name those x.active).node (x.node ∷ x.others) x.active here.opened;
   made = later-created x.created (suc x.created) x.active (omega arith) here.made;

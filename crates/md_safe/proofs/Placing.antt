@@ -96,10 +96,9 @@ reference-shows tail is = elim is [
   | inr (inr e) ↦ subst (λ t. list_all (may_show Phrasing) t ≡ true) (sym e) refl
 ]
 
-phrasing-shows : (first : Symbol) (tail : List Symbol) →
-    may_show Phrasing first ≡ true → IsTail first tail →
-    list_all (may_show Phrasing) tail ≡ true
-phrasing-shows symbol.ReferenceMarker tail h is = reference-shows tail is
+phrasing-shows : (first : Symbol) (tail : List Symbol) → may_show Phrasing first ≡ true →
+    IsTail first tail → list_all (may_show Phrasing) tail ≡ true
+phrasing-shows symbol.ReferenceMarker tail h is = reference-shows _ is
 phrasing-shows symbol.SetextText tail h is = lie h
 phrasing-shows first tail h is = subst (λ t. list_all (may_show Phrasing) t ≡ true) (sym is) refl
 
@@ -170,13 +169,10 @@ record Spot (standing : Standing) (name : Name) (children : Forest) (content : C
 
 spot : (standing : Standing) (name : Name) (children : Forest) (around : Role)
     (before : Option Symbol) (content : Content) (others : List Symbol) → Says standing name →
-    IsStanding standing around before children →
-    list_all (may_show content) (shown standing (spine children) ++ others) ≡ true →
-    Spot standing name children content others
+    IsStanding standing around before children → list_all (may_show content)
+    (shown standing (spine children) ++ others) ≡ true → Spot standing name children content others
 spot Through name children around before content others says stands h =
-    let whole =
-    and_parts (list_all (may_show content) (spine children)) (list_all (may_show content) others)
-    (sym (list_all-append (may_show content) (spine children) others) ∙ h) in
+    let whole = and_parts _ _ (sym (list_all-append _ (spine children) others) ∙ h) in
     record {
       stands = ap (λ t. t || may_stand content (sort_of name)) says;
       inside = ap (λ t. list_all (may_show (if t then content else place_of name)) (spine children))
@@ -189,14 +185,14 @@ spot Space name children around before content others says stands h = record {
   after = h;
 }
 spot (Solid seen usual reading) name children around before content others says stands h =
-    let parts = and_parts (may_show content seen) (list_all (may_show content) others) h in
+    let parts = and_parts _ _ h in
     record {
       stands = ap (λ t. t || may_stand content (sort_of name)) says.0
           ∙ (ap (λ sort. may_stand content sort) says.1 ∙ parts.0);
       inside = ap (λ t. list_all (may_show (if t then content else place_of name)) (spine children))
           says.0 ∙ (ap (λ c. list_all (may_show c) (spine children))
-          (says.2 ∙ sym (role-place around before usual))
-          ∙ all-show (role_for around before usual) (spine children) stands);
+          (says.2 ∙ sym (role-place around before usual)) ∙ all-show (role_for around before usual)
+          (spine children) stands);
       after = parts.1;
     }
 spot Mdx name children around before content others says stands h = absurd stands

@@ -12,20 +12,23 @@ use Rattle.md_base.specs.Tree.{Forest, Empty, Node}
 use Rattle.md_base.specs.NameTests.{is_transparent, is_call}
 use Rattle.md_meaning.specs.declared.surroundings.Surroundings.{Surroundings}
 use Rattle.md_meaning.specs.Meaning.At.{Footnote, Before, At, identifier_of}
-use Rattle.md_meaning.specs.Meaning.Layout.{Piece, layout, when}
+use Rattle.md_meaning.specs.Meaning.Layout.{layout, when}
 use Rattle.md_meaning.specs.Meaning.Nodes.{Outcome, found_at, before_next, outcome}
 use Rattle.md_content.specs.Underlined.{is_underline, waits_past}
 use Rattle.md_content.specs.Built.{Content, Blocks, is_part, is_source, may_stand, content_of}
 use Rattle.md_content.specs.Built.{content_inside, content_after_node, IsBuilt, IsFit}
 use Rattle.md_safe.proofs.Contents.{Holds}
-use Rattle.md_safe.proofs.Insides.{is_blocks}
-use Rattle.md_safe.proofs.BlocksAsked.{inside-blocks, asked-after-node}
-use Rattle.md_safe.proofs.Spot.{Setting, Prints, Inside}
-use Rattle.md_safe.proofs.BlockNodes.{block-node}
+use Rattle.md_safe.proofs.Insides.{is_blocks, is_blocks-same}
+use Rattle.md_safe.proofs.Following.{inside-blocks, asked-after-node}
+use Rattle.md_safe.proofs.Spot.{Setting, Inside}
 use Rattle.md_safe.proofs.Forests.{Ready, Means, means, inside-means}
 use Rattle.md_safe.proofs.Counted.{Waiting, TextsCount}
 use Rattle.md_safe.proofs.Costs.{Document, read_in, Place, inner_around, inner_before, inner_of}
 use Rattle.md_safe.proofs.Costs.{counted_in, Costs, at_of, here_of, Below, cost-least, no-footnote}
+use Rattle.md_safe.proofs.Costs.{place_at}
+use Rattle.md_safe.proofs.Laid.{Adds}
+use Rattle.md_text.proofs.HtmlIds.{Counts}
+use Rattle.md_safe.proofs.ReadingNodes.{block-node}
 
 -- the facts about a node that isn't transparent
 pub record Stands (d : Document) (p : Place) (name : Name) : Type 0 where
@@ -79,42 +82,43 @@ no_underline : (name : Name) → is_setext name ≡ false → is_underline name 
 no_underline HeadingSetextUnderlineSequence other is = sym other
 no_underline _ other is = is
 
-pub is_blocks-same : (content : Content) → is_blocks content ≡ true → content ≡ Blocks
-is_blocks-same Blocks h = refl
-is_blocks-same _ h = lie h
-
 -- what a name of no rule of its own is
 pub record IsPlain (name : Name) : Type 0 where
   pub setext : is_setext name ≡ false
   pub call : is_call name ≡ false
   pub footnote : named GfmFootnoteDefinition name ≡ false
 
+-- it prints what has the id so often, if its children do
+plain-prints : {d : Document} {w : List ℕ} {p : Place} {name : Name} {n : ℕ} → Stands d p name →
+    IsPlain name → Inside (counted_in d w n) (at_of d p name) Blocks name
+    (inner_of d p name).pieces → Adds d.context.ending (Counts w n) (here_of d p name).pieces
+plain-prints {d = d} {w = w} {p = p} {name = name} {n = n} k plain within = block-node
+    (counted_in d w n) (at_of d p name) name k.solid k.whole (inner_of d p name).pieces (record {
+      escaping = k.ready.suits.0;
+      outside = k.ready.suits.1;
+      fit = k.fit;
+      resource = k.known.found.resource;
+      ids = λ call. lie (sym plain.call ∙ call);
+      heading = λ is. lie (no_underline name plain.setext is);
+      within = within;
+    })
+
 -- a node in which blocks stand
-pub around-blocks : (d : Document) (w : List ℕ) (p : Place) (name : Name) (waits : Bool) (m : ℕ) →
-    Stands d p name →
-    IsPlain name → is_blocks (content_of name Blocks) ≡ true → Below d w p name false 0 →
-    Costs d w p.before m (waits_past waits name) (here_of d p name)
-around-blocks d w p name waits m k plain blocks b =
-    let s : Setting = counted_in d w b.body in
-    let t : At = at_of d p name in
-    let inner : List Piece = (inner_of d p name).pieces in
-    let within : Inside s t Blocks name inner =
-    subst (λ c. Prints s
-    (Holds s.p (inner_around d p name).is_escaping (inner_around d p name).in_image c) inner)
-    (sym (is_blocks-same (content_of name Blocks) blocks)) b.prints in
-    record {
-      body = b.body;
-      left = 0;
-      notes = b.notes;
-      prints = block-node s t name k.ready.suits k.solid k.whole k.fit
-          (λ call. lie (sym plain.call ∙ call))
-          (λ is. lie (no_underline name plain.setext is)) k.known.found.resource inner within;
-      heading =
-          subst (λ b. Waiting w b 0 (unwrap_or (here_of d p name).found.heading p.before.heading))
-          (sym (no_wait name plain.setext blocks waits)) tt;
-      texts = no-footnote d w b.notes p name plain.footnote b.texts;
-      few = omega (b.few, cost-least d w p name, arith);
-    }
+pub around-blocks : {d : Document} {w : List ℕ} {p : Place} {name : Name} {m : ℕ} (waits : Bool) →
+    Stands d p name → IsPlain name → is_blocks (content_of name Blocks) ≡ true →
+    Below d w p name false 0 → Costs d w p.before m (waits_past waits name) (here_of d p name)
+around-blocks {d = d} {w = w} {p = p} {name = name} waits k plain blocks b = record {
+  body = b.body;
+  left = 0;
+  notes = b.notes;
+  prints = plain-prints k plain (subst (λ c. Adds d.context.ending (Holds (counted_in d w b.body).p
+      (inner_around d p name).is_escaping (inner_around d p name).in_image c)
+      (inner_of d p name).pieces) (sym (is_blocks-same (content_of name Blocks) blocks)) b.prints);
+  heading = subst (λ b. Waiting w b 0 (unwrap_or (here_of d p name).found.heading p.before.heading))
+      (sym (no_wait name plain.setext blocks waits)) tt;
+  texts = no-footnote d w b.notes p name plain.footnote b.texts;
+  few = omega (b.few, cost-least d w p name, arith);
+}
 
 differ : {b : Bool} → b ≡ false → b ≡ true → false ≡ true
 differ other same = sym other ∙ same
@@ -128,28 +132,18 @@ no_definition : (content : Content) → may_stand content GfmFootnoteDefinition 
 no_definition Blocks h = refl
 no_definition _ h = lie h
 
-none_here : (content : Content) (name : Name) →
-    (is_transparent name || may_stand content name) ≡ true →
-    is_blocks content ≡ false → named GfmFootnoteDefinition name ≡ false
-none_here content GfmFootnoteDefinition stands other =
-    lie (differ other (no_definition content stands))
+none_here : (content : Content) (name : Name) → (is_transparent name || may_stand content name)
+    ≡ true → is_blocks content ≡ false → named GfmFootnoteDefinition name ≡ false
+none_here content GfmFootnoteDefinition stands other = lie (differ other (no_definition _ stands))
 none_here content _ stands other = refl
 
 -- no footnote is defined but among blocks
-pub no_footnotes :
-    (d : Document) (content : Content) (forest : Forest) (around : Surroundings) (before : Before) →
-    is_blocks content ≡ false → IsBuilt d.context.bytes content forest →
+pub no_footnotes : (d : Document) (content : Content) (forest : Forest) (around : Surroundings)
+    (before : Before) → is_blocks content ≡ false → IsBuilt d.context.bytes content forest →
     (outcome d.context around before forest).footnotes ≡ []
 no_footnotes d content Empty around before other built = refl
 no_footnotes d content (Node name start end children rest) around before other built =
-    let p : Place = record {
-      around = around;
-      before = before;
-      start = start;
-      end = end;
-      children = children;
-      rest = rest;
-    } in
+    let p : Place = place_at around before start end children rest in
     let here : Outcome = here_of d p name in
     let next : Before = before_next (at_of d p name) name here in
     let own : Footnote = record {
@@ -157,29 +151,27 @@ no_footnotes d content (Node name start end children rest) around before other b
       text = layout d.context.ending (inner_of d p name).pieces;
     } in
     ap (λ fs. (fs ++ when (named GfmFootnoteDefinition name) (own ∷ []))
-    ++ (outcome d.context around next rest).footnotes)
-    (no_footnotes d (content_inside content name) children (inner_around d p name)
-    (inner_before p name) (isn't (is_blocks (content_inside content name))
-    (λ h. differ other (inside-blocks content name h))) built.2)
-    ∙ ap (λ b. when b (own ∷ []) ++ (outcome d.context around next rest).footnotes)
-    (none_here content name built.0 other)
-    ∙ no_footnotes d (content_after_node content name children) rest around next
-    (isn't (is_blocks (content_after_node content name children))
-    (asked-after-node (false ≡ true) content name children (λ h. differ other h))) built.3
+    ++ (outcome d.context around next rest).footnotes) (no_footnotes d (content_inside content name)
+    children (inner_around d p name) (inner_before p name) (isn't
+    (is_blocks (content_inside content name)) (λ h. differ other (inside-blocks content name h)))
+    built.2) ∙ ap (λ b. when b (own ∷ []) ++ (outcome d.context around next rest).footnotes)
+    (none_here content name built.0 other) ∙ no_footnotes d
+    (content_after_node content name children) rest around next (isn't
+    (is_blocks (content_after_node content name children)) (asked-after-node (false ≡ true) content
+    name children (λ h. differ other h))) built.3
 
 -- a node in which something else stands
-pub around-others : (d : Document) (w : List ℕ) (p : Place) (name : Name) (waits : Bool) (m : ℕ) →
-    Stands d p name →
-    IsPlain name → is_blocks (content_inside Blocks name) ≡ false →
-    Waiting w waits m p.before.heading →
-    Costs d w p.before m (waits_past waits name) (here_of d p name)
-around-others d w p name waits m k plain blocks h =
+pub around-others : {d : Document} {w : List ℕ} {p : Place} {name : Name} {m : ℕ} (waits : Bool) →
+    Stands d p name → IsPlain name → is_blocks (content_inside Blocks name) ≡ false →
+    Waiting w waits m p.before.heading → Costs d w p.before m
+    (waits_past waits name) (here_of d p name)
+around-others {d = d} {w = w} {p = p} {name = name} {m = m} waits k plain blocks h =
     let s : Setting = counted_in d w 0 in
     let t : At = at_of d p name in
     let inner : Outcome = inner_of d p name in
     let counted : Means s (inner_around d p name) (content_inside Blocks name) p.children inner =
-    means s p.children (inner_around d p name) (inner_before p name)
-    (content_inside Blocks name) k.built (record {
+    means s p.children (inner_around d p name) (inner_before p name) (content_inside Blocks name)
+    k.built (record {
       suits = k.within.suits;
       follows = k.within.follows;
       whole = λ is. lie (sym blocks ∙ is);
@@ -189,16 +181,14 @@ around-others d w p name waits m k plain blocks h =
       body = 0;
       left = m;
       notes = 0;
-      prints = block-node s t name k.ready.suits k.solid k.whole k.fit
-          (λ call. lie (sym plain.call ∙ call))
-          (λ is. lie (no_underline name plain.setext is)) k.known.found.resource inner.pieces
-          (inside-means s t Blocks name inner k.solid k.stands k.fit k.built counted);
-      heading =
-          subst (λ found. Waiting w (waits_past waits name) m (unwrap_or found p.before.heading))
-          (sym (no_heading t name (layout d.context.ending inner.pieces) k.solid plain.setext))
+      prints = plain-prints k plain (inside-means t Blocks name k.solid k.stands k.fit k.built
+          counted);
+      heading = subst (λ found. Waiting w (waits_past waits name) m
+          (unwrap_or found p.before.heading)) (sym (no_heading t name
+          (layout d.context.ending inner.pieces) k.solid plain.setext))
           (keeps_wait w m name plain.setext waits p.before.heading h);
-      texts = no-footnote d w 0 p name plain.footnote (subst (TextsCount w 0)
-          (sym (no_footnotes d (content_inside Blocks name) p.children (inner_around d p name)
-          (inner_before p name) blocks k.built)) tt);
+      texts = no-footnote d w 0 p name plain.footnote (subst (TextsCount w 0) (sym (no_footnotes d
+          (content_inside Blocks name) p.children (inner_around d p name) (inner_before p name)
+          blocks k.built)) tt);
       few = omega arith;
     }

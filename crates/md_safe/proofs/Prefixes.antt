@@ -1,15 +1,15 @@
 -- An id by number determines its prefix: what follows the prefix begins with `fn`, and has no other
 -- `fn`.
 use Rattle.std.proofs.Common.{◌≡◌, ℕ, suc, ◌≤◌, ◌==◌, Bool, true, false, ◌&&◌, ◌||◌, cond, eqb}
-use Rattle.std.proofs.Common.{List, [], ◌∷◌, ◌++◌, refl, sym, ap, ◌∙◌, arith, codes}
-use Rattle.std.proofs.Common.{bytes_eq}
+use Rattle.std.proofs.Common.{List, [], ◌∷◌, ◌++◌, refl, sym, ap, ◌∙◌, arith, codes, bytes_eq}
+use Rattle.std.proofs.Common.{append-nil}
 use Rattle.std.specs.List.{list_any, list_all}
 use Rattle.std.specs.Fmt.{decimal}
 use Rattle.std.proofs.lemmas.Bool.{eqb-true, and_parts, or_right}
 use Rattle.md_base.proofs.Lies.{lie}
 use Rattle.md_text.proofs.HtmlIds.{occurs}
 use Rattle.md_content.specs.Built.{is_digit}
-use Rattle.md_safe.proofs.NumberedIds.{decimal-digits}
+use Rattle.md_safe.proofs.Texts.{decimal-digits}
 
 -- begins with `n`
 abbrev begins_n : List ℕ → Bool
@@ -23,9 +23,7 @@ has_fn (b ∷ x) = ((b == 102) && begins_n x) || has_fn x
 
 fn-inside : (p x : List ℕ) → has_fn (p ++ (102 ∷ 110 ∷ x)) ≡ true
 fn-inside [] x = refl
-fn-inside (b ∷ p) x =
-    or_right ((b == 102) && begins_n (p ++ (102 ∷ 110 ∷ x)))
-    (has_fn (p ++ (102 ∷ 110 ∷ x))) (fn-inside p x)
+fn-inside (b ∷ p) x = or_right _ _ (fn-inside p x)
 
 -- two texts with one such beginning each begin alike
 pub same-prefix : (p q x y : List ℕ) → has_fn x ≡ false → has_fn y ≡ false →
@@ -58,10 +56,7 @@ fn-past (b ∷ x) y h =
     ∙ fn-past x y parts.1
 
 fn-digits : (x : List ℕ) → list_all is_digit x ≡ true → has_fn x ≡ false
-fn-digits [] h = refl
-fn-digits (b ∷ x) h =
-    let parts = and_parts (is_digit b) (list_all is_digit x) h in
-    ap (λ is. (is && begins_n x) || has_fn x) (digit-no_f b parts.0) ∙ fn-digits x parts.1
+fn-digits x h = ap has_fn (sym (append-nil x)) ∙ fn-past x [] h
 
 -- after `fn` of a footnote, and after that of a call
 pub note-once : (n : ℕ) → has_fn (45 ∷ decimal n) ≡ false

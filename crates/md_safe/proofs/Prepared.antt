@@ -25,8 +25,7 @@ use Rattle.md_meaning.specs.Meaning.Before.{nothing_before}
 use Rattle.md_meaning.specs.Meaning.Finds.{first_ending}
 use Rattle.md_meaning.specs.Meaning.Nodes.{outcome}
 use Rattle.md_content.specs.Built.{Content, Blocks, content_inside, content_after_node}
-use Rattle.md_content.specs.Built.{content_past}
-use Rattle.md_content.specs.Built.{content_after, IsBuilt, IsFit}
+use Rattle.md_content.specs.Built.{content_past, content_after, IsBuilt, IsFit}
 use Rattle.md_safe.proofs.Stands.{IsWhite, line_ends-white}
 use Rattle.md_safe.proofs.Costs.{Document, read_in}
 use Rattle.md_safe.specs.Options.{KeepsGrammar}
@@ -84,7 +83,7 @@ blocks-stay forest = stays-after (λ content. content ≡ Blocks)
 -- what is known at the document's beginning
 pub outermost-ready : (s : Setting) → IsWhole s.p → Ready s outermost nothing_before Blocks
 outermost-ready s whole = record {
-  suits = refl;
+  suits = (refl, refl);
   follows = tt;
   whole = λ _. whole;
   heading = λ _. holds-none s;

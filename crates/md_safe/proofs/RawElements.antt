@@ -1,21 +1,18 @@
 -- The tags of fenced code and of math, around what is said of it and what it holds.
 use Rattle.std.proofs.Common.{◌≡◌, ◌⊎◌, ℕ, Bool, true, List, [], ◌∷◌, ◌++◌, refl, sym, ap, subst}
-use Rattle.std.proofs.Common.{inl}
-use Rattle.std.proofs.Common.{inr, append_assoc, append-nil, codes}
+use Rattle.std.proofs.Common.{append_assoc, append-nil, codes}
 use Rattle.std.specs.List.{list_any}
 use Rattle.md_text.specs.Html.{opening_tag, is_tag, elements}
-use Rattle.md_text.specs.declared.options.CompileOptions.{CompileOptions}
 use Rattle.md_base.specs.Children.{spine_names}
 use Rattle.md_base.specs.NameTests.{is_chunk}
 use Rattle.md_meaning.specs.Meaning.At.{At}
 use Rattle.md_meaning.specs.Meaning.Layout.{Piece, Text, Needed, Forced, said, when}
 use Rattle.md_meaning.specs.Meaning.Blocks.{code_end, is_unclosed, runs_out}
 use Rattle.md_safe.proofs.Texts.{Escaped}
-use Rattle.md_safe.proofs.Claim.{Claim}
 use Rattle.md_safe.proofs.Laid.{Adds, adds-append, adds-needed, adds-forced, adds-when, IsBeside}
-use Rattle.md_safe.proofs.Tags.{IsTest, attribute, IsFramed, Bracket, Turns, Takes, bracket-tag}
-use Rattle.md_safe.proofs.Tags.{turns-two, adds-flat, adds-framed, framed-after}
-use Rattle.md_safe.proofs.Elements.{code_closing, bracket-code, bracket-plain, class-passes}
+use Rattle.md_safe.proofs.Tags.{attribute, IsFramed, Turns, Takes, adds-flat, adds-framed}
+use Rattle.md_safe.proofs.Tags.{framed-after}
+use Rattle.md_safe.proofs.Elements.{code_closing}
 
 -- the tags of fenced code, without the end of the second one, and of math
 abbrev pub code_tag : List ℕ
@@ -31,12 +28,11 @@ IsInfo tag x =
     × (tag ≡ code_tag))
 
 -- a text that ends an opening tag of code, followed by an escaped text
-pub record IsRaw (p : Claim) (tag x : List ℕ) : Type 0 where
+pub record IsRaw (tag x : List ℕ) : Type 0 where
   pub attributes : List ℕ
   pub info : IsInfo tag attributes
   pub body : List ℕ
   pub whole : x ≡ attributes ++ (62 ∷ body)
-  pub bracket : Bracket p (tag ++ (attributes ++ (62 ∷ []))) code_closing
   pub escaped : Escaped body
 
 raw_regrouped : (e tag w y g c h : List ℕ) →
@@ -56,79 +52,48 @@ pub record IsOpened (Q R : List ℕ → Type 0) (tag x : List ℕ) : Type 0 wher
   pub escaped : Escaped body
   pub turns : Turns Q R (tag ++ (attributes ++ (62 ∷ []))) code_closing
 
-raw-enclosed : (W Q R : List ℕ → Type 0) (tag x y z : List ℕ) → Takes W R →
+raw-enclosed : {W Q R : List ℕ → Type 0} {tag x y z : List ℕ} → Takes W R →
     ((x w : List ℕ) → Escaped x → W w → Q (x ++ w)) → IsBegun W tag x → IsOpened Q R tag y →
     IsFramed W code_closing z → R (x ++ (y ++ z))
-raw-enclosed W Q R tag x y z stays says a r c =
+raw-enclosed {R = R} {tag} {x} {y} {z} stays says a r c =
     let parts : R ((a.0 ++ tag) ++ ((r.attributes ++ (62 ∷ r.body))
-    ++ (c.before ++ (code_closing ++ c.after)))) =
-    subst R (raw_regrouped a.0 tag r.attributes r.body c.before code_closing c.after)
-    (stays a.0 ((tag ++ (r.attributes ++ (62 ∷ []))) ++ ((r.body ++ c.before) ++ code_closing))
-    c.after a.2 (r.turns (r.body ++ c.before) (says r.body c.before r.escaped c.is_before))
-    c.is_after) in
-    subst (λ x. R (x ++ (y ++ z))) (sym a.1)
-    (subst (λ y. R ((a.0 ++ tag) ++ (y ++ z))) (sym r.whole)
-    (subst (λ z. R ((a.0 ++ tag) ++ ((r.attributes ++ (62 ∷ r.body)) ++ z))) (sym c.whole) parts))
+    ++ (c.before ++ (code_closing ++ c.after)))) = subst R (raw_regrouped _ _ _ _ _ _ _) (stays.take
+    a.0 ((tag ++ (r.attributes ++ (62 ∷ []))) ++ ((r.body ++ c.before) ++ code_closing)) c.after a.2
+    (r.turns.turn (r.body ++ c.before) (says r.body c.before r.escaped c.is_before)) c.is_after) in
+    subst (λ x. R (x ++ (y ++ z))) (sym a.1) (subst (λ y. R ((a.0 ++ tag) ++ (y ++ z)))
+    (sym r.whole) (subst (λ z. R ((a.0 ++ tag) ++ ((r.attributes ++ (62 ∷ r.body)) ++ z)))
+    (sym c.whole) parts))
 
 -- fenced code or math
-pub adds-raw : (W Q R : List ℕ → Type 0) → IsBeside W → Takes W R →
-    ((x w : List ℕ) → Escaped x → W w → Q (x ++ w)) → (ending : List ℕ) → W ending →
-    (tag : List ℕ) (inner end : List Piece) →
+pub adds-raw : {W Q R : List ℕ → Type 0} {ending : List ℕ} {tag : List ℕ} {inner end : List Piece} →
+    IsBeside W → Takes W R → ((x w : List ℕ) → Escaped x → W w → Q (x ++ w)) → W ending →
     Adds ending (IsOpened Q R tag) inner → Adds ending (IsFramed W code_closing) end →
     Adds ending R ((Needed ∷ Text tag ∷ []) ++ (inner ++ end))
-adds-raw W Q R beside stays says ending h tag inner end a b =
-    adds-append ending (IsBegun W tag)
-    (λ w. (y : List ℕ) × (z : List ℕ) × (w ≡ y ++ z) × IsOpened Q R tag y
-    × IsFramed W code_closing z) R (Needed ∷ Text tag ∷ []) (inner ++ end)
-    (λ x w f g. subst (λ w. R (x ++ w)) (sym g.2)
-    (raw-enclosed W Q R tag x g.0 g.1 stays says f g.3 g.4))
-    (adds-append ending W (λ x. x ≡ tag) (IsBegun W tag) (Needed ∷ []) (Text tag
-    ∷ []) (λ x y f g. (x, ap (λ y. x ++ y) g, f)) (adds-needed beside ending h)
-    (adds-flat ending (λ x. x ≡ tag) (Text tag ∷ []) refl (append-nil tag))) (adds-append ending
-    (IsOpened Q R tag) (IsFramed W code_closing) (λ w. (y : List ℕ) × (z : List ℕ) × (w ≡ y ++ z)
-    × IsOpened Q R tag y × IsFramed W code_closing z) inner end (λ y z f g. (y, z, refl, f, g)) a b)
+adds-raw {W} {Q} {R} {tag = tag} beside stays says h a b = adds-append {f = IsBegun W tag} {g = λ w.
+    (y : List ℕ) × (z : List ℕ) × (w ≡ y ++ z) × IsOpened Q R tag y × IsFramed W code_closing z}
+    (λ x w f g. subst (λ w. R (x ++ w)) (sym g.2) (raw-enclosed stays says f g.3 g.4)) (adds-append
+    (λ x y f g. (x, ap (λ y. x ++ y) g, f)) (adds-needed beside h) (adds-flat {f = λ y. y ≡ tag}
+    {pieces = Text tag ∷ []} refl (append-nil tag)))
+    (adds-append (λ y z f g. (y, z, refl, f, g)) a b)
 
 -- the end of code, and of fenced code, with what is on a line of its own before it and after it
-pub code-end : {W : List ℕ → Type 0} → IsBeside W → (ending : List ℕ) → W ending → (t : At) →
+pub code-end : {W : List ℕ → Type 0} {ending : List ℕ} → IsBeside W → W ending → (t : At) →
     Adds ending (IsFramed W code_closing) (code_end t)
-code-end beside ending h t =
-    framed-after beside ending code_closing
-    (when (list_any is_chunk (spine_names t.children)) (Needed ∷ []))
-    (adds-when beside ending (list_any is_chunk (spine_names t.children)) (Needed ∷ [])
-    (adds-needed beside ending h))
+code-end beside h t = framed-after beside (adds-when beside _ (adds-needed beside h))
 
-pub fenced-end : {W : List ℕ → Type 0} → IsBeside W → (ending : List ℕ) → W ending → (t : At) →
-    Adds ending (IsFramed W code_closing)
-    (when (runs_out t) (Forced ∷ []) ++ (code_end t ++ when (is_unclosed t) (Needed ∷ [])))
-fenced-end {W = W} beside ending h t =
+pub fenced-end : {W : List ℕ → Type 0} {ending : List ℕ} → IsBeside W → W ending → (t : At) → Adds
+    ending (IsFramed W code_closing) (when (runs_out t)
+    (Forced ∷ []) ++ (code_end t ++ when (is_unclosed t) (Needed ∷ [])))
+fenced-end {W} {ending} beside h t =
     let chunks : Bool = list_any is_chunk (spine_names t.children) in
     let out : List Piece = when (runs_out t) (Forced ∷ []) in
     let line : List Piece = when chunks (Needed ∷ []) in
     let last : List Piece = when (is_unclosed t) (Needed ∷ []) in
     subst (λ x. Adds ending (IsFramed W code_closing) (out ++ x))
-    (sym (append_assoc line (said code_closing) last))
-    (subst (Adds ending (IsFramed W code_closing)) (append_assoc out line
-    (Text code_closing ∷ last)) (adds-framed ending code_closing (out ++ line) last
-    (adds-append ending W W W out line beside.both
-    (adds-when beside ending (runs_out t) (Forced ∷ []) (adds-forced ending h))
-    (adds-when beside ending chunks (Needed ∷ []) (adds-needed beside ending h)))
-    (adds-when beside ending (is_unclosed t) (Needed ∷ []) (adds-needed beside ending h))))
-
-pub raw-opened : (p : Claim) (tag x : List ℕ) → IsRaw p tag x → IsOpened p.holds p.holds tag x
-raw-opened p tag x r = record {
-  attributes = r.attributes;
-  body = r.body;
-  whole = r.whole;
-  escaped = r.escaped;
-  turns = r.bracket;
-}
-
--- what may stand in the tag of fenced code
-abbrev pub IsInCode : Claim → List ℕ → Type 0
-IsInCode p x = IsInfo code_tag x × Bracket p (code_tag ++ (x ++ (62 ∷ []))) code_closing
-
-pub bare-in_code : (p : Claim) → IsInCode p []
-bare-in_code p = (inl refl, bracket-code p)
+    (sym (append_assoc line (said code_closing) last)) (subst
+    (Adds ending (IsFramed W code_closing)) (append_assoc out line (Text code_closing ∷ last))
+    (adds-framed (adds-append beside.both (adds-when beside _ (adds-forced h))
+    (adds-when beside _ (adds-needed beside h))) (adds-when beside _ (adds-needed beside h))))
 
 pub code_class : (v : List ℕ) → Escaped v → is_tag elements (codes "code")
     (attribute (codes "class") (codes "language-" ++ v) ∷ []) ≡ true
@@ -139,45 +104,5 @@ pub info_regrouped : (v : List ℕ) → codes "<pre>" ++ opening_tag (codes "cod
     ++ ((codes " class=\"language-" ++ (v ++ codes "\"")) ++ (62 ∷ []))
 info_regrouped v = simp append_assoc
 
-pub info-in_code : (p : Claim) (options : CompileOptions) → IsTest p.test options →
-    (v : List ℕ) → Escaped v →
-    IsInCode p (codes " class=\"language-" ++ (v ++ codes "\""))
-info-in_code p options test v h = (
-  inr (v, refl, h, refl),
-  subst (λ o. Bracket p o code_closing) (info_regrouped v)
-      (turns-two p.holds p.holds p.holds (codes "<pre>") (codes "</pre>")
-      (opening_tag (codes "code")
-      (attribute (codes "class") (codes "language-" ++ v) ∷ [])) (codes "</code>")
-      (bracket-plain p (codes "pre") refl)
-      (bracket-tag p (codes "code") (attribute (codes "class") (codes "language-" ++ v)
-      ∷ []) (code_class v h) (class-passes p.test options test (codes "language-" ++ v)))),
-)
-
-pub raw-code : (p : Claim) (x y : List ℕ) → IsInCode p x → Escaped y →
-    IsRaw p code_tag (x ++ (62 ∷ y))
-raw-code p x y h e = record {
-  attributes = x;
-  info = h.0;
-  body = y;
-  whole = refl;
-  bracket = h.1;
-  escaped = e;
-}
-
-pub raw-math : (p : Claim) (options : CompileOptions) → IsTest p.test options →
-    (y : List ℕ) → Escaped y →
-    IsRaw p math_tag (62 ∷ y)
-raw-math p options test y e =
-    record {
-      attributes = [];
-      info = inl refl;
-      body = y;
-      whole = refl;
-      bracket =
-          turns-two p.holds p.holds p.holds (codes "<pre>") (codes "</pre>")
-          (codes "<code class=\"language-math math-display\">") (codes "</code>")
-          (bracket-plain p (codes "pre") refl) (bracket-tag p (codes "code")
-          (attribute (codes "class") (codes "language-math math-display")
-          ∷ []) refl (class-passes p.test options test (codes "language-math math-display")));
-      escaped = e;
-    }
+pub raw : (tag x y : List ℕ) → IsInfo tag x → Escaped y → IsRaw tag (x ++ (62 ∷ y))
+raw tag x y h e = record { attributes = x; info = h; body = y; whole = refl; escaped = e }

@@ -3,8 +3,7 @@ use Rattle.std.proofs.Common.{◌≡◌, ℕ, Bool, true, not, ◌&&◌, List, r
 use Rattle.std.specs.List.{list_all}
 use Rattle.std.proofs.lemmas.Bool.{and_parts, and_from}
 use Rattle.md_text.specs.Bytes.{is_one_of}
-use Rattle.md_text.specs.Html.{Attribute, is_tag, elements, void_tags}
-use Rattle.md_text.specs.Html.{HasOneReadingWith}
+use Rattle.md_text.specs.Html.{Attribute, is_tag, elements, void_tags, HasOneReadingWith}
 use Rattle.md_safe.proofs.Cases.{one_of-passes, all-weaker}
 use Rattle.md_safe.proofs.GoodNames.{by_rule}
 use Rattle.md_safe.specs.Token.{Token, TokenAttribute}
@@ -21,17 +20,16 @@ abbrev rule_is_still : List ℕ × List (List ℕ) → Bool
 rule_is_still rule = not (is_one_of running_elements rule.0) && list_all is_still rule.1
 
 tag-still : (rules : List (List ℕ × List (List ℕ))) (name : List ℕ) (x : List Attribute) →
-    list_all rule_is_still rules ≡ true → is_tag rules name x ≡ true →
-    (not (is_one_of running_elements name)
-    && list_all (λ (a : TokenAttribute). is_still a.name) (seen_attributes x)) ≡ true
+    list_all rule_is_still rules ≡ true → is_tag rules name x ≡ true → (not
+    (is_one_of running_elements name) && list_all (λ (a : TokenAttribute). is_still a.name)
+    (seen_attributes x)) ≡ true
 tag-still rules name x g e =
     let stills = list_all (λ (a : TokenAttribute). is_still a.name) (seen_attributes x) in
     by_rule (λ name. (not (is_one_of running_elements name) && stills) ≡ true) rule_is_still rules
     name x g (λ rule still allowed.
-    let q = and_parts (not (is_one_of running_elements rule.0)) (list_all is_still rule.1) still in
-    and_from (not (is_one_of running_elements rule.0)) stills q.0
-    (all-weaker (λ (a : TokenAttribute). is_one_of rule.1 a.name) (λ a. is_still a.name)
-    (λ a h. one_of-passes is_still rule.1 a.name q.1 h) (seen_attributes x)
+    let q = and_parts _ _ still in
+    and_from _ _ q.0 (all-weaker (λ (a : TokenAttribute). is_one_of rule.1 a.name)
+    (λ a. is_still a.name) (λ a h. one_of-passes is_still rule.1 a.name q.1 h) (seen_attributes x)
     (names-listed rule.1 x allowed))) e
 
 pub all_still : (q : Attribute → Bool) (text : List ℕ) (x : List Token) → HasOneReadingWith q text →

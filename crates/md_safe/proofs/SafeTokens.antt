@@ -31,17 +31,14 @@ attribute-permitted true before after f h = f h
 attribute-permitted false before after f h = refl
 
 attributes-permitted : (name : List ℕ) (schemes : List (List ℕ)) → Permits schemes →
-    (x : List Attribute) →
-    are_good x ≡ true → list_all (is_safe name schemes) x ≡ true →
+    (x : List Attribute) → are_good x ≡ true → list_all (is_safe name schemes) x ≡ true →
     list_all (is_permitted name schemes) (seen_attributes x) ≡ true
 attributes-permitted name schemes f [] g h = refl
 attributes-permitted name schemes f (a ∷ x) g h =
     let p = good_attribute a x g in
-    let k = and_parts (is_safe name schemes a) (list_all (is_safe name schemes) x) h in
-    and_from (cond (bytes_eq a.name name) (has_permitted_scheme schemes (seen a.value)) true) _
-    (attribute-permitted (bytes_eq a.name name) (is_safe_value schemes a.value)
-    (has_permitted_scheme schemes (seen a.value)) (f a.value p.1) k.0)
-    (attributes-permitted name schemes f x p.3 k.1)
+    let k = and_parts _ _ h in
+    and_from _ _ (attribute-permitted _ _ _ (f a.value p.1) k.0)
+    (attributes-permitted _ _ f x p.3 k.1)
 
 -- such a test accepts all tags of the tables
 passes : (name : List ℕ) (schemes : List (List ℕ)) → Permits schemes →
@@ -63,11 +60,9 @@ pub images-pass : PassesTags has_safe_images is_safe_image
 images-pass = passes (codes "src") image_protocols permitted-image
 
 pub safe-links : (text : List ℕ) (x : List Token) → HasOneReadingWith is_safe_link text →
-    IsTokenized text x →
-    list_all has_safe_links x ≡ true
-safe-links text x one h = all-tokenized has_safe_links is_safe_link links-pass text x one h
+    IsTokenized text x → list_all has_safe_links x ≡ true
+safe-links text x one h = all-tokenized _ _ links-pass _ x one h
 
 pub safe-images : (text : List ℕ) (x : List Token) → HasOneReadingWith is_safe_image text →
-    IsTokenized text x →
-    list_all has_safe_images x ≡ true
-safe-images text x one h = all-tokenized has_safe_images is_safe_image images-pass text x one h
+    IsTokenized text x → list_all has_safe_images x ≡ true
+safe-images text x one h = all-tokenized _ _ images-pass _ x one h

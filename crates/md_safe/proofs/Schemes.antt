@@ -1,7 +1,7 @@
 -- A value without a protocol has no scheme, and one with a permitted protocol has that scheme: no
 -- byte that is removed or changed on the way belongs to a scheme.
-use Rattle.std.proofs.Common.{◌≡◌, ℕ, ◌==◌, Bool, true, false, not, ◌&&◌, ◌||◌, cond, List, [], ◌∷◌}
-use Rattle.std.proofs.Common.{◌++◌, refl, sym, ap, ap₂, ◌∙◌, subst, inl, inr, Option, Some, None}
+use Rattle.std.proofs.Common.{◌≡◌, ℕ, ◌==◌, Bool, true, false, not, ◌&&◌, cond, List, [], ◌∷◌, ◌++◌}
+use Rattle.std.proofs.Common.{refl, sym, ap, ap₂, ◌∙◌, subst, inl, inr, Option, Some, None}
 use Rattle.std.proofs.Common.{append-nil, append_assoc, eqb-true, leb, ltb, arith}
 use Rattle.std.specs.List.{list_all}
 use Rattle.std.specs.Option.{option_map_or}
@@ -25,9 +25,8 @@ use Rattle.md_safe.specs.Scheme.{in_scheme_start, scheme_of, has_permitted_schem
 use Rattle.md_safe.proofs.EscapedCases.{IsPlain, by_escaped}
 use Rattle.md_safe.proofs.LineFeeds.{no_return, line_feeds-name, one}
 use Rattle.md_safe.proofs.Steps.{past, here}
-use Rattle.md_safe.proofs.NoProtocol.{goes_on, protocol_of-goes_on}
-use Rattle.md_safe.proofs.NoProtocol.{protocol_of-colon, protocol_of-end}
-use Rattle.md_safe.proofs.NoProtocol.{scheme_of-none}
+use Rattle.md_safe.proofs.NoProtocol.{goes_on, protocol_of-goes_on, protocol_of-colon}
+use Rattle.md_safe.proofs.NoProtocol.{protocol_of-end, scheme_of-none}
 
 -- ---- line feeds and references
 
@@ -99,8 +98,7 @@ lowered-letters (b ∷ q) h =
     and_from (is_letter b) (list_all is_letter q) (lower-letter b p.0) (lowered-letters q p.1)
 
 letters-no_return : (q : List ℕ) → list_all is_letter q ≡ true → list_all no_return q ≡ true
-letters-no_return q h =
-    all-weaker is_letter no_return (λ b h. ap not (passes_not is_letter b 13 refl h)) q h
+letters-no_return q h = all-weaker _ _ (λ b h. ap not (passes_not is_letter b 13 refl h)) q h
 
 letter-control : (b : ℕ) → is_letter b ≡ true → is_control_or_space b ≡ false
 letter-control b h = elim (or_cases (is_between 65 90 b) (is_between 97 122 b) h) [
@@ -115,30 +113,22 @@ letter-control b h = elim (or_cases (is_between 65 90 b) (is_between 97 122 b) h
         lt-leb b 32 (omega arith)
 
 letter-newline : (b : ℕ) → is_letter b ≡ true → is_tab_or_newline b ≡ false
-letter-newline b h =
-    or_from ((b == 9) || (b == 10)) (b == 13)
-    (or_from (b == 9) (b == 10) (passes_not is_letter b 9 refl h)
+letter-newline b h = or_from _ _ (or_from _ _ (passes_not is_letter b 9 refl h)
     (passes_not is_letter b 10 refl h)) (passes_not is_letter b 13 refl h)
 
 letter-scheme : (b : ℕ) → is_letter b ≡ true → is_scheme_byte b ≡ true
-letter-scheme b h =
-    or_left (is_letter b || is_between 48 57 b || (b == 43) || (b == 45)) (b == 46)
-    (or_left (is_letter b || is_between 48 57 b || (b == 43)) (b == 45) (or_left (is_letter b
-    || is_between 48 57 b) (b == 43) (or_left (is_letter b) (is_between 48 57 b) h)))
+letter-scheme b h = or_left _ _ (or_left _ _ (or_left _ _ (or_left _ _ h)))
 
 leading-word : (q y : List ℕ) → is_word q ≡ true → without_leading (q ++ y) ≡ q ++ y
 leading-word [] y h = lie h
-leading-word (b ∷ q) y h =
-    past _ (letter-control b (and_parts (is_letter b) (list_all is_letter q) h).0) refl
+leading-word (b ∷ q) y h = past _ (letter-control b (and_parts _ _ h).0) refl
 
 trailing-word : (q r : List ℕ) → list_all is_letter q ≡ true →
     without_trailing (q ++ (58 ∷ r)) ≡ q ++ (58 ∷ without_trailing r)
 trailing-word [] r h = refl
 trailing-word (b ∷ q) r h =
-    let p = and_parts (is_letter b) (list_all is_letter q) h in
-    past _ (and_left (is_control_or_space b) (list_all is_control_or_space (q ++ (58 ∷ r)))
-    (letter-control b p.0))
-    (ap (λ y. b ∷ y) (trailing-word q r p.1))
+    let p = and_parts _ _ h in
+    past _ (and_left _ _ (letter-control b p.0)) (ap (λ y. b ∷ y) (trailing-word q r p.1))
 
 newlines-word : (q r : List ℕ) → list_all is_letter q ≡ true →
     without_newlines (q ++ (58 ∷ r)) ≡ q ++ (58 ∷ without_newlines r)
@@ -151,10 +141,9 @@ in_scheme-word : (buffer q r : List ℕ) → list_all is_letter q ≡ true →
     in_scheme buffer (q ++ (58 ∷ r)) ≡ Some (buffer ++ lowered q)
 in_scheme-word buffer [] r h = ap (λ b. Some b) (sym (append-nil buffer))
 in_scheme-word buffer (b ∷ q) r h =
-    let p = and_parts (is_letter b) (list_all is_letter q) h in
-    here _ (letter-scheme b p.0)
-    (in_scheme-word (buffer ++ (lower b ∷ [])) q r p.1
-    ∙ ap (λ b. Some b) (append_assoc buffer (lower b ∷ []) (lowered q)))
+    let p = and_parts _ _ h in
+    here _ (letter-scheme b p.0) (in_scheme-word (buffer ++ (lower b ∷ [])) q r p.1 ∙ ap
+    (λ b. Some b) (append_assoc buffer (lower b ∷ []) (lowered q)))
 
 in_scheme_start-word : (q r : List ℕ) → is_word q ≡ true →
     in_scheme_start (q ++ (58 ∷ r)) ≡ Some (lowered q)
@@ -163,17 +152,15 @@ in_scheme_start-word (b ∷ q) r h =
     let p = and_parts (is_letter b) (list_all is_letter q) h in
     here _ p.0 (in_scheme-word (lower b ∷ []) q r p.1)
 
-scheme_of-word : (q r : List ℕ) → is_word q ≡ true →
-    scheme_of (with_line_feeds (q ++ (58 ∷ r))) ≡ Some (lowered q)
+scheme_of-word : (q r : List ℕ) → is_word q ≡ true → scheme_of (with_line_feeds (q ++ (58 ∷ r)))
+    ≡ Some (lowered q)
 scheme_of-word q r h =
-    let letters = (and_parts (is_nonempty q) (list_all is_letter q) h).1 in
+    let letters = (and_parts _ _ h).1 in
     let lines = with_line_feeds r in
-    ap scheme_of (line_feeds-name q (58 ∷ r) (letters-no_return q letters))
-    ∙ ap (λ y. in_scheme_start (without_newlines (without_trailing y)))
-    (leading-word q (58 ∷ lines) h)
-    ∙ ap (λ y. in_scheme_start (without_newlines y)) (trailing-word q lines letters)
-    ∙ ap in_scheme_start (newlines-word q (without_trailing lines) letters)
-    ∙ in_scheme_start-word q (without_newlines (without_trailing lines)) h
+    ap scheme_of (line_feeds-name q _ (letters-no_return q letters)) ∙ ap (λ y. in_scheme_start
+    (without_newlines (without_trailing y))) (leading-word q _ h) ∙ ap
+    (λ y. in_scheme_start (without_newlines y)) (trailing-word q _ letters) ∙ ap in_scheme_start
+    (newlines-word q _ letters) ∙ in_scheme_start-word q _ h
 
 lowered-word : (q : List ℕ) → is_word (lowered q) ≡ true → is_word q ≡ true
 lowered-word [] h = h

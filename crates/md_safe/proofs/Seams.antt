@@ -3,17 +3,7 @@ use Rattle.std.proofs.Common.{◌≡◌, ℕ, ◌==◌, Bool, true, false, ◌&&
 use Rattle.std.proofs.Common.{refl, ap, ◌∙◌}
 use Rattle.md_safe.specs.Input.{begins_with_line_feed, with_line_feeds}
 use Rattle.md_safe.specs.Embedded.{splits_newline}
-use Rattle.md_safe.proofs.LineFeeds.{one}
-
-one-append : (b : ℕ) (feed : Bool) (x r : List ℕ) → one b feed (x ++ r) ≡ one b feed x ++ r
-one-append b feed x r = by (b == 13) feed
-  where
-    by : (return feed : Bool) →
-        cond return (cond feed (x ++ r) (10 ∷ (x ++ r))) (b ∷ (x ++ r))
-        ≡ cond return (cond feed x (10 ∷ x)) (b ∷ x) ++ r
-    by true true = refl
-    by true false = refl
-    by false feed = refl
+use Rattle.md_safe.proofs.LineFeeds.{one, one-append}
 
 pub line_feeds-apart : (x r : List ℕ) → splits_newline x r ≡ false →
     with_line_feeds (x ++ r) ≡ with_line_feeds x ++ with_line_feeds r

@@ -1,6 +1,6 @@
 -- The section of footnotes has a reading: its heading, its items and their ways back.
-use Rattle.std.proofs.Common.{◌≡◌, ℕ, ◌==◌, Bool, true, false, not, cond, List, [], ◌∷◌, ◌++◌}
-use Rattle.std.proofs.Common.{length, refl, sym, ap, subst, append_assoc, codes}
+use Rattle.std.proofs.Common.{◌≡◌, ℕ, Bool, true, false, cond, List, [], ◌∷◌, ◌++◌, refl, sym, ap}
+use Rattle.std.proofs.Common.{subst, append_assoc, codes}
 use Rattle.std.specs.Prelude.{Some, None, option_map, find, bytes_eq, string_bytes}
 use Rattle.std.specs.Option.{option_map_or}
 use Rattle.std.specs.List.{flat_map}
@@ -11,17 +11,16 @@ use Rattle.md_text.specs.declared.options.CompileOptions.{CompileOptions}
 use Rattle.md_meaning.specs.Meaning.At.{Footnote, Context}
 use Rattle.md_meaning.specs.Meaning.Layout.{Piece, Text, Needed, Forced}
 use Rattle.md_meaning.specs.Meaning.Footnotes.{option_or, id_of, backreferences, body, item}
-use Rattle.md_meaning.specs.Meaning.Footnotes.{section_start, section, distinct, place_among}
-use Rattle.md_meaning.specs.Meaning.Footnotes.{count_of}
+use Rattle.md_meaning.specs.Meaning.Footnotes.{section, distinct, place_among, count_of}
 use Rattle.md_meaning.specs.FootnoteHeading.{tag_of, attributes_of}
 use Rattle.md_safe.proofs.Texts.{Escaped}
 use Rattle.md_safe.proofs.Claim.{Claim, plain_of}
 use Rattle.md_safe.proofs.Laid.{Adds, adds-all, adds-nothing, adds-needed, adds-forced, IsBeside}
 use Rattle.md_safe.proofs.Laid.{escaped_beside}
 use Rattle.md_safe.proofs.Tags.{attribute, Turns, TurnsTag, Takes, Bracket, adds-turned}
-use Rattle.md_safe.proofs.Tags.{bracket-tag}
-use Rattle.md_safe.proofs.Tags.{element-read, adds-framed, adds-framed_flat, framed-around, flat}
-use Rattle.md_safe.proofs.Tags.{framed-needed, framed-forced, takes-escaped, adds-flat}
+use Rattle.md_safe.proofs.Tags.{bracket-tag, element-read, adds-framed, adds-framed_flat}
+use Rattle.md_safe.proofs.Tags.{framed-around, framed-needed, framed-forced, takes-escaped}
+use Rattle.md_safe.proofs.Tags.{adds-flat}
 use Rattle.md_safe.proofs.Calls.{label-escaped, id-escaped, backreferences-read, reads-text}
 use Rattle.md_safe.proofs.Elements.{bracket-plain}
 use Rattle.md_safe.proofs.Spot.{PassesIds, IsWhole, Setting, Prints}
@@ -31,18 +30,17 @@ use Rattle.md_safe.proofs.Findings.{AreTexts, AreRead}
 use Rattle.md_safe.proofs.FootnoteBodies.{body-prints}
 
 -- an element before the content of brackets
-pub turn-after : (Q R S : List ℕ → Type 0) (o c h : List ℕ) → Turns R S o c →
+pub turn-after : {Q R S : List ℕ → Type 0} {o c : List ℕ} (h : List ℕ) → Turns R S o c →
     ((x : List ℕ) → Q x → R (h ++ x)) → Turns Q S (o ++ h) c
-turn-after Q R S o c h bracket grows x rx =
-    subst S (by o h x c) (bracket (h ++ x) (grows x rx))
+turn-after {S = S} {o} {c} h bracket grows =
+    record { turn = λ x rx. subst S (by o h x c) (bracket.turn (h ++ x) (grows x rx)) }
   where
     by : (o h x c : List ℕ) → o ++ ((h ++ x) ++ c) ≡ (o ++ h) ++ (x ++ c)
     by o h x c = simp append_assoc
 
 bracket-after : (p : Claim) (o c h : List ℕ) → Bracket p o c → HasReadingWith p.test h →
     Bracket p (o ++ h) c
-bracket-after p o c h bracket r = turn-after p.holds p.holds p.holds o c h bracket
-    (λ x rx. p.before h x r rx)
+bracket-after p o c h bracket r = turn-after h bracket (λ x rx. p.before h x r rx)
 
 abbrev pub heading_label_of : CompileOptions → List ℕ
 heading_label_of options =
@@ -57,41 +55,35 @@ heading_text tag attributes label =
 
 heading-bracket : (s : Setting) (label : List ℕ) → PassesIds s.p.test → Escaped label →
     Bracket s.p (heading_text (codes "h2") (codes "class=\"sr-only\"") label) (codes "</section>")
-heading-bracket s label ids h =
-    bracket-after s.p (codes "<section data-footnotes=\"\" class=\"footnotes\">")
-    (codes "</section>")
-    (codes "<h2 id=\"footnote-label\" class=\"sr-only\">" ++ (label ++ codes "</h2>"))
-    (bracket-tag s.p (codes "section") (attribute (codes "data-footnotes") []
-    ∷ attribute (codes "class") (codes "footnotes") ∷ []) refl
-    (rw (
+heading-bracket s label ids h = bracket-after s.p
+    (codes "<section data-footnotes=\"\" class=\"footnotes\">") (codes "</section>") (codes
+    "<h2 id=\"footnote-label\" class=\"sr-only\">" ++ (label ++ codes "</h2>")) ((bracket-tag s.p
+    (codes "section")).tag (attribute (codes "data-footnotes") [] ∷ attribute (codes "class")
+    (codes "footnotes") ∷ []) refl (rw (
       s.test.other (codes "data-footnotes") [] refl,
       s.test.other (codes "class") (codes "footnotes") refl,
     )
-    refl))
-    (element-read (plain_of s.p) (codes "h2") (attribute (codes "id") (codes "footnote-label")
-    ∷ attribute (codes "class") (codes "sr-only") ∷ []) label refl
-    (rw (
+    refl)) ((element-read (plain_of s.p) (codes "h2")).tag (attribute (codes "id")
+    (codes "footnote-label") ∷ attribute (codes "class") (codes "sr-only") ∷ []) label refl (rw (
       ids (codes "footnote-label"),
       s.test.other (codes "class") (codes "sr-only") refl,
     ) refl)
     (text s.p.test label h))
 
 -- the same as the options write it
-section-turn : (Q R : List ℕ → Type 0) (options : CompileOptions) →
-    Turns Q R (heading_text (codes "h2") (codes "class=\"sr-only\"") (heading_label_of options))
-    (codes "</section>") → options.gfm_footnote_label_tag_name ≡ None →
-    options.gfm_footnote_label_attributes ≡ None →
-    Turns Q R (heading_text (tag_of options) (attributes_of options) (heading_label_of options))
-    (codes "</section>")
-section-turn Q R options turn no_tag no_attributes =
-    let tag : tag_of options ≡ codes "h2" =
-    ap (λ o. option_or (option_map string_bytes o) (codes "h2")) no_tag in
-    let attributes : attributes_of options ≡ codes "class=\"sr-only\"" =
-    ap (λ o. option_map_or string_bytes o (codes "class=\"sr-only\"")) no_attributes in
+section-turn : {Q R : List ℕ → Type 0} (options : CompileOptions) → Turns Q R (heading_text
+    (codes "h2") (codes "class=\"sr-only\"") (heading_label_of options)) (codes "</section>") →
+    options.gfm_footnote_label_tag_name ≡ None → options.gfm_footnote_label_attributes ≡ None →
+    Turns Q R (heading_text (tag_of options) (attributes_of options)
+    (heading_label_of options)) (codes "</section>")
+section-turn {Q = Q} {R = R} options turn no_tag no_attributes =
+    let tag : tag_of options ≡ codes "h2" = ap
+    (λ o. option_or (option_map string_bytes o) (codes "h2")) no_tag in
+    let attributes : attributes_of options ≡ codes "class=\"sr-only\"" = ap (λ o. option_map_or
+    string_bytes o (codes "class=\"sr-only\"")) no_attributes in
     subst (λ tag. Turns Q R (heading_text tag (attributes_of options) (heading_label_of options))
-    (codes "</section>")) (sym tag)
-    (subst (λ attributes. Turns Q R (heading_text (codes "h2") attributes
-    (heading_label_of options)) (codes "</section>")) (sym attributes) turn)
+    (codes "</section>")) (sym tag) (subst (λ attributes. Turns Q R (heading_text (codes "h2")
+    attributes (heading_label_of options)) (codes "</section>")) (sym attributes) turn)
 
 -- an item
 pub li_id : (v : List ℕ) → Escaped v →
@@ -101,13 +93,12 @@ li_id v h = rw h refl
 abbrev pub item_tag : List ℕ → List ℕ
 item_tag v = codes "<li id=\"" ++ (v ++ (codes "\">" ++ []))
 
-pub item-turns : (test : Attribute → Bool) (Q R : List ℕ → Type 0) → TurnsTag test Q R
-    (codes "li") → (v : List ℕ) → test (attribute (codes "id") v) ≡ true → Escaped v →
-    Turns Q R (item_tag v) (codes "</li>")
-item-turns test Q R turns v passes h =
-    subst (λ o. Turns Q R o (codes "</li>"))
-    (ap (λ x. codes "<li id=\"" ++ x) (append_assoc v (34 ∷ []) (62 ∷ [])))
-    (turns (attribute (codes "id") v ∷ []) (li_id v h) (cc passes))
+pub item-turns : {test : Attribute → Bool} {Q R : List ℕ → Type 0} →
+    TurnsTag test Q R (codes "li") → (v : List ℕ) → test (attribute (codes "id") v) ≡ true →
+    Escaped v → Turns Q R (item_tag v) (codes "</li>")
+item-turns {Q = Q} {R} turns v passes h = subst (λ o. Turns Q R o (codes "</li>")) (ap
+    (λ x. codes "<li id=\"" ++ x) (append_assoc v (34 ∷ []) (62 ∷ []))) (turns.tag
+    (attribute (codes "id") v ∷ []) (li_id v h) (cc passes))
 
 -- the text of a footnote
 abbrev pub text_among : List Footnote → List ℕ → List ℕ
@@ -137,36 +128,27 @@ backs_of context identifier =
     backreferences context.options identifier (place_among (distinct context.calls) identifier)
     (count_of context.calls identifier)
 
-pub adds-item : (W Q R : List ℕ → Type 0) → IsBeside W → Takes W Q → Takes W R →
+pub adds-item : {W Q R : List ℕ → Type 0} → IsBeside W → Takes W Q → Takes W R →
     (context : Context) → W context.ending → (footnotes : List Footnote) (identifier : List ℕ) →
     Turns Q R (item_tag (note_id context identifier)) (codes "</li>") →
     Adds context.ending Q (body (text_among footnotes identifier) (backs_of context identifier)) →
     Adds context.ending R (item context footnotes identifier)
-adds-item W Q R beside takes stays context h footnotes identifier turn a =
+adds-item beside takes stays context h footnotes identifier turn a =
     let v : List ℕ = note_id context identifier in
     let opening : List Piece = Text (codes "<li id=\"") ∷ Text v ∷ Text (codes "\">") ∷ [] in
-    adds-turned W Q R context.ending (item_tag v) (codes "</li>")
-    ((Forced ∷ []) ++ (opening ++ (Forced ∷ [])))
-    (body (text_among footnotes identifier) (backs_of context identifier))
-    (Needed ∷ Text (codes "</li>") ∷ []) takes stays turn
-    (framed-around context.ending (item_tag v) (Forced ∷ []) opening (Forced ∷ [])
-    (adds-forced context.ending h) (adds-flat context.ending (λ x. x ≡ item_tag v) opening refl
-    refl) (adds-forced context.ending h))
-    a (framed-needed beside context.ending (codes "</li>") h)
+    adds-turned takes stays turn (framed-around {ys = opening} (adds-forced h) (adds-flat refl refl)
+    (adds-forced h)) a (framed-needed beside h)
 
 pub item-prints : (s : Setting) (q : Claim) (footnotes : List Footnote) (identifier : List ℕ) →
     Turns s.p.holds q.holds (item_tag (note_id s.context identifier)) (codes "</li>") →
-    Reads s (text_among footnotes identifier) →
-    Prints s q.holds (item s.context footnotes identifier)
-item-prints s q footnotes identifier turn r =
-    adds-item Escaped s.p.holds q.holds escaped_beside (takes-escaped s.p) (takes-escaped q)
-    s.context s.ending footnotes identifier turn
-    (body-prints s (text_among footnotes identifier) (backs_of s.context identifier) r
-    (backreferences-read s.p.test (HasReadingWith s.p.test) (HasReadingWith s.p.test)
-    s.context.options s.test (reads-text s.p.test) (reads-text s.p.test)
-    (element-read (plain_of s.p) (codes "a")) (element-read (plain_of s.p) (codes "sup"))
-    identifier (place_among (distinct s.context.calls) identifier)
-    (count_of s.context.calls identifier)))
+    Reads s (text_among footnotes identifier) → Prints s
+    q.holds (item s.context footnotes identifier)
+item-prints s q footnotes identifier turn r = adds-item escaped_beside (takes-escaped s.p)
+    (takes-escaped q) s.context s.ending footnotes identifier turn (body-prints s
+    (text_among footnotes identifier) (backs_of s.context identifier) r (backreferences-read s.test
+    (reads-text s.p.test) (reads-text s.p.test) (element-read (plain_of s.p) (codes "a"))
+    (element-read (plain_of s.p) (codes "sup")) identifier
+    (place_among (distinct s.context.calls) identifier) (count_of s.context.calls identifier)))
 
 -- the beginning of the section
 abbrev head_texts : CompileOptions → List Piece
@@ -176,69 +158,48 @@ head_texts options =
     ∷ Text (heading_label_of options)
     ∷ Text (codes "</") ∷ Text (tag_of options) ∷ Text (codes ">") ∷ []
 
--- and its end
-abbrev section_end : List Piece
-section_end = Forced ∷ Text (codes "</ol>") ∷ Forced ∷ Text (codes "</section>") ∷ Forced ∷ []
-
 -- items between the tags of the list and of the section
-pub adds-section : (W I Q R : List ℕ → Type 0) → IsBeside W → Takes W I → Takes W Q → Takes W R →
-    (context : Context) → W context.ending → Turns I Q (codes "<ol>") (codes "</ol>") →
-    Turns Q R (heading_text (codes "h2") (codes "class=\"sr-only\"")
-    (heading_label_of context.options)) (codes "</section>") →
-    context.options.gfm_footnote_label_tag_name ≡ None →
+pub adds-section : {W I Q R : List ℕ → Type 0} → IsBeside W → Takes W I → Takes W Q → Takes W R →
+    (context : Context) → W context.ending → Turns I Q (codes "<ol>") (codes "</ol>") → Turns Q R
+    (heading_text (codes "h2") (codes "class=\"sr-only\"") (heading_label_of context.options))
+    (codes "</section>") → context.options.gfm_footnote_label_tag_name ≡ None →
     context.options.gfm_footnote_label_attributes ≡ None → R [] → (footnotes : List Footnote) →
     Adds context.ending I (flat_map (item context footnotes) (distinct context.calls)) →
     Adds context.ending R (section context footnotes)
-adds-section W I Q R beside takes stays ends context h list turn no_tag no_attributes none footnotes
+adds-section {R = R} beside takes stays ends context h list turn no_tag no_attributes none footnotes
     a =
     let items : List Piece = flat_map (item context footnotes) (distinct context.calls) in
     let ol : List Piece = Forced ∷ Text (codes "<ol>") ∷ [] in
     let end : List Piece = Forced ∷ Text (codes "</ol>") ∷ [] in
     let last : List Piece = Forced ∷ Text (codes "</section>") ∷ Forced ∷ [] in
     let heads : List Piece = head_texts context.options in
-    cond_both (not (length context.calls == 0))
-    (section_start context.options ++ (items ++ section_end)) [] (Adds context.ending R)
-    (λ _. subst (λ x. Adds context.ending R ((Needed ∷ heads) ++ (ol ++ x)))
-    (append_assoc items end last)
-    (adds-turned W Q R context.ending (flat heads) (codes "</section>")
-    (Needed ∷ heads) (ol ++ (items ++ end)) last stays ends
-    (section-turn Q R context.options turn no_tag no_attributes)
-    (adds-framed_flat beside context.ending (Needed ∷ []) heads refl
-    (adds-needed beside context.ending h))
-    (adds-turned W I Q context.ending (codes "<ol>") (codes "</ol>") ol items end takes stays list
-    (framed-forced beside context.ending (codes "<ol>") h) a
-    (framed-forced beside context.ending (codes "</ol>") h))
-    (adds-framed context.ending (codes "</section>") (Forced ∷ []) (Forced ∷ [])
-    (adds-forced context.ending h) (adds-forced context.ending h))))
-    (λ _. adds-nothing context.ending R none)
+    cond_both _ _ _ (Adds context.ending R) (λ _. subst
+    (λ x. Adds context.ending R ((Needed ∷ heads) ++ (ol ++ x))) (append_assoc items end last)
+    (adds-turned stays ends (section-turn context.options turn no_tag no_attributes)
+    (adds-framed_flat beside heads refl (adds-needed beside h)) (adds-turned takes stays list
+    (framed-forced beside h) a (framed-forced beside h))
+    (adds-framed (adds-forced h) (adds-forced h)))) (λ _. adds-nothing none)
 
 -- the same of a claim
-pub section-around : (s : Setting) (q : Claim) →
-    Turns s.p.holds q.holds
-    (heading_text (codes "h2") (codes "class=\"sr-only\"") (heading_label_of s.context.options))
-    (codes "</section>") → s.context.options.gfm_footnote_label_tag_name ≡ None →
+pub section-around : (s : Setting) (q : Claim) → Turns s.p.holds q.holds (heading_text (codes "h2")
+    (codes "class=\"sr-only\"") (heading_label_of s.context.options)) (codes "</section>") →
+    s.context.options.gfm_footnote_label_tag_name ≡ None →
     s.context.options.gfm_footnote_label_attributes ≡ None → (footnotes : List Footnote) →
     Prints s (Reads s) (flat_map (item s.context footnotes) (distinct s.context.calls)) →
     Prints s q.holds (section s.context footnotes)
-section-around s q turn no_tag no_attributes footnotes a =
-    adds-section Escaped s.p.holds s.p.holds q.holds escaped_beside (takes-escaped s.p)
-    (takes-escaped s.p) (takes-escaped q) s.context s.ending (bracket-plain s.p (codes "ol") refl)
-    turn no_tag no_attributes (q.plain [] (nothing q.test)) footnotes a
+section-around s q turn no_tag no_attributes footnotes a = adds-section escaped_beside
+    (takes-escaped s.p) (takes-escaped s.p) (takes-escaped q) s.context s.ending
+    (bracket-plain s.p (codes "ol") refl) turn no_tag no_attributes (q.plain [] (nothing q.test))
+    footnotes a
 
-pub section-prints : (s : Setting) → IsWhole s.p →
-    s.context.options.gfm_footnote_label_tag_name ≡ None →
-    s.context.options.gfm_footnote_label_attributes ≡ None →
-    (footnotes : List Footnote) → AreRead s footnotes
-    → Prints s (Reads s) (section s.context footnotes)
-section-prints s whole no_tag no_attributes footnotes h =
-    section-around s s.p
-    (heading-bracket s (heading_label_of s.context.options) whole.ids
-    (label-escaped s.context.options))
-    no_tag no_attributes footnotes
-    (adds-all s.context.ending (Reads s) (record { none = holds-none s; both = whole.both })
-    (item s.context footnotes) (λ identifier. item-prints s s.p footnotes identifier
-    (item-turns s.p.test s.p.holds s.p.holds (bracket-tag s.p (codes "li"))
-    (note_id s.context identifier) (whole.ids (note_id s.context identifier))
-    (id-escaped s.context.options (codes "fn-") identifier
-    (place_among (distinct s.context.calls) identifier) refl))
-    (texts-among (Reads s) (holds-none s) footnotes identifier h)) (distinct s.context.calls))
+pub section-prints : (s : Setting) → IsWhole s.p → s.context.options.gfm_footnote_label_tag_name
+    ≡ None → s.context.options.gfm_footnote_label_attributes ≡ None → (footnotes : List Footnote) →
+    AreRead s footnotes → Prints s (Reads s) (section s.context footnotes)
+section-prints s whole no_tag no_attributes footnotes h = section-around s s.p (heading-bracket s
+    (heading_label_of s.context.options) whole.ids (label-escaped s.context.options)) no_tag
+    no_attributes footnotes (adds-all (record { none = holds-none s; both = whole.both })
+    (λ identifier. item-prints s s.p footnotes identifier (item-turns (bracket-tag s.p (codes "li"))
+    (note_id s.context identifier) (whole.ids (note_id s.context identifier)) (id-escaped
+    s.context.options (codes "fn-") identifier (place_among (distinct s.context.calls) identifier)
+    refl)) (texts-among (Reads s) (holds-none s) footnotes identifier h))
+    (distinct s.context.calls))

@@ -1,56 +1,106 @@
--- What spans and links print where phrasing content stands.
-use Rattle.std.proofs.Common.{◌≡◌, ℕ, suc, Bool, true, false, not, ◌&&◌, ◌||◌, cond, List, [], ◌∷◌}
-use Rattle.std.proofs.Common.{◌++◌, refl, sym, subst, codes}
-use Rattle.std.proofs.lemmas.Bool.{or_parts, and_parts, not-true}
+-- What stands in a line of text: strings, spans, links and what prints nothing print phrasing
+-- content.
+use Rattle.std.proofs.Common.{Bool, List, ap, codes, false, refl, suc, sym, true, ℕ, ◌&&◌, ◌++◌}
+use Rattle.std.proofs.Common.{◌||◌, ◌∙◌, ◌∷◌, ◌≡◌, subst, [], not, cond}
+use Rattle.std.proofs.lemmas.Bool.{and_from, and_parts, cond_both, not-true, or_parts}
+use Rattle.std.specs.Prelude.{None}
+use Rattle.md_base.specs.declared.event.Name.TheVariants as name_variants
+use name_variants.{AutolinkEmail, AutolinkProtocol, GfmAutolinkLiteralEmail}
+use name_variants.{GfmAutolinkLiteralMailto, GfmAutolinkLiteralProtocol, GfmAutolinkLiteralWww}
+use name_variants.{GfmAutolinkLiteralXmpp, GfmFootnoteCall, GfmTaskListItemCheck, HardBreakEscape}
+use name_variants.{HardBreakTrailing, Image, Link}
 use Rattle.md_base.proofs.Lies.{lie}
 use Rattle.md_base.specs.Is.{is as named}
 use Rattle.md_base.specs.declared.event.Name.{Name}
-use Rattle.md_base.specs.declared.event.Name.TheVariants as name_variants
-use name_variants.{Link, Image, HardBreakEscape, HardBreakTrailing}
-use name_variants.{GfmTaskListItemCheck, GfmFootnoteCall, AutolinkEmail, AutolinkProtocol}
-use name_variants.{GfmAutolinkLiteralEmail, GfmAutolinkLiteralMailto, GfmAutolinkLiteralProtocol}
-use name_variants.{GfmAutolinkLiteralWww, GfmAutolinkLiteralXmpp}
-use Rattle.md_meaning.specs.Meaning.At.{At, identifier_of}
-use Rattle.md_meaning.specs.Meaning.Layout.{Piece, layout, said}
-use Rattle.md_meaning.specs.Meaning.Means.{prints}
-use Rattle.md_meaning.specs.Meaning.Media.{anchor, picture, leads_to, literal}
-use Rattle.md_meaning.specs.Meaning.Footnotes.{call, place_among, distinct, count_of}
 use Rattle.md_content.specs.Built.{Blocks, content_of, is_autolink}
-use Rattle.md_safe.proofs.SpanContents.{SpanPrints}
+use Rattle.md_meaning.specs.Meaning.At.{At, Target, identifier_of, text_in}
+use Rattle.md_meaning.specs.Meaning.Footnotes.{call, call_id, count_of, distinct, place_among}
+use Rattle.md_meaning.specs.Meaning.Layout.{Piece, Text, layout, said, when}
+use Rattle.md_meaning.specs.Meaning.Means.{prints}
+use Rattle.md_meaning.specs.Meaning.Media.{anchor, autolink, leads_to, literal, picture}
+use Rattle.md_meaning.specs.Meaning.Spans.{task_start}
+use Rattle.md_steps.proofs.Standing.{picked}
+use Rattle.md_text.proofs.EncodeLaws.{is_escaped-encoded}
+use Rattle.md_text.specs.Encode.{encoded}
+use Rattle.md_safe.proofs.BlockNodes.{hidden-prints, is_hidden, is_silent, silent-block}
+use Rattle.md_safe.proofs.BlockNodes.{silent-prints}
+use Rattle.md_safe.proofs.Calls.{adds-call, call_tags}
 use Rattle.md_safe.proofs.Cases.{either}
-use Rattle.md_safe.proofs.Texts.{Escaped}
-use Rattle.md_safe.proofs.Insides.{is_blocks}
-use Rattle.md_safe.proofs.Laid.{adds-alone, adds-weaker}
-use Rattle.md_text.specs.Html.{any_attribute}
-use Rattle.md_safe.proofs.Tags.{Turns}
-use Rattle.md_safe.proofs.Media.{adds-image}
+use Rattle.md_safe.proofs.Claims.{AreSpans, Claims, Here, Known, Own, Prints, SpanPrints, are-spans}
+use Rattle.md_safe.proofs.Claims.{nothing, pair, plain_tag, says}
+use Rattle.md_safe.proofs.Elements.{adds-task, class-passes}
+use Rattle.md_safe.proofs.FlowNodes.{is_leaf, leaf-escaped}
+use Rattle.md_safe.proofs.Laid.{Adds, adds-alone, adds-text, adds-weaker}
+use Rattle.md_safe.proofs.Linking.{in_link, is_linked, is_spans, place-other, place_in}
+use Rattle.md_safe.proofs.Linking.{without_links}
+use Rattle.md_safe.proofs.Media.{IsEscapedTitle, adds-image, adds-link}
+use Rattle.md_safe.proofs.SpanNodes.{is_shown, is_single}
+use Rattle.md_safe.proofs.SpanSorts.{by_pair, code-prints, code-text, code_opening, is_code}
+use Rattle.md_safe.proofs.SpanSorts.{is_math, is_pair, pair-prints, shown-escaped, shown_in}
 use Rattle.md_safe.proofs.Spot.{target-title}
 use Rattle.md_safe.proofs.StringNodes.{is_text, text-node}
-use Rattle.md_safe.proofs.SpanSorts.{is_pair, pair_tag, by_pair, pair-prints, is_code, is_math}
-use Rattle.md_safe.proofs.SpanSorts.{code_opening, code-prints, code-text}
-use Rattle.md_safe.proofs.SpanNodes.{is_single, is_shown, any-code}
-use Rattle.md_safe.proofs.Costs.{Document, read_in}
-use Rattle.md_safe.specs.Contents.{Content, Phrasing, Characters}
-use Rattle.md_safe.proofs.Linking.{in_link}
-use Rattle.md_safe.proofs.Stands.{Stands, stands-text, stands-tag, stands-void, turns-plain}
-use Rattle.md_safe.proofs.SpanContents.{Prints, AreSpans, Here, pair}
-use Rattle.md_safe.proofs.LinksAndImages.{autolinked, link}
-use Rattle.md_safe.proofs.TasksAndCalls.{code-node, break, task-node, call-node}
+use Rattle.md_safe.proofs.Tags.{Tagged, Turns, adds-flat, attribute}
+use Rattle.md_safe.proofs.Texts.{Escaped}
+use Rattle.md_safe.specs.Contents.{Characters, Content, Linked, Phrasing, may_say}
+use Rattle.md_safe.specs.Links.{prints_link}
+use Rattle.md_safe.specs.Placed.{place_of}
+use Rattle.md_safe.proofs.Insides.{is_blocks}
+
+-- ---- links
+
+-- the tag of a link
+pub a-tag : (m : Claims) → Tagged m.s.p.test (m.holds (in_link m.nested))
+    (m.holds Phrasing) (codes "a")
+a-tag m = m.element (in_link m.nested) Phrasing (codes "a") refl
+
+link : (m : Claims) (target : Target) (label : List ℕ) → IsEscapedTitle target.title →
+    m.holds (in_link m.nested) label → Prints m Phrasing (anchor m.s.context.options target label)
+link m target label h r = adds-link m.s.test (a-tag m) target label h r
+
+-- a text in a link
+pub linked-text : (m : Claims) (x : List ℕ) → Escaped x → m.holds (in_link m.nested) x
+linked-text m x h = m.text (in_link m.nested) x h (by m.nested)
+  where
+    by : (nested : Bool) → may_say (in_link nested) x ≡ true
+    by true = refl
+    by false = refl
+
+autolinked : (m : Claims) {content : Content} → AreSpans m.nested content →
+    (t : At) (plain : Bool) (prefix : List ℕ) → (plain ≡ false → content ≡ Phrasing) →
+    Prints m content (autolink m.s.context t plain prefix)
+autolinked m {content} f t plain prefix free =
+    let x : List ℕ = text_in m.s.context.bytes t.place in
+    let target : Target = record { destination = prefix ++ x; title = None } in
+    let said_so : Escaped (encoded true x) = is_escaped-encoded x in
+    cond_both _ _ _ (Prints m content) (λ _. adds-text (says m f _ said_so)) (λ no. subst (λ c.
+    Prints m c (anchor m.s.context.options target (encoded true x))) (sym (free no)) (link m target
+    (encoded true x) tt (linked-text m (encoded true x) said_so)))
 
 -- a literal autolink, which is plain in links too
-literal-node : (nested : Bool) (d : Document) (content : Content) (f : AreSpans nested content)
-    (t : At) (prefix : List ℕ) →
-    (t.around.in_link ≡ false → content ≡ Phrasing) →
-    Prints nested d content (literal d.context t prefix)
-literal-node nested d content f t prefix plain =
-    autolinked nested d content f t (t.around.in_image || t.around.in_link) prefix
-    (λ no. plain (or_parts t.around.in_image t.around.in_link no).1)
+literal-node : (m : Claims) {content : Content} → AreSpans m.nested content →
+    (t : At) (prefix : List ℕ) → (t.around.in_link ≡ false → content ≡ Phrasing) →
+    Prints m content (literal m.s.context t prefix)
+literal-node m f t prefix plain = autolinked m f t (t.around.in_image || t.around.in_link) prefix
+    (λ no. plain (or_parts _ _ no).1)
 
-pub string-node : (nested : Bool) (d : Document) (content : Content) (t : At) (name : Name) →
-    is_text name ≡ true → SpanPrints nested d t content name
-string-node nested d content t name is inner k a =
-    adds-weaker d.context.ending Escaped (Stands nested content) (prints d.context t name inner)
-    a.spans.text (text-node (read_in d) t Escaped name (λ x h. h k.escaping) is k.fit inner)
+autolink-node : (m : Claims) (t : At) (content : Content) (name : Name) → is_autolink name ≡ true →
+    SpanPrints m t content name
+autolink-node m t content AutolinkEmail is inner k a = autolinked m a.spans t t.around.in_image
+    (codes "mailto:") (λ _. a.free refl)
+autolink-node m t content AutolinkProtocol is inner k a = autolinked m a.spans t t.around.in_image
+    [] (λ _. a.free refl)
+autolink-node m t content GfmAutolinkLiteralEmail is inner k a = literal-node m a.spans t
+    (codes "mailto:") a.plain
+autolink-node m t content GfmAutolinkLiteralMailto is inner k a = literal-node m a.spans t []
+    a.plain
+autolink-node m t content GfmAutolinkLiteralProtocol is inner k a = literal-node m a.spans t []
+    a.plain
+autolink-node m t content GfmAutolinkLiteralWww is inner k a = literal-node m a.spans t
+    (codes "http://") a.plain
+autolink-node m t content GfmAutolinkLiteralXmpp is inner k a = literal-node m a.spans t [] a.plain
+autolink-node m t content _ is inner k a = lie is
+
+-- ---- spans
 
 -- in spans with tags around them blocks stand, and they are no links
 pair-blocks : (name : Name) →
@@ -58,86 +108,165 @@ pair-blocks : (name : Name) →
 pair-blocks Link = refl
 pair-blocks _ = refl
 
-pair-node : (nested : Bool) (d : Document) (content : Content) (t : At) (name : Name) →
-    is_pair name ≡ true → t.around.in_image ≡ false → (inner : List Piece) →
-    Here nested d t content name inner → Prints nested d content (prints d.context t name inner)
-pair-node nested d content t name is out inner a =
-    let tag : List ℕ = pair_tag name in
-    let own = and_parts (is_blocks (content_of name Blocks)) (not (named Link name))
-    (subst (λ b. not b || (is_blocks (content_of name Blocks) && not (named Link name)) ≡ true) is
-    (pair-blocks name)) in
-    subst (Prints nested d content) (sym (pair-prints d.context t name is inner))
-    (pair nested d t content a.spans.spaced out (60 ∷ (tag ++ (62 ∷ [])))
-    (60 ∷ 47 ∷ (tag ++ (62 ∷ [])))
-    (by_pair (λ tag. Turns (Stands nested content) (Stands nested content) (60 ∷ (tag ++ (62 ∷ [])))
-    (60 ∷ 47 ∷ (tag ++ (62 ∷ []))))
-    (turns-plain nested content content (codes "em") refl a.spans.em)
-    (turns-plain nested content content (codes "strong") refl a.spans.strong)
-    (turns-plain nested content content (codes "del") refl a.spans.del) name is)
-    inner (a.own own.0 (not-true (named Link name) own.1)))
+pair-node : (m : Claims) (t : At) (content : Content) (name : Name) → is_pair name ≡ true →
+    SpanPrints m t content name
+pair-node m t content name is inner k a =
+    let own = and_parts _ _ (subst (λ b. not b || (is_blocks (content_of name Blocks) && not
+    (named Link name)) ≡ true) is (pair-blocks name)) in
+    subst (Prints m content) (sym (pair-prints m.s.context t name is inner)) (pair m t
+    a.spans.spaced k.outside (by_pair (λ tag. Turns (m.holds content) (m.holds content)
+    (60 ∷ (tag ++ (62 ∷ []))) (60 ∷ 47 ∷ (tag ++ (62 ∷ []))))
+    (plain_tag m (codes "em") refl a.spans.em) (plain_tag m (codes "strong") refl a.spans.strong)
+    (plain_tag m (codes "del") refl a.spans.del) name is) (a.own own.0 (not-true _ own.1)))
 
-single-node : (nested : Bool) (d : Document) (content : Content) (t : At) (name : Name) → is_single
-    name ≡ true → SpanPrints nested d t content name
-single-node nested d content t Link is inner k a =
-    let label : List ℕ = layout d.context.ending inner in
-    subst (λ b. Prints nested d content
-    (cond b (said label) (anchor d.context.options (leads_to d.context t) label)))
-    (sym k.outside)
-    (subst (λ c. Prints nested d c (anchor d.context.options (leads_to d.context t) label))
-    (sym (a.free refl))
-    (link nested d (leads_to d.context t) label (target-title (read_in d) t k.resource)
-    (adds-alone d.context.ending (Stands nested (in_link nested)) inner (a.label refl))))
-single-node nested d content t Image is inner k a =
-    let label : List ℕ = layout d.context.ending inner in
-    subst (λ b. Prints nested d content
-    (cond b (said label) (picture d.context.options (leads_to d.context t) label)))
-    (sym k.outside)
-    (adds-image any_attribute (Stands nested content) d.context.ending d.context.options
-    (read_in d).test (stands-void nested content (codes "img") a.spans.img) (leads_to d.context t)
-    label (target-title (read_in d) t k.resource) (adds-alone d.context.ending Escaped inner
-    k.within))
-single-node nested d content t HardBreakEscape is inner k a =
-    break nested d content a.spans t k.outside
-single-node nested d content t HardBreakTrailing is inner k a =
-    break nested d content a.spans t k.outside
-single-node nested d content t GfmTaskListItemCheck is inner k a =
-    task-node nested d content a.spans t k.outside inner k.within
-single-node nested d content t GfmFootnoteCall is inner k a =
-    let identifier : List ℕ = identifier_of d.context.bytes t.children in
-    subst (λ c. Prints nested d c (call d.context t)) (sym (a.free refl))
-    (call-node nested d t k.outside identifier (place_among (distinct d.context.calls) identifier)
-    (suc (count_of t.calls identifier)))
-single-node nested d content t _ is inner k a = lie is
+-- code or math
+code-node : (m : Claims) (t : At) (content : Content) (name : Name) → is_code name ≡ true →
+    SpanPrints m t content name
+code-node m t content name is inner k a =
+    let math : Bool = is_math name in
+    let x : List ℕ = layout m.s.context.ending inner in
+    let shown : List ℕ = shown_in t x in
+    let e : Escaped shown = shown-escaped t x
+    (code-text m.s t Blocks name k.escaping is inner k.within) in
+    subst (Prints m content) (sym (code-prints m.s.context t name is inner)) (subst (λ b. Prints m
+    content (cond b (said shown) (Text (code_opening math) ∷ Text shown ∷ Text (codes "</code>")
+    ∷ []))) (sym k.outside) (by math (m.element Characters content (codes "code") a.spans.code)
+    (m.text Characters shown e refl)))
+  where
+    by : {Q R : List ℕ → Type 0} {x : List ℕ} (math : Bool) → Tagged m.s.p.test Q R (codes "code") →
+        Q x → Adds m.s.context.ending R (Text (code_opening math) ∷ Text x ∷ Text
+        (codes "</code>") ∷ [])
+    by true tagged h = adds-flat refl (tagged.tag (attribute (codes "class")
+        (codes "language-math math-inline") ∷ []) _ refl
+        (class-passes m.s.test (codes "language-math math-inline")) h)
+    by false tagged h = adds-flat refl (tagged.tag [] _ refl refl h)
 
-pub span-node : (nested : Bool) (d : Document) (content : Content) (t : At) (name : Name) → is_shown
-    name ≡ true → SpanPrints nested d t content name
-span-node nested d content t name is inner k a =
-    either (is_pair name) _ is (λ is. pair-node nested d content t name is k.outside inner a) (λ c.
-    either (is_code name) (is_single name) c
-    (λ is. subst (Prints nested d content) (sym (code-prints d.context t name is inner))
-    (code-node nested d content a.spans t k.outside (code_opening (is_math name))
-    (λ x h. any-code any_attribute (Stands nested Characters) (Stands nested content)
-    d.context.ending d.context.options (read_in d).test
-    (stands-tag nested content Characters (codes "code") a.spans.code) (is_math name) x
-    (stands-text nested Characters x h refl)) (layout d.context.ending inner)
-    (code-text (read_in d) t Blocks name k.escaping is inner k.within)))
-    (λ is. single-node nested d content t name is inner k a))
+-- a break outside images
+break : (m : Claims) (t : At) {content : Content} → AreSpans m.nested content →
+    t.around.in_image ≡ false → Prints m
+    content (when (not t.around.in_image) (said (codes "<br />")))
+break m t {content} f out = subst (λ b. Prints m content (when (not b) (said (codes "<br />"))))
+    (sym out) (adds-flat refl ((m.void content (codes "br") f.br).tag [] refl refl))
 
-pub autolink-node : (nested : Bool) (d : Document) (content : Content) (t : At) (name : Name) →
-    is_autolink name ≡ true → SpanPrints nested d t content name
-autolink-node nested d content t AutolinkEmail is inner k a =
-    autolinked nested d content a.spans t t.around.in_image (codes "mailto:") (λ _. a.free refl)
-autolink-node nested d content t AutolinkProtocol is inner k a =
-    autolinked nested d content a.spans t
-    t.around.in_image [] (λ _. a.free refl)
-autolink-node nested d content t GfmAutolinkLiteralEmail is inner k a =
-    literal-node nested d content a.spans t (codes "mailto:") a.plain
-autolink-node nested d content t GfmAutolinkLiteralMailto is inner k a =
-    literal-node nested d content a.spans t [] a.plain
-autolink-node nested d content t GfmAutolinkLiteralProtocol is inner k a =
-    literal-node nested d content a.spans t [] a.plain
-autolink-node nested d content t GfmAutolinkLiteralWww is inner k a =
-    literal-node nested d content a.spans t (codes "http://") a.plain
-autolink-node nested d content t GfmAutolinkLiteralXmpp is inner k a =
-    literal-node nested d content a.spans t [] a.plain
-autolink-node nested d content t _ is inner k a = lie is
+single-node : (m : Claims) (t : At) (content : Content) (name : Name) → is_single name ≡ true →
+    SpanPrints m t content name
+single-node m t content Link is inner k a =
+    let label : List ℕ = layout m.s.context.ending inner in
+    let target : Target = leads_to m.s.context t in
+    subst (λ b. Prints m content (cond b (said label) (anchor m.s.context.options target label)))
+    (sym k.outside) (subst (λ c. Prints m c (anchor m.s.context.options target label))
+    (sym (a.free refl)) (link m target label (target-title m.s t k.resource)
+    (adds-alone (a.label refl))))
+single-node m t content Image is inner k a =
+    let label : List ℕ = layout m.s.context.ending inner in
+    let target : Target = leads_to m.s.context t in
+    subst (λ b. Prints m content (cond b (said label) (picture m.s.context.options target label)))
+    (sym k.outside) (adds-image m.s.test (m.void content (codes "img") a.spans.img) target label
+    (target-title m.s t k.resource) (adds-alone k.within))
+single-node m t content HardBreakEscape is inner k a = break m t a.spans k.outside
+single-node m t content HardBreakTrailing is inner k a = break m t a.spans k.outside
+single-node m t content GfmTaskListItemCheck is inner k a = subst (λ b. Prints m content (cond b
+    inner (task_start m.s.context ++ (inner ++ said (codes "/>"))))) (sym k.outside) (adds-task
+    m.s.test (m.void content (codes "input") a.spans.input)
+    m.s.context.options.gfm_task_list_item_checkable t.around.in_image k.within)
+single-node m t content GfmFootnoteCall is inner k a =
+    let identifier : List ℕ = identifier_of m.s.context.bytes t.children in
+    let number : ℕ = place_among (distinct m.s.context.calls) identifier in
+    let occurrence : ℕ = suc (count_of t.calls identifier) in
+    subst (λ c. Prints m c (call m.s.context t)) (sym (a.free refl)) (subst (λ b. Prints m Phrasing
+    (when (not b) (call_tags m.s.context.options identifier number occurrence))) (sym k.outside)
+    (adds-call m.s.test (a-tag m) (m.element Phrasing Phrasing (codes "sup") refl) (linked-text m)
+    identifier number occurrence (k.ids refl (call_id m.s.context.options identifier number
+    occurrence))))
+single-node m t content _ is inner k a = lie is
+
+-- ---- all of them
+
+-- what prints phrasing content
+abbrev pub is_inline : Name → Bool
+is_inline name =
+    is_text name || (is_shown name || (is_autolink name || (is_leaf name || (is_hidden name
+    || is_silent name))))
+
+spans-place : (name : Name) → is_hidden name ≡ false → is_inline name ≡ true →
+    place_of name ≡ Phrasing
+spans-place name h is = picked _ _ _ (by name) (and_from _ _ (ap not h) is)
+  where
+    by : (name : Name) → cond (not (is_hidden name) && is_inline name) (place_of name)
+        Phrasing ≡ Phrasing
+    by Link = refl
+    by _ = refl
+
+-- spans stand in spans, of the same content but in a link
+spans-in : (nested : Bool) (content : Content) (name : Name) → is_spans content ≡ true →
+    is_hidden name ≡ false → is_inline name ≡ true → named Link name ≡ false →
+    place_in nested content name ≡ content
+spans-in nested content name spans shown is other = place-other _ _ _ other ∙ (ap
+    (λ c. cond (is_linked content) (without_links c) c) (spans-place _ shown is) ∙ by content spans)
+  where
+    by : (content : Content) → is_spans content ≡ true → cond (is_linked content) Linked
+        Phrasing ≡ content
+    by Phrasing h = refl
+    by Linked h = refl
+    by _ h = lie h
+
+link-in : (nested : Bool) (content : Content) (name : Name) → content ≡ Phrasing →
+    named Link name ≡ true →
+    place_in nested content name ≡ in_link nested
+link-in nested content Link same is = ap (λ c. cond (is_linked c) Linked (in_link nested)) same
+link-in nested content _ same is = lie is
+
+link-prints : (name : Name) → named Link name ≡ true → prints_link name ≡ true
+link-prints Link is = refl
+link-prints _ is = lie is
+
+-- where spans stand, with links or without
+pub record Spanning (t : At) (content : Content) (name : Name) : Type 0 where
+  pub spans : is_spans content ≡ true
+  pub free : prints_link name ≡ true → content ≡ Phrasing
+  pub plain : t.around.in_link ≡ false → content ≡ Phrasing
+
+pub inline-node : (m : Claims) (t : At) (content : Content) (name : Name) → is_inline name ≡ true →
+    (inner : List Piece) → Known m t name inner → Own m content name inner →
+    Spanning t content name → Prints m content (prints m.s.context t name inner)
+inline-node m t content name is inner k own g = by (is_hidden name) refl
+  where
+    spans : AreSpans m.nested content
+    spans = are-spans m.nested content g.spans
+
+    here : is_hidden name ≡ false → Here m t content name inner
+    here shown = record {
+      spans = spans;
+      own = λ blocks other. subst (λ c. Prints m c inner)
+          (spans-in m.nested content name g.spans shown is other) (own blocks);
+      label = λ link. subst (λ c. Prints m c inner) (link-in m.nested content name
+          (g.free (link-prints name link)) link) (own (link-blocks name link));
+      free = g.free;
+      plain = g.plain;
+    }
+      where
+        link-blocks : (name : Name) → named Link name ≡ true →
+            is_blocks (content_of name Blocks) ≡ true
+        link-blocks Link is = refl
+        link-blocks _ is = lie is
+
+    escaped : Adds m.s.context.ending Escaped (prints m.s.context t name inner) →
+        Prints m content (prints m.s.context t name inner)
+    escaped a = adds-weaker (says m spans) a
+
+    by : (hidden : Bool) → is_hidden name ≡ hidden → Prints m
+        content (prints m.s.context t name inner)
+    by true h = subst (Prints m content) (sym (hidden-prints m.s.context t name h inner))
+        (nothing m spans.spaced)
+    by false h =
+        let a = here h in
+        either _ _ is (λ is. escaped (text-node m.s t Escaped name (λ x h. h k.escaping) is k.fit
+        inner)) (λ c. either _ _ c (λ is. either (is_pair name) _ is
+        (λ is. pair-node m t content name is inner k a) (λ c. either (is_code name) _ c
+        (λ is. code-node m t content name is inner k a)
+        (λ is. single-node m t content name is inner k a))) (λ c. either _ _ c
+        (λ is. autolink-node m t content name is inner k a) (λ c. either _ _ c (λ is. escaped
+        (leaf-escaped m.s t name k.escaping is k.fit inner)) (λ c. either _ _ c
+        (λ is. lie (sym h ∙ is)) (λ is. subst (Prints m content)
+        (sym (silent-prints m.s.context t name is inner)) (a.own (silent-block name is).0
+        (silent-block name is).1))))))

@@ -1,8 +1,6 @@
--- The nodes of spans print texts with readings, and in images escaped ones.
+-- Spans that print something else than their children, and what they print in images.
 use Rattle.std.proofs.Common.{◌≡◌, ℕ, suc, Bool, true, false, not, ◌||◌, cond, List, [], ◌∷◌, ◌++◌}
-use Rattle.std.proofs.Common.{refl, sym, subst, inl, inr, codes}
-use Rattle.std.specs.Prelude.{None}
-use Rattle.std.proofs.lemmas.Bool.{cond_both, or_parts}
+use Rattle.std.proofs.Common.{refl, sym, subst, inl, inr, codes, ◌∙◌}
 use Rattle.md_base.proofs.Lies.{lie}
 use Rattle.md_base.specs.declared.event.Name.{Name}
 use Rattle.md_base.specs.declared.event.Name.TheVariants as name_variants
@@ -10,34 +8,23 @@ use name_variants.{Link, Image, HardBreakEscape, HardBreakTrailing, GfmTaskListI
 use name_variants.{GfmFootnoteCall, AutolinkEmail, AutolinkProtocol, GfmAutolinkLiteralEmail}
 use name_variants.{GfmAutolinkLiteralMailto, GfmAutolinkLiteralProtocol, GfmAutolinkLiteralWww}
 use name_variants.{GfmAutolinkLiteralXmpp}
-use Rattle.md_text.specs.Html.{Attribute}
-use Rattle.md_text.specs.declared.options.CompileOptions.{CompileOptions}
-use Rattle.md_text.specs.Encode.{encoded}
 use Rattle.md_text.proofs.EncodeLaws.{is_escaped-encoded}
-use Rattle.md_text.proofs.HtmlJoin.{text}
 use Rattle.md_meaning.specs.Meaning.At.{At, text_in, identifier_of}
 use Rattle.md_meaning.specs.Meaning.Layout.{Piece, Text, layout, said, when}
 use Rattle.md_meaning.specs.Meaning.Means.{prints}
-use Rattle.md_meaning.specs.Meaning.Spans.{span, task_start, code, trimmed}
-use Rattle.md_meaning.specs.Meaning.Spans.{without_escapes}
-use Rattle.md_meaning.specs.Meaning.Media.{anchor, picture, leads_to, autolink, literal}
-use Rattle.md_meaning.specs.Meaning.Footnotes.{place_among, distinct, count_of, call_id}
-use Rattle.md_content.specs.Built.{Content, is_autolink}
-use Rattle.md_safe.proofs.Spot.{NodeAdds}
+use Rattle.md_meaning.specs.Meaning.Spans.{task_start}
+use Rattle.md_meaning.specs.Meaning.Media.{leads_to, autolink, anchor, picture}
+use Rattle.md_meaning.specs.Meaning.Footnotes.{place_among, distinct, count_of}
+use Rattle.md_content.specs.Built.{is_autolink, Spans}
+use Rattle.md_safe.proofs.Spot.{Setting, Prints, Inside}
 use Rattle.md_safe.proofs.Cases.{either}
-use Rattle.md_safe.proofs.Texts.{Escaped, pipes-escaped, trimmed-escaped}
-use Rattle.md_base.specs.NameTests.{is_call}
-use Rattle.md_safe.proofs.Laid.{Adds, adds-text, adds-nothing, adds-weaker, adds-alone}
-use Rattle.md_safe.proofs.Laid.{escaped_beside}
-use Rattle.md_safe.proofs.Tags.{IsTest, attribute, Tagged, Bracket, element-read, void-read}
-use Rattle.md_safe.proofs.Tags.{adds-flat, adds-pair, framed-text}
-use Rattle.md_safe.proofs.Media.{adds-link, adds-image}
-use Rattle.md_safe.proofs.Calls.{adds-call, call_tags}
-use Rattle.md_safe.proofs.Elements.{IsDone, bracket-plain, class-passes, adds-task}
-use Rattle.md_safe.proofs.Spot.{Setting, Here, Prints, IsWide, IsGoodTarget, PassesIds}
-use Rattle.md_safe.proofs.Spot.{target-title}
-use Rattle.md_safe.proofs.SpanSorts.{pair_tag, is_pair, by_pair, pair-prints, pair-inside, is_code}
-use Rattle.md_safe.proofs.SpanSorts.{is_math, code_opening, code-prints, code-text}
+use Rattle.md_safe.proofs.Texts.{Escaped}
+use Rattle.md_safe.proofs.Laid.{adds-text, adds-nothing, adds-weaker, adds-alone}
+use Rattle.md_safe.proofs.Elements.{IsDone}
+use Rattle.md_safe.proofs.SpanSorts.{pair_tag, is_pair, pair-prints, pair-inside, is_code, is_math}
+use Rattle.md_safe.proofs.SpanSorts.{code_opening, code-prints, code-text, shown_in, shown-escaped}
+use Rattle.std.proofs.lemmas.Bool.{or_left}
+use Rattle.md_safe.proofs.Calls.{call_tags}
 
 -- other spans that print something else than their children
 abbrev pub is_single : Name → Bool
@@ -54,217 +41,68 @@ is_single name = elim name [
 abbrev pub is_shown : Name → Bool
 is_shown name = is_pair name || (is_code name || is_single name)
 
--- tags outside images around the content of a node
-prints-pair : (s : Setting) (t : At) (holds : List ℕ → Type 0) →
-    IsWide s.p t.around.in_image holds →
-    (o c : List ℕ) → Bracket s.p o c → (inner : List Piece) → Prints s holds inner
-    → Prints s holds (span t (said o) inner (said c))
-prints-pair s t holds w o c bracket inner a = by t.around.in_image w
-  where
-    by : (in_image : Bool) → IsWide s.p in_image holds →
-        Prints s holds (cond in_image inner (said o ++ (inner ++ said c)))
-    by true w = a
-    by false w =
-        adds-weaker s.context.ending s.p.holds holds (said o ++ (inner ++ said c)) (w.outside refl)
-        (adds-pair s.p s.context.ending o c (said o) inner (said c) bracket
-        (framed-text escaped_beside s.context.ending o)
-        (adds-weaker s.context.ending holds s.p.holds inner w.read a)
-        (framed-text escaped_beside s.context.ending c))
+-- ---- in images
 
--- a text in images, what has a reading outside them
-prints-outside : (s : Setting) (in_image : Bool) (holds : List ℕ → Type 0) →
-    IsWide s.p in_image holds →
-    (xs ys : List Piece) → Prints s holds xs → (in_image ≡ false → Prints s s.p.holds ys) →
-    Prints s holds (cond in_image xs ys)
-prints-outside s true holds w xs ys a b = a
-prints-outside s false holds w xs ys a b =
-    adds-weaker s.context.ending s.p.holds holds ys (w.outside refl) (b refl)
-
--- nothing in images
-prints-unless : (s : Setting) (in_image : Bool) (holds : List ℕ → Type 0) →
-    IsWide s.p in_image holds →
-    (ys : List Piece) → (in_image ≡ false → Prints s s.p.holds ys) →
-    Prints s holds (when (not in_image) ys)
-prints-unless s true holds w ys b = adds-nothing s.context.ending holds (w.own [] refl)
-prints-unless s false holds w ys b =
-    adds-weaker s.context.ending s.p.holds holds ys (w.outside refl) (b refl)
-
--- the text of a node's content
-pub text-holds : (s : Setting) (holds : List ℕ → Type 0) (inner : List Piece) →
-    Prints s holds inner →
-    holds (layout s.context.ending inner)
-text-holds s holds inner a = adds-alone s.context.ending holds inner a
-
--- an escaped text
-prints-escaped : (s : Setting) (in_image : Bool) (holds : List ℕ → Type 0) →
-    IsWide s.p in_image holds →
-    (x : List ℕ) → Escaped x → Prints s holds (said x)
-prints-escaped s in_image holds w x h = adds-text s.context.ending holds x (w.own x h)
-
--- code, whose tag keeps the claim
-code-node : (s : Setting) (t : At) (holds : List ℕ → Type 0) →
-    IsWide s.p t.around.in_image holds → (tag : List ℕ) →
-    ((x : List ℕ) → Escaped x →
-    Prints s s.p.holds (Text tag ∷ Text x ∷ Text (codes "</code>") ∷ [])) →
-    (x : List ℕ) → Escaped x → Prints s holds (code t tag x)
-code-node s t holds w tag tagged x h =
-    let unescaped : List ℕ = cond t.around.in_table (without_escapes x) x in
-    let shown : List ℕ = trimmed unescaped in
-    let e : Escaped shown = trimmed-escaped unescaped
-    (cond_both t.around.in_table (without_escapes x) x Escaped (λ _. pipes-escaped x h) (λ _. h)) in
-    prints-outside s t.around.in_image holds w (said shown)
-    (Text tag ∷ Text shown ∷ Text (codes "</code>") ∷ [])
-    (prints-escaped s t.around.in_image holds w shown e) (λ _. tagged shown e)
-
--- a break outside images
-break-node : (s : Setting) (t : At) (holds : List ℕ → Type 0) → IsWide s.p t.around.in_image holds →
-    Prints s holds (when (not t.around.in_image) (said (codes "<br />")))
-break-node s t holds w =
-    prints-unless s t.around.in_image holds w (said (codes "<br />"))
-    (λ _. adds-flat s.context.ending
-    s.p.holds (said (codes "<br />")) refl (void-read s.p (codes "br") [] refl refl))
-
-done-nothing : (x : List ℕ) → IsDone true x → x ≡ []
-done-nothing x done = elim done [ inl e ↦ e | inr outside ↦ lie (sym outside.0) ]
-
--- a task
-task-node : (s : Setting) (t : At) (holds : List ℕ → Type 0) → IsWide s.p t.around.in_image holds →
-    (inner : List Piece) → Prints s (IsDone t.around.in_image) inner
-    → Prints s holds (span t (task_start s.context) inner (said (codes "/>")))
-task-node s t holds w inner a = by t.around.in_image w a
-  where
-    by : (in_image : Bool) → IsWide s.p in_image holds → Prints s (IsDone in_image) inner →
-        Prints s holds (cond in_image inner (task_start s.context ++ (inner ++ said (codes "/>"))))
-    by true w a = adds-weaker s.context.ending (IsDone true) holds inner
-        (λ x done. subst holds (sym (done-nothing x done)) (w.own [] refl)) a
-    by false w a =
-        adds-weaker s.context.ending s.p.holds holds
-        (task_start s.context ++ (inner ++ said (codes "/>")))
-        (w.outside refl) (adds-task s.p.test s.p.holds s.context.ending s.context.options s.test
-        (void-read s.p (codes "input")) s.context.options.gfm_task_list_item_checkable false inner
-        a)
-
-pair-node : (s : Setting) (t : At) (content : Content) (name : Name) → IsWide s.p t.around.in_image
-    (Here s t content) → is_pair name ≡ true → NodeAdds s t content name
-pair-node s t content name w is inner a =
-    let tag : List ℕ = pair_tag name in
-    subst (Prints s (Here s t content)) (sym (pair-prints s.context t name is inner))
-    (prints-pair s t (Here s t content) w (60 ∷ (tag ++ (62 ∷ []))) (60 ∷ 47 ∷ (tag ++ (62 ∷ [])))
-    (by_pair (λ tag. Bracket s.p (60 ∷ (tag ++ (62 ∷ []))) (60 ∷ 47 ∷ (tag ++ (62 ∷ []))))
-    (bracket-plain s.p (codes "em") refl) (bracket-plain s.p (codes "strong") refl)
-    (bracket-plain s.p (codes "del") refl) name is) inner (pair-inside s t content name is inner a))
-
--- code or math, of any claim
-pub any-code : (test : Attribute → Bool) (Q R : List ℕ → Type 0) (ending : List ℕ)
-    (options : CompileOptions) → IsTest test options → Tagged test Q R (codes "code") →
-    (math : Bool) (x : List ℕ) → Q x →
-    Adds ending R (Text (code_opening math) ∷ Text x ∷ Text (codes "</code>") ∷ [])
-any-code test Q R ending options known tagged true x h =
-    adds-flat ending R (Text (code_opening true) ∷ Text x ∷ Text (codes "</code>") ∷ []) refl
-    (tagged (attribute (codes "class") (codes "language-math math-inline") ∷ []) x refl
-    (class-passes test options known (codes "language-math math-inline")) h)
-any-code test Q R ending options known tagged false x h =
-    adds-flat ending R (Text (code_opening false) ∷ Text x ∷ Text (codes "</code>") ∷ []) refl
-    (tagged [] x refl refl h)
-
-single-node : (s : Setting) (t : At) (content : Content) (name : Name) → IsWide s.p
-    t.around.in_image (Here s t content) → is_single name ≡ true → (is_call name ≡ true →
-    t.around.in_image ≡ false → PassesIds s.p.test) → IsGoodTarget t.found.resource → NodeAdds s t
-    content name
-single-node s t content Link w is ids good inner a =
-    let label : List ℕ = layout s.context.ending inner in
-    let h : Here s t content label = text-holds s (Here s t content) inner a in
-    prints-outside s t.around.in_image (Here s t content) w (said label)
-    (anchor s.context.options (leads_to s.context t) label)
-    (adds-text s.context.ending (Here s t content) label h)
-    (λ _. adds-link s.p.test s.p.holds s.p.holds s.context.ending s.context.options s.test
-    (element-read s.p (codes "a")) (leads_to s.context t) label
-    (target-title s t good) (w.read label h))
-single-node s t content Image w is ids good inner a =
-    let label : List ℕ = layout s.context.ending inner in
-    let h : Escaped label = text-holds s Escaped inner a in
-    prints-outside s t.around.in_image (Here s t content) w (said label)
-    (picture s.context.options (leads_to s.context t) label)
-    (prints-escaped s t.around.in_image (Here s t content) w label h)
-    (λ _. adds-image s.p.test s.p.holds s.context.ending s.context.options s.test
-    (void-read s.p (codes "img")) (leads_to s.context t) label
-    (target-title s t good) h)
-single-node s t content HardBreakEscape w is ids good inner a = break-node s t (Here s t content) w
-single-node s t content HardBreakTrailing w is ids good inner a =
-    break-node s t (Here s t content) w
-single-node s t content GfmTaskListItemCheck w is ids good inner a =
-    task-node s t (Here s t content) w inner a
-single-node s t content GfmFootnoteCall w is ids good inner a =
+single-in_image : (s : Setting) (t : At) (name : Name) → t.around.in_image ≡ true →
+    is_single name ≡ true → (inner : List Piece) → Inside s t Spans name inner →
+    Prints s Escaped (prints s.context t name inner)
+single-in_image s t Link image is inner a = subst (λ b. Prints s Escaped (cond b
+    (said (layout s.context.ending inner)) (anchor s.context.options (leads_to s.context t)
+    (layout s.context.ending inner)))) (sym image) (adds-text (adds-alone {f = Escaped} a))
+single-in_image s t Image image is inner a = subst (λ b. Prints s Escaped (cond b
+    (said (layout s.context.ending inner)) (picture s.context.options (leads_to s.context t)
+    (layout s.context.ending inner)))) (sym image) (adds-text (adds-alone {f = Escaped} a))
+single-in_image s t HardBreakEscape image is inner a = subst (λ b. Prints s Escaped
+    (when (not b) (said (codes "<br />")))) (sym image) (adds-nothing refl)
+single-in_image s t HardBreakTrailing image is inner a = subst (λ b. Prints s Escaped
+    (when (not b) (said (codes "<br />")))) (sym image) (adds-nothing refl)
+single-in_image s t GfmTaskListItemCheck image is inner a = subst (λ b. Prints s Escaped (cond b
+    inner (task_start s.context ++ (inner ++ said (codes "/>"))))) (sym image) (adds-weaker
+    {f = IsDone t.around.in_image} (λ x done. elim done [
+      | inl e ↦ subst Escaped (sym e) refl
+      | inr out ↦ lie (sym out.0 ∙ image)
+    ]) a)
+single-in_image s t GfmFootnoteCall image is inner a =
     let identifier : List ℕ = identifier_of s.context.bytes t.children in
-    let number : ℕ = place_among (distinct s.context.calls) identifier in
-    let occurrence : ℕ = suc (count_of t.calls identifier) in
-    prints-unless s t.around.in_image (Here s t content) w
-    (call_tags s.context.options identifier number occurrence)
-    (λ out. adds-call s.p.test s.p.holds s.p.holds s.context.ending s.context.options s.test
-    (element-read s.p (codes "a")) (element-read s.p (codes "sup"))
-    (λ x h. s.p.plain x (text s.p.test x h)) identifier number occurrence
-    (ids refl out (call_id s.context.options identifier number occurrence)))
-single-node s t content _ w is ids good inner a = lie is
+    subst (λ b. Prints s Escaped (when (not b) (call_tags s.context.options identifier
+    (place_among (distinct s.context.calls) identifier) (suc (count_of t.calls identifier)))))
+    (sym image) (adds-nothing refl)
+single-in_image s t _ image is inner a = lie is
 
-pub span-node : (s : Setting) (t : At) (content : Content) (name : Name) → t.around.is_escaping ≡
-    true → IsWide s.p t.around.in_image (Here s t content) → is_shown name ≡ true → (is_call name ≡
-    true → t.around.in_image ≡ false → PassesIds s.p.test) → IsGoodTarget t.found.resource →
-    NodeAdds s t content name
-span-node s t content name e w is ids good inner a =
-    either (is_pair name) _ is (λ is. pair-node s t content name w is inner a) (λ c.
-    either (is_code name) (is_single name) c
-    (λ is. subst (Prints s (Here s t content)) (sym (code-prints s.context t name is inner))
-    (code-node s t (Here s t content) w (code_opening (is_math name))
-    (λ x h. any-code s.p.test s.p.holds s.p.holds s.context.ending s.context.options s.test
-    (element-read s.p (codes "code")) (is_math name) x (s.p.plain x (text s.p.test x h)))
-    (layout s.context.ending inner) (code-text s t content name e is inner a)))
-    (λ is. single-node s t content name w is ids good inner a))
+pub shown-in_image : (s : Setting) (t : At) (name : Name) → t.around.is_escaping ≡ true →
+    t.around.in_image ≡ true → is_shown name ≡ true → (inner : List Piece) →
+    Inside s t Spans name inner → Prints s Escaped (prints s.context t name inner)
+shown-in_image s t name e image is inner a = either (is_pair name) _ is (λ is. subst
+    (Prints s Escaped) (sym (pair-prints s.context t name is inner)) (subst (λ b. Prints s Escaped
+    (cond b inner (said (60 ∷ (pair_tag name ++ (62 ∷ [])))
+    ++ (inner ++ said (60 ∷ 47 ∷ (pair_tag name ++ (62 ∷ []))))))) (sym image)
+    (pair-inside s t Spans name is inner a))) (λ c. either (is_code name) (is_single name) c (λ is.
+    let shown : List ℕ = shown_in t (layout s.context.ending inner) in
+    subst (Prints s Escaped) (sym (code-prints s.context t name is inner)) (subst (λ b. Prints s
+    Escaped (cond b (said shown) (Text (code_opening (is_math name)) ∷ Text shown ∷ Text
+    (codes "</code>") ∷ []))) (sym image) (adds-text (shown-escaped t
+    (layout s.context.ending inner) (code-text s t Spans name e is inner a)))))
+    (λ is. single-in_image s t name image is inner a))
 
--- an autolink, which is plain at least in images
-link-node : (s : Setting) (t : At) (holds : List ℕ → Type 0) → IsWide s.p t.around.in_image holds →
-    (prefix : List ℕ) (plain : Bool) → (plain ≡ false → t.around.in_image ≡ false) →
-    Prints s holds (autolink s.context t plain prefix)
-link-node s t holds w prefix plain outside =
-    let x : List ℕ = text_in s.context.bytes t.place in
-    cond_both plain (said (encoded true x)) (anchor s.context.options (record {
-      destination = prefix ++ x;
-      title = None;
-    }) (encoded true x)) (Prints s holds)
-    (λ _. prints-escaped s t.around.in_image holds w (encoded true x) (is_escaped-encoded x))
-    (λ no. adds-weaker s.context.ending s.p.holds holds (anchor s.context.options (record {
-      destination = prefix ++ x;
-      title = None;
-    }) (encoded true x)) (w.outside (outside no))
-    (adds-link s.p.test s.p.holds s.p.holds s.context.ending s.context.options s.test
-    (element-read s.p (codes "a")) (record {
-      destination = prefix ++ x;
-      title = None;
-    }) (encoded true x) tt
-    (s.p.plain (encoded true x) (text s.p.test (encoded true x) (is_escaped-encoded x)))))
+-- an autolink, which is plain there
+plain-in_image : (s : Setting) (t : At) (plain : Bool) (prefix : List ℕ) → plain ≡ true →
+    Prints s Escaped (autolink s.context t plain prefix)
+plain-in_image s t plain prefix is = subst (λ b. Prints s Escaped (autolink s.context t b prefix))
+    (sym is) (adds-text (is_escaped-encoded (text_in s.context.bytes t.place)))
 
-literal-node : (s : Setting) (t : At) (holds : List ℕ → Type 0) →
-    IsWide s.p t.around.in_image holds →
-    (prefix : List ℕ) → Prints s holds (literal s.context t prefix)
-literal-node s t holds w prefix =
-    link-node s t holds w prefix (t.around.in_image || t.around.in_link)
-    (λ no. (or_parts t.around.in_image t.around.in_link no).0)
-
-pub autolink-node : (s : Setting) (t : At) (content : Content) (name : Name) →
-    IsWide s.p t.around.in_image (Here s t content) → is_autolink name ≡ true →
-    (inner : List Piece) →
-    Prints s (Here s t content) (prints s.context t name inner)
-autolink-node s t content AutolinkEmail w is inner =
-    link-node s t (Here s t content) w (codes "mailto:") t.around.in_image (λ no. no)
-autolink-node s t content AutolinkProtocol w is inner =
-    link-node s t (Here s t content) w [] t.around.in_image (λ no. no)
-autolink-node s t content GfmAutolinkLiteralEmail w is inner =
-    literal-node s t (Here s t content) w (codes "mailto:")
-autolink-node s t content GfmAutolinkLiteralMailto w is inner =
-    literal-node s t (Here s t content) w []
-autolink-node s t content GfmAutolinkLiteralProtocol w is inner =
-    literal-node s t (Here s t content) w []
-autolink-node s t content GfmAutolinkLiteralWww w is inner =
-    literal-node s t (Here s t content) w (codes "http://")
-autolink-node s t content GfmAutolinkLiteralXmpp w is inner =
-    literal-node s t (Here s t content) w []
-autolink-node s t content _ w is inner = lie is
+pub autolink-in_image : (s : Setting) (t : At) (name : Name) → t.around.in_image ≡ true →
+    is_autolink name ≡ true → (inner : List Piece) → Prints s
+    Escaped (prints s.context t name inner)
+autolink-in_image s t AutolinkEmail image is inner = plain-in_image s t _ (codes "mailto:") image
+autolink-in_image s t AutolinkProtocol image is inner = plain-in_image s t _ [] image
+autolink-in_image s t GfmAutolinkLiteralEmail image is inner = plain-in_image s t _
+    (codes "mailto:") (or_left _ _ image)
+autolink-in_image s t GfmAutolinkLiteralMailto image is inner = plain-in_image s t _ []
+    (or_left _ _ image)
+autolink-in_image s t GfmAutolinkLiteralProtocol image is inner = plain-in_image s t _ []
+    (or_left _ _ image)
+autolink-in_image s t GfmAutolinkLiteralWww image is inner = plain-in_image s t _ (codes "http://")
+    (or_left _ _ image)
+autolink-in_image s t GfmAutolinkLiteralXmpp image is inner = plain-in_image s t _ []
+    (or_left _ _ image)
+autolink-in_image s t _ image is inner = lie is

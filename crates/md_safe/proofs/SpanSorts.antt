@@ -1,6 +1,5 @@
 -- Spans with tags around their children, and code: what is printed of each.
-use Rattle.std.proofs.Common.{◌≡◌, ℕ, Bool, true, false, cond, List, [], ◌∷◌, ◌++◌, refl}
-use Rattle.std.proofs.Common.{codes}
+use Rattle.std.proofs.Common.{◌≡◌, ℕ, Bool, true, false, cond, List, [], ◌∷◌, ◌++◌, refl, codes}
 use Rattle.md_base.proofs.Lies.{lie}
 use Rattle.md_base.specs.declared.event.Name.{Name}
 use Rattle.md_base.specs.declared.event.Name.TheVariants as name_variants
@@ -8,12 +7,13 @@ use name_variants.{Emphasis, Strong, GfmStrikethrough, CodeText, MathText}
 use Rattle.md_meaning.specs.Meaning.At.{Context, At}
 use Rattle.md_meaning.specs.Meaning.Layout.{Piece, layout, said}
 use Rattle.md_meaning.specs.Meaning.Means.{prints}
-use Rattle.md_meaning.specs.Meaning.Spans.{span, code}
+use Rattle.md_meaning.specs.Meaning.Spans.{span, code, trimmed, without_escapes}
 use Rattle.md_content.specs.Built.{Content}
 use Rattle.md_steps.proofs.Standing.{picked}
-use Rattle.md_safe.proofs.Texts.{Escaped}
+use Rattle.md_safe.proofs.Texts.{Escaped, trimmed-escaped, pipes-escaped}
 use Rattle.md_safe.proofs.Laid.{adds-alone}
 use Rattle.md_safe.proofs.Spot.{Setting, Here, Prints, Inside}
+use Rattle.std.proofs.lemmas.Bool.{cond_both}
 
 -- spans whose tags stand around their children, and the names of these tags
 abbrev pub pair_tag : Name → List ℕ
@@ -46,17 +46,15 @@ code_opening math =
     cond math (codes "<code class=\"language-math math-inline\">") (codes "<code>")
 
 pub pair-prints : (context : Context) (t : At) (name : Name) → is_pair name ≡ true →
-    (inner : List Piece) →
-    prints context t name inner ≡ span t (said (60 ∷ (pair_tag name ++ (62 ∷ [])))) inner
-    (said (60 ∷ 47 ∷ (pair_tag name ++ (62 ∷ []))))
-pair-prints context t name is inner =
-    picked (is_pair name) (prints context t name inner) _ (by name) is
+    (inner : List Piece) → prints context t name inner ≡ span t
+    (said (60 ∷ (pair_tag name ++ (62 ∷ [])))) inner (said (60 ∷ 47 ∷ (pair_tag name ++ (62 ∷ []))))
+pair-prints context t name is inner = picked _ _ _ (by name) is
   where
-    by : (name : Name) → cond (is_pair name) (prints context t name inner)
-        (span t (said (60 ∷ (pair_tag name ++ (62 ∷ [])))) inner
-        (said (60 ∷ 47 ∷ (pair_tag name ++ (62 ∷ [])))))
-        ≡ span t (said (60 ∷ (pair_tag name ++ (62 ∷ [])))) inner
-        (said (60 ∷ 47 ∷ (pair_tag name ++ (62 ∷ []))))
+    by : (name : Name) → cond (is_pair name) (prints context t name inner) (span t
+        (said (60 ∷ (pair_tag name ++ (62 ∷ [])))) inner
+        (said (60 ∷ 47 ∷ (pair_tag name ++ (62 ∷ []))))) ≡ span t
+        (said (60 ∷ (pair_tag name ++ (62 ∷ []))))
+        inner (said (60 ∷ 47 ∷ (pair_tag name ++ (62 ∷ []))))
     by Emphasis = refl
     by _ = refl
 
@@ -69,24 +67,28 @@ pair-inside s t content GfmStrikethrough is inner a = a
 pair-inside s t content _ is inner a = lie is
 
 pub code-prints : (context : Context) (t : At) (name : Name) → is_code name ≡ true →
-    (inner : List Piece) →
-    prints context t name inner
-    ≡ code t (code_opening (is_math name)) (layout context.ending inner)
-code-prints context t name is inner =
-    picked (is_code name) (prints context t name inner) _ (by name) is
+    (inner : List Piece) → prints context t name inner ≡ code t
+    (code_opening (is_math name)) (layout context.ending inner)
+code-prints context t name is inner = picked _ _ _ (by name) is
   where
-    by : (name : Name) → cond (is_code name) (prints context t name inner)
-        (code t (code_opening (is_math name)) (layout context.ending inner))
-        ≡ code t (code_opening (is_math name)) (layout context.ending inner)
+    by : (name : Name) → cond (is_code name) (prints context t name inner) (code t
+        (code_opening (is_math name)) (layout context.ending inner)) ≡ code t
+        (code_opening (is_math name)) (layout context.ending inner)
     by Emphasis = refl
     by _ = refl
+
+-- the text of code as it is shown
+abbrev pub shown_in : At → List ℕ → List ℕ
+shown_in t x = trimmed (cond t.around.in_table (without_escapes x) x)
+
+pub shown-escaped : (t : At) (x : List ℕ) → Escaped x → Escaped (shown_in t x)
+shown-escaped t x h = trimmed-escaped (cond t.around.in_table (without_escapes x) x) (cond_both
+    t.around.in_table (without_escapes x) x Escaped (λ _. pipes-escaped x h) (λ _. h))
 
 -- the text in code
 pub code-text : (s : Setting) (t : At) (content : Content) (name : Name) →
     t.around.is_escaping ≡ true → is_code name ≡ true → (inner : List Piece) →
     Inside s t content name inner → Escaped (layout s.context.ending inner)
-code-text s t content CodeText e is inner a =
-    adds-alone s.context.ending (λ x. t.around.is_escaping ≡ true → Escaped x) inner a e
-code-text s t content MathText e is inner a =
-    adds-alone s.context.ending (λ x. t.around.is_escaping ≡ true → Escaped x) inner a e
+code-text s t content CodeText e is inner a = adds-alone a e
+code-text s t content MathText e is inner a = adds-alone a e
 code-text s t content _ e is inner a = lie is

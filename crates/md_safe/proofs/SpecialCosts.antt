@@ -14,7 +14,7 @@ use Rattle.md_text.specs.References.{read_back}
 use Rattle.md_text.proofs.HtmlIds.{occurs, Counts, counts-more}
 use Rattle.md_meaning.specs.Meaning.At.{identifier_of}
 use Rattle.md_meaning.specs.Meaning.Footnotes.{distinct, place_among, count_of, id_of, call_id}
-use Rattle.md_meaning.specs.Meaning.Layout.{Piece, layout, said}
+use Rattle.md_meaning.specs.Meaning.Layout.{Piece, layout}
 use Rattle.md_meaning.specs.Meaning.Blocks.{underline_rank}
 use Rattle.md_meaning.specs.Meaning.Spans.{is_at}
 use Rattle.md_content.specs.Underlined.{is_underline, waits_past}
@@ -23,7 +23,6 @@ use Rattle.md_safe.proofs.Texts.{decimal-escaped}
 use Rattle.md_safe.proofs.Laid.{Adds, adds-nothing, adds-text, adds-alone}
 use Rattle.md_safe.proofs.Tags.{adds-flat}
 use Rattle.md_safe.proofs.Calls.{id-escaped, call_id-escaped, call_tags}
-use Rattle.md_safe.proofs.Elements.{adds-heading}
 use Rattle.md_safe.proofs.Insides.{is_blocks}
 use Rattle.md_safe.proofs.Spot.{Setting}
 use Rattle.md_safe.proofs.FlowNodes.{setext-fits}
@@ -31,32 +30,32 @@ use Rattle.md_safe.proofs.Counted.{counts-call, Waiting, texts-append}
 use Rattle.md_safe.proofs.Costs.{Document, Costs, Place, inner_of, here_of, Below, cost-least}
 use Rattle.md_safe.proofs.Costs.{counts-none, no-footnote, counted_in, at_of, cost-parts}
 use Rattle.md_safe.proofs.PlainCosts.{is_special}
+use Rattle.md_safe.proofs.FlowCases.{heading-node}
+use Rattle.md_safe.proofs.ReadingNodes.{reads}
 
 -- a heading's text, which waits for the underline
 setext_text : (d : Document) (w : List ℕ) (p : Place) (m : ℕ) →
-    Below d w p HeadingSetextText false 0 →
-    Costs d w p.before m true (here_of d p HeadingSetextText)
+    Below d w p HeadingSetextText false 0 → Costs d w p.before m
+    true (here_of d p HeadingSetextText)
 setext_text d w p m b = record {
   body = 0;
   left = b.body;
   notes = b.notes;
-  prints = adds-nothing d.context.ending (Counts w 0) (counts-none w);
-  heading =
-      adds-alone d.context.ending (Counts w b.body) (inner_of d p HeadingSetextText).pieces
-      b.prints;
+  prints = adds-nothing (counts-none w);
+  heading = adds-alone b.prints;
   texts = no-footnote d w b.notes p HeadingSetextText refl b.texts;
   few = omega (b.few, cost-least d w p HeadingSetextText, arith);
 }
 
 -- a footnote's definition, which prints nothing where it stands
 pub footnote : (d : Document) (w : List ℕ) (p : Place) (m : ℕ) →
-    Below d w p GfmFootnoteDefinition false 0 →
-    Costs d w p.before m false (here_of d p GfmFootnoteDefinition)
+    Below d w p GfmFootnoteDefinition false 0 → Costs d w p.before m
+    false (here_of d p GfmFootnoteDefinition)
 footnote d w p m b = record {
   body = 0;
   left = 0;
   notes = b.notes + b.body;
-  prints = adds-nothing d.context.ending (Counts w 0) (counts-none w);
+  prints = adds-nothing (counts-none w);
   heading = tt;
   texts = texts-append w b.notes b.body (inner_of d p GfmFootnoteDefinition).footnotes (record {
     identifier = identifier_of d.context.bytes p.children;
@@ -65,8 +64,7 @@ footnote d w p m b = record {
     b.body,
     0,
     omega arith,
-    adds-alone d.context.ending (Counts w b.body)
-        (inner_of d p GfmFootnoteDefinition).pieces b.prints,
+    adds-alone b.prints,
     tt,
   );
   few = omega (b.few, cost-least d w p GfmFootnoteDefinition, arith);
@@ -74,18 +72,17 @@ footnote d w p m b = record {
 
 -- the underline of a heading, which prints the text that waits
 underline : (d : Document) (w : List ℕ) (p : Place) (m : ℕ) → Counts w m p.before.heading →
-    Below d w p HeadingSetextUnderlineSequence false 0 →
-    Costs d w p.before m false (here_of d p HeadingSetextUnderlineSequence)
+    Below d w p HeadingSetextUnderlineSequence false 0 → Costs d w p.before m
+    false (here_of d p HeadingSetextUnderlineSequence)
 underline d w p m h b =
     let s : Setting = counted_in d w m in
     record {
       body = m;
       left = 0;
       notes = b.notes;
-      prints = adds-heading s.p d.context.ending d.ending
-          (underline_rank d.context (at_of d p HeadingSetextUnderlineSequence))
-          (setext-fits (is_at 45 d.context.bytes p.start.index)) (said p.before.heading)
-          (adds-text d.context.ending (Counts w m) p.before.heading h);
+      prints = heading-node (reads s) (underline_rank d.context
+          (at_of d p HeadingSetextUnderlineSequence))
+          (setext-fits (is_at 45 d.context.bytes p.start.index)) (adds-text h);
       heading = tt;
       texts = no-footnote d w b.notes p HeadingSetextUnderlineSequence refl b.texts;
       few = omega (b.few, cost-least d w p HeadingSetextUnderlineSequence, arith);
@@ -97,8 +94,8 @@ pub call : (d : Document) (w : List ℕ) (p : Place) (m : ℕ) → Below d w p G
 call d w p m b =
     let identifier : List ℕ = identifier_of d.context.bytes p.children in
     let number : ℕ = place_among (distinct d.context.calls) identifier in
-    let occurrence : ℕ =
-    suc (count_of (p.before.calls ++ (inner_of d p GfmFootnoteCall).calls) identifier) in
+    let occurrence : ℕ = suc (count_of (p.before.calls ++ (inner_of d p GfmFootnoteCall).calls)
+    identifier) in
     let id : List ℕ = call_id d.context.options identifier number occurrence in
     let hit : ℕ = occurs w (read_back id ∷ []) in
     let tags : List Piece = call_tags d.context.options identifier number occurrence in
@@ -107,13 +104,10 @@ call d w p m b =
       left = 0;
       notes = b.notes;
       prints = cond_both (not p.around.in_image) tags [] (Adds d.context.ending (Counts w hit))
-          (λ _. adds-flat d.context.ending (Counts w hit) tags refl
-          (counts-call w (id_of d.context.options (codes "fn-") identifier number) id
-          (decimal number)
-          (id-escaped d.context.options (codes "fn-") identifier number refl)
-          (call_id-escaped d.context.options identifier number occurrence)
-          (decimal-escaped number)))
-          (λ _. adds-nothing d.context.ending (Counts w hit)
+          (λ _. adds-flat refl (counts-call w
+          (id_of d.context.options (codes "fn-") identifier number) id (decimal number) (id-escaped
+          d.context.options (codes "fn-") identifier number refl) (call_id-escaped d.context.options
+          identifier number occurrence) (decimal-escaped number))) (λ _. adds-nothing
           (counts-more w 0 hit [] (omega arith) (counts-none w)));
       heading = tt;
       texts = no-footnote d w b.notes p GfmFootnoteCall refl b.texts;

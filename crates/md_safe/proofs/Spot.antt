@@ -1,18 +1,17 @@
 -- A node in its context: the facts about the document, and the node's meaning. The lemmas on nodes
 -- use this record.
 use Rattle.std.proofs.Common.{◌≡◌, ℕ, Bool, true, false, cond, List, [], ◌∷◌, ◌++◌, sym, subst}
-use Rattle.std.proofs.Common.{codes}
+use Rattle.std.proofs.Common.{codes, ◌&&◌}
 use Rattle.std.specs.Prelude.{Option, Some, None, find, bytes_eq, unwrap_or}
 use Rattle.std.specs.Option.{option_map_or}
 use Rattle.md_base.specs.declared.event.Name.{Name}
 use Rattle.md_text.specs.Html.{Attribute}
 use Rattle.md_text.specs.Encode.{encoded}
 use Rattle.md_text.proofs.EncodeLaws.{is_escaped-encoded}
-use Rattle.md_text.proofs.HtmlJoin.{text}
 use Rattle.md_pattern.specs.Looseness.{is_loose}
 use Rattle.md_meaning.specs.Meaning.Inherited.{inside}
 use Rattle.md_meaning.specs.Meaning.At.{Target, Defined, Context, At, nothing_found, target_in}
-use Rattle.md_meaning.specs.Meaning.At.{identifier_of}
+use Rattle.md_meaning.specs.Meaning.At.{identifier_of, Before}
 use Rattle.md_meaning.specs.Meaning.Layout.{Piece}
 use Rattle.md_meaning.specs.Meaning.Media.{target_defined, leads_to}
 use Rattle.md_meaning.specs.Meaning.Means.{prints}
@@ -23,6 +22,12 @@ use Rattle.md_safe.proofs.Laid.{Adds}
 use Rattle.md_safe.proofs.Tags.{IsTest, attribute}
 use Rattle.md_safe.proofs.Media.{IsEscapedTitle}
 use Rattle.md_safe.proofs.Contents.{Holds}
+use Rattle.md_meaning.specs.declared.surroundings.Surroundings.{Surroundings}
+use Rattle.md_base.specs.declared.event.Point.{Point}
+use Rattle.md_base.specs.Tree.{Forest}
+use Rattle.md_meaning.specs.Meaning.Nodes.{Outcome}
+use Rattle.md_tree.specs.Rules.{place}
+use Rattle.md_base.specs.Children.{is_empty}
 
 -- the title of a target is escaped, where there is one
 abbrev pub IsGoodTarget : Option Target → Type 0
@@ -81,31 +86,6 @@ NodeAdds s t content name = (inner : List Piece) → Inside s t content name inn
 abbrev pub IsNarrow : Bool → (List ℕ → Type 0) → Type 0
 IsNarrow escaping holds = (x : List ℕ) → (escaping ≡ true → Escaped x) → holds x
 
--- holds of escaped texts, and outside images of what is claimed
-pub record IsWide (p : Claim) (in_image : Bool) (holds : List ℕ → Type 0) : Type 0 where
-  pub own : (x : List ℕ) → Escaped x → holds x
-  pub outside : in_image ≡ false → (x : List ℕ) → p.holds x → holds x
-  pub read : (x : List ℕ) → holds x → p.holds x
-
-pub wide-reading : (p : Claim) (in_image : Bool) → IsWide p in_image p.holds
-wide-reading p in_image = record {
-  own = λ x h. p.plain x (text p.test x h);
-  outside = λ _ x h. h;
-  read = λ x h. h;
-}
-
-pub wide-escaped : (p : Claim) (in_image : Bool) → in_image ≡ true → IsWide p in_image Escaped
-wide-escaped p in_image is = record {
-  own = λ x h. h;
-  outside = λ no x h. absurd (cc (is, no));
-  read = λ x h. p.plain x (text p.test x h);
-}
-
-pub narrow-wide : (p : Claim) (escaping in_image : Bool) (holds : List ℕ → Type 0) →
-    escaping ≡ true →
-    IsWide p in_image holds → IsNarrow escaping holds
-narrow-wide p escaping in_image holds e w x h = w.own x (h e)
-
 -- an encoded text is escaped if that is required
 pub encoded-escaped : (escaping : Bool) (x : List ℕ) → escaping ≡ true →
     Escaped (encoded escaping x)
@@ -133,9 +113,19 @@ pub target-title : (s : Setting) (t : At) → IsGoodTarget t.found.resource →
     IsEscapedTitle (leads_to s.context t).title
 target-title s t good = by t.found.resource good
   where
-    by : (resource : Option Target) → IsGoodTarget resource →
-        IsEscapedTitle (unwrap_or resource
+    by : (resource : Option Target) → IsGoodTarget resource → IsEscapedTitle (unwrap_or resource
         (target_defined s.context (identifier_of s.context.bytes t.children))).title
-    by None h = defined-title s.context.definitions (identifier_of s.context.bytes t.children)
-        s.titles
+    by None h = defined-title _ _ s.titles
     by (Some target) h = h
+
+-- a node in the document, by what its children mean
+abbrev pub at_in : Surroundings → Before → Point → Point → Forest → Forest → Outcome → At
+at_in around before start end children rest inner = record {
+  around = around;
+  before = before;
+  children = children;
+  found = inner.found;
+  calls = before.calls ++ inner.calls;
+  place = place start end;
+  is_last = around.is_outermost && is_empty rest;
+}

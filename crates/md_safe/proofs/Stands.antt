@@ -10,9 +10,9 @@ use Rattle.std.proofs.lemmas.List.Folds.{list_all-append}
 use Rattle.md_base.proofs.Lies.{lie}
 use Rattle.md_text.specs.Laws.{is_line_ends}
 use Rattle.md_text.specs.Bytes.{is_one_of}
-use Rattle.md_text.specs.Html.{Attribute, Forest, Empty, Text, Void, Element, is_forest, is_tag}
-use Rattle.md_text.specs.Html.{elements, void_tags, written_attributes, opening_tag, closing_tag}
-use Rattle.md_text.specs.Html.{IsReading, any_attribute}
+use Rattle.md_text.specs.Html.{Attribute, Forest, Empty, Text, Void, Element, is_tag, elements}
+use Rattle.md_text.specs.Html.{void_tags, written_attributes, opening_tag, closing_tag, IsReading}
+use Rattle.md_text.specs.Html.{any_attribute}
 use Rattle.md_text.proofs.HtmlJoin.{text_before, joined, after_forest, opening-before}
 use Rattle.md_text.proofs.HtmlReading.{only_reading, all-any}
 use Rattle.md_text.proofs.HtmlWriting.{written_attributes-before}
@@ -20,9 +20,9 @@ use Rattle.md_text.proofs.EscapedLemmas.{escaped-append}
 use Rattle.md_safe.proofs.Texts.{Escaped, line_ends-escaped}
 use Rattle.md_safe.proofs.Laid.{IsBeside}
 use Rattle.md_safe.proofs.Tags.{Turns, TurnsTag, Tagged, Single, Takes}
-use Rattle.md_safe.specs.Contents.{Content, Flow, Phrasing, Linked, Items, Parts, Rows, Cells}
-use Rattle.md_safe.specs.Contents.{Preformatted, Characters, held_in, voids_in, is_space, may_say}
-use Rattle.md_safe.specs.Contents.{is_contained, IsContainedAs}
+use Rattle.md_safe.specs.Contents.{Content, Flow, Phrasing, Linked, Preformatted, Characters}
+use Rattle.md_safe.specs.Contents.{held_in, voids_in, is_space, may_say, is_contained}
+use Rattle.md_safe.specs.Contents.{IsContainedAs}
 
 -- a text has a reading in which everything stands where it may
 pub record Stands (nested : Bool) (content : Content) (x : List ℕ) : Type 0 where
@@ -49,27 +49,22 @@ contained-once nested x h =
 
 -- two texts that may stand somewhere may stand there as one
 say-append : (content : Content) (x y : List ℕ) → may_say content x ≡ true →
-    may_say content y ≡ true →
-    may_say content (x ++ y) ≡ true
+    may_say content y ≡ true → may_say content (x ++ y) ≡ true
 say-append Flow x y a b = refl
 say-append Phrasing x y a b = refl
 say-append Linked x y a b = refl
 say-append Characters x y a b = refl
 say-append Preformatted x y a b = a
-say-append _ x y a b =
-    list_all-append is_space x y ∙ and_from (list_all is_space x) (list_all is_space y) a b
+say-append _ x y a b = list_all-append is_space x y ∙ and_from _ _ a b
 
 contained-text_before : (nested : Bool) (content : Content) (bytes : List ℕ) (g : Forest) →
-    may_say content bytes ≡ true →
-    is_contained nested content g ≡ true → is_contained nested content (text_before bytes g) ≡ true
-contained-text_before nested content bytes Empty s h = and_from (may_say content bytes) true s refl
+    may_say content bytes ≡ true → is_contained nested content g ≡ true →
+    is_contained nested content (text_before bytes g) ≡ true
+contained-text_before nested content bytes Empty s h = and_from _ _ s refl
 contained-text_before nested content bytes (Text more rest) s h =
-    let parts = and_parts (may_say content more) (is_contained nested content rest) h in
-    and_from (may_say content (bytes ++ more)) (is_contained nested content rest)
-    (say-append content bytes more s parts.0)
-    parts.1
-contained-text_before nested content bytes g s h =
-    and_from (may_say content bytes) (is_contained nested content g) s h
+    let parts = and_parts _ _ h in
+    and_from _ _ (say-append content bytes more s parts.0) parts.1
+contained-text_before nested content bytes g s h = and_from _ _ s h
 
 -- what an element holds stands where it may
 abbrev pub is_held : (nested : Bool) → Content → List ℕ → Forest → Bool
@@ -77,30 +72,23 @@ is_held nested content name inner = option_map_or (λ held. is_contained nested 
     (held_in nested content name) false
 
 contained-joined : (nested : Bool) (content : Content) (f g : Forest) →
-    is_contained nested content f ≡ true →
-    is_contained nested content g ≡ true →
+    is_contained nested content f ≡ true → is_contained nested content g ≡ true →
     is_contained nested content (joined f g) ≡ true
 contained-joined nested content Empty g a b = b
 contained-joined nested content (Text bytes rest) g a b =
-    let parts = and_parts (may_say content bytes) (is_contained nested content rest) a in
+    let parts = and_parts _ _ a in
     contained-text_before nested content bytes (joined rest g) parts.0
     (contained-joined nested content rest g parts.1 b)
 contained-joined nested content (Void name attributes rest) g a b =
-    let parts =
-    and_parts (is_one_of (voids_in content) name) (is_contained nested content rest) a in
-    and_from (is_one_of (voids_in content) name)
-    (is_contained nested content (joined rest g)) parts.0
-    (contained-joined nested content rest g parts.1 b)
+    let parts = and_parts _ _ a in
+    and_from _ _ parts.0 (contained-joined nested content rest g parts.1 b)
 contained-joined nested content (Element name attributes children rest) g a b =
-    let parts =
-    and_parts (is_held nested content name children) (is_contained nested content rest) a in
-    and_from (is_held nested content name children)
-    (is_contained nested content (joined rest g)) parts.0
-    (contained-joined nested content rest g parts.1 b)
+    let parts = and_parts _ _ a in
+    and_from _ _ parts.0 (contained-joined nested content rest g parts.1 b)
 
-pub stands-join : (nested : Bool) (content : Content) (x y : List ℕ) → Stands nested content x →
+pub stands-join : {nested : Bool} {content : Content} (x y : List ℕ) → Stands nested content x →
     Stands nested content y → Stands nested content (x ++ y)
-stands-join nested content x y a b =
+stands-join {nested} {content} x y a b =
     let both = after_forest any_attribute a.forest b.forest a.reading.in_grammar (all-any a.forest)
     b.reading.in_grammar (all-any b.forest) in
     record {
@@ -112,18 +100,17 @@ stands-join nested content x y a b =
       contained = contained-joined nested content a.forest b.forest a.contained b.contained;
     }
 
-pub stands-nothing : (nested : Bool) (content : Content) → Stands nested content []
-stands-nothing nested content = record {
+pub stands-nothing : {nested : Bool} {content : Content} → Stands nested content []
+stands-nothing = record {
   forest = Empty;
   reading = record { in_grammar = refl; written_so = refl };
   contained = refl;
 }
 
-pub stands-text : (nested : Bool) (content : Content) (x : List ℕ) → Escaped x →
-    may_say content x ≡ true →
-    Stands nested content x
-stands-text nested content [] h s = stands-nothing nested content
-stands-text nested content (b ∷ bytes) h s = record {
+pub stands-text : {nested : Bool} {content : Content} {x : List ℕ} → Escaped x →
+    may_say content x ≡ true → Stands nested content x
+stands-text {x = []} h s = stands-nothing
+stands-text {content = content} {x = b ∷ bytes} h s = record {
   forest = Text (b ∷ bytes) Empty;
   reading = record {
     in_grammar = and_from _ true (and_from _ true (and_from true _ refl h) refl) refl;
@@ -132,53 +119,48 @@ stands-text nested content (b ∷ bytes) h s = record {
   contained = and_from (may_say content (b ∷ bytes)) true s refl;
 }
 
-pub stands-void : (nested : Bool) (content : Content) (name : List ℕ) →
+pub stands-void : {nested : Bool} {content : Content} {name : List ℕ} →
     is_one_of (voids_in content) name ≡ true → Single any_attribute (Stands nested content) name
-stands-void nested content name v attributes h a =
-    subst (λ x. Stands nested content (60 ∷ (name ++ x)))
-    (written_attributes-before attributes (32 ∷ 47 ∷ 62 ∷ [])) (record {
-      forest = Void name attributes Empty;
-      reading = record {
-        in_grammar = and_from (is_tag void_tags name attributes) true h refl;
-        written_so = refl;
-      };
-      contained = and_from (is_one_of (voids_in content) name) true v refl;
-    })
+stands-void {nested} {content} {name} v = record {
+  tag = λ attributes h a. subst (λ x. Stands nested content (60 ∷ (name ++ x)))
+      (written_attributes-before attributes (32 ∷ 47 ∷ 62 ∷ [])) (record {
+        forest = Void name attributes Empty;
+        reading = record {
+          in_grammar = and_from (is_tag void_tags name attributes) true h refl;
+          written_so = refl;
+        };
+        contained = and_from (is_one_of (voids_in content) name) true v refl;
+      });
+}
 
 -- an element may stand there and holds this
 abbrev pub Opens : (nested : Bool) → Content → Content → List ℕ → Type 0
 Opens nested content held name = held_in nested content name ≡ Some held
 
-pub stands-element :
-    (nested : Bool) (content held : Content) (name : List ℕ) (attributes : List Attribute)
-    (inside : List ℕ) →
-    is_tag elements name attributes ≡ true → Opens nested content held name →
-    Stands nested held inside
-    → Stands nested content (60 ∷ (name ++ (written_attributes attributes
-    ++ (62 ∷ (inside ++ (60 ∷ 47 ∷ (name ++ (62 ∷ []))))))))
-stands-element nested content held name attributes inside h opens within = record {
+stands-element : {nested : Bool} {content held : Content} (name : List ℕ)
+    (attributes : List Attribute) (inside : List ℕ) → is_tag elements name attributes ≡ true →
+    Opens nested content held name → Stands nested held inside → Stands nested content (60 ∷ (name
+    ++ (written_attributes attributes ++ (62 ∷ (inside ++ (60 ∷ 47 ∷ (name ++ (62 ∷ []))))))))
+stands-element {nested} {content} name attributes inside h opens within = record {
   forest = Element name attributes within.forest Empty;
   reading = record {
-    in_grammar =
-        and_from _ true (and_from (is_tag elements name attributes) (is_forest within.forest) h
-        within.reading.in_grammar) refl;
+    in_grammar = and_from _ _ (and_from _ _ h within.reading.in_grammar) refl;
     written_so = ap (λ x. 60 ∷ (name ++ (written_attributes attributes
         ++ (62 ∷ (x ++ (60 ∷ 47 ∷ (name ++ (62 ∷ [])))))))) within.reading.written_so;
   };
-  contained = and_from (is_held nested content name within.forest) true
-      (ap (λ held. option_map_or (λ held. is_contained nested held within.forest) held false) opens
-      ∙
-      within.contained) refl;
+  contained = and_from _ _ (ap (λ held. option_map_or
+      (λ held. is_contained nested held within.forest) held false) opens ∙ within.contained) refl;
 }
 
 -- attribute by attribute
-pub stands-tag : (nested : Bool) (content held : Content) (name : List ℕ) →
-    Opens nested content held name →
-    Tagged any_attribute (Stands nested held) (Stands nested content) name
-stands-tag nested content held name opens attributes inside h a within =
-    subst (λ x. Stands nested content (60 ∷ (name ++ x)))
-    (written_attributes-before attributes (62 ∷ (inside ++ (60 ∷ 47 ∷ (name ++ (62 ∷ []))))))
-    (stands-element nested content held name attributes inside h opens within)
+pub stands-tag : {nested : Bool} {content : Content} (held : Content) {name : List ℕ} →
+    Opens nested content held name → Tagged any_attribute (Stands nested held)
+    (Stands nested content) name
+stands-tag {nested} {content} held {name} opens = record {
+  tag = λ attributes inside h a within. subst (λ x. Stands nested content (60 ∷ (name ++ x)))
+      (written_attributes-before attributes (62 ∷ (inside ++ (60 ∷ 47 ∷ (name ++ (62 ∷ []))))))
+      (stands-element name attributes inside h opens within);
+}
 
 -- ---- white space
 
@@ -191,18 +173,17 @@ abbrev pub is_spaced : Content → Bool
 is_spaced Preformatted = false
 is_spaced _ = true
 
-pub stands-white : (nested : Bool) (content : Content) (x : List ℕ) →
-    is_spaced content ≡ true → IsWhite x →
-    Stands nested content x
-stands-white nested Flow x is h = stands-text nested Flow x h.0 refl
-stands-white nested Phrasing x is h = stands-text nested Phrasing x h.0 refl
-stands-white nested Linked x is h = stands-text nested Linked x h.0 refl
-stands-white nested Characters x is h = stands-text nested Characters x h.0 refl
-stands-white nested Preformatted x is h = lie is
-stands-white nested Items x is h = stands-text nested Items x h.0 h.1
-stands-white nested Parts x is h = stands-text nested Parts x h.0 h.1
-stands-white nested Rows x is h = stands-text nested Rows x h.0 h.1
-stands-white nested Cells x is h = stands-text nested Cells x h.0 h.1
+pub stands-white : {nested : Bool} {content : Content} {x : List ℕ} → is_spaced content ≡ true →
+    IsWhite x → Stands nested content x
+stands-white {content = content} {x} is h = stands-text h.0 (by content is)
+  where
+    by : (content : Content) → is_spaced content ≡ true → may_say content x ≡ true
+    by Flow is = refl
+    by Phrasing is = refl
+    by Linked is = refl
+    by Characters is = refl
+    by Preformatted is = lie is
+    by _ is = h.1
 
 line_ends-space : (x : List ℕ) → is_line_ends x ≡ true → list_all is_space x ≡ true
 line_ends-space [] h = refl
@@ -228,22 +209,25 @@ white_beside = record {
 }
 
 -- white space may be beside it
-pub takes-white : (nested : Bool) (content : Content) → is_spaced content ≡ true →
+pub takes-white : {nested : Bool} {content : Content} → is_spaced content ≡ true →
     Takes IsWhite (Stands nested content)
-takes-white nested content is w x v h r g =
-    stands-join nested content w (x ++ v) (stands-white nested content w is h)
-    (stands-join nested content x v r (stands-white nested content v is g))
+takes-white is = record {
+  take = λ w x v h r g. stands-join _ _ (stands-white is h) (stands-join _ _ r (stands-white is g));
+}
 
 -- ---- the tag of an element, which changes the content to another
 
-pub turns-tag : (nested : Bool) (held content : Content) (name : List ℕ) →
-    Opens nested content held name →
-    TurnsTag any_attribute (Stands nested held) (Stands nested content) name
-turns-tag nested held content name opens attributes h a x r =
-    subst (Stands nested content) (sym (opening-before name attributes (x ++ closing_tag name)))
-    (stands-element nested content held name attributes x h opens r)
+pub turns-tag : {nested : Bool} (held : Content) {content : Content} {name : List ℕ} →
+    Opens nested content held name → TurnsTag any_attribute (Stands nested held)
+    (Stands nested content) name
+turns-tag {nested} held {content} {name} opens = record {
+  tag = λ attributes h a. record {
+    turn = λ x r. subst (Stands nested content) (sym
+        (opening-before name attributes (x ++ closing_tag name))) (stands-element _ _ x h opens r);
+  };
+}
 
-pub turns-plain : (nested : Bool) (held content : Content) (name : List ℕ) →
+pub turns-plain : {nested : Bool} {held content : Content} (name : List ℕ) →
     is_tag elements name [] ≡ true → Opens nested content held name →
     Turns (Stands nested held) (Stands nested content) (opening_tag name []) (closing_tag name)
-turns-plain nested held content name h opens = turns-tag nested held content name opens [] h refl
+turns-plain {held = held} name h opens = (turns-tag held opens).tag [] h refl

@@ -6,10 +6,9 @@ use Rattle.md_text.specs.References.{is_escaped, read_back}
 use Rattle.md_text.proofs.EncodeLaws.{read_back-other}
 use Rattle.md_safe.specs.Token.{Token, Character, TokenAttribute}
 use Rattle.md_safe.specs.Tag.{Tag, with_value}
-use Rattle.md_safe.specs.TokenizerStates.{State, Data, AttributeValueDoubleQuoted, Goes}
-use Rattle.md_safe.specs.Tokenizer.{step, run}
-use Rattle.md_safe.specs.TokenizerStates.{Rcdata, in_value}
-use Rattle.md_safe.specs.Tokenizer.{after_step, IsRun}
+use Rattle.md_safe.specs.TokenizerStates.{State, Data, AttributeValueDoubleQuoted, Goes, Rcdata}
+use Rattle.md_safe.specs.TokenizerStates.{in_value}
+use Rattle.md_safe.specs.Tokenizer.{step, run, after_step, IsRun}
 use Rattle.md_safe.proofs.EscapedCases.{IsPlain, by_escaped}
 
 -- the branches of a test
@@ -67,12 +66,8 @@ rcdata_step b rest p =
     in_value-plain b p = past _ p.no_nul refl
 
 rcdata-plain : (b : ℕ) (rest : List ℕ) → IsPlain b → RcdataRuns rest → RcdataRuns (b ∷ rest)
-rcdata-plain b rest p later r t h =
-    along Rcdata (b ∷ (rest ++ r)) (b ∷ (rest ++ r))
-    (Character b ∷ (map Character (read_back rest) ++ t))
-    (map Character (read_back (b ∷ rest)) ++ t) refl
-    (ap (λ x. map Character x ++ t) (sym (read_back-other b rest (plain-ne b p))))
-    (loud (Character b) (rcdata_step b (rest ++ r) p) (later r t h))
+rcdata-plain b rest p later r t h = along _ _ _ _ _ refl (ap (λ x. map Character x ++ t)
+    (sym (read_back-other b rest (plain-ne b p)))) (loud _ (rcdata_step b _ p) (later r t h))
 
 pub rcdata-runs : (x : List ℕ) → is_escaped x ≡ true → RcdataRuns x
 rcdata-runs x e =

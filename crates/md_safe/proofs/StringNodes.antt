@@ -15,10 +15,9 @@ use Rattle.md_meaning.specs.Meaning.Means.{prints}
 use Rattle.md_meaning.specs.Meaning.Spans.{escaped, is_dropped, line_ending, reference}
 use Rattle.md_content.specs.Built.{Content, is_string}
 use Rattle.md_steps.proofs.Standing.{picked}
-use Rattle.md_safe.proofs.Spot.{NodeAdds}
+use Rattle.md_safe.proofs.Spot.{NodeAdds, Setting, IsFitAt, Here, Prints, IsNarrow, encoded-escaped}
 use Rattle.md_safe.proofs.Texts.{Escaped, line_ends-escaped}
 use Rattle.md_safe.proofs.Laid.{adds-text, adds-nothing, adds-weaker}
-use Rattle.md_safe.proofs.Spot.{Setting, IsFitAt, Here, Prints, IsNarrow, encoded-escaped}
 
 -- marks print their content
 abbrev is_mark : Name → Bool
@@ -39,30 +38,22 @@ is_data name =
     is_text name && elim name [ LineEnding ↦ false | CharacterReferenceValue ↦ false | _ ↦ true ]
 
 -- a text, encoded if that is required
-data-node : (s : Setting) (t : At) (holds : List ℕ → Type 0) →
-    IsNarrow t.around.is_escaping holds → (x : List ℕ) → Prints s holds (escaped t x)
-data-node s t holds n x =
-    adds-text s.context.ending holds (encoded t.around.is_escaping x)
-    (n (encoded t.around.is_escaping x) (encoded-escaped t.around.is_escaping x))
+data-node : (s : Setting) (t : At) (holds : List ℕ → Type 0) → IsNarrow t.around.is_escaping holds →
+    (x : List ℕ) → Prints s holds (escaped t x)
+data-node s t holds n x = adds-text (n (encoded t.around.is_escaping x) (encoded-escaped _ x))
 
 -- a line ending
-pub line_ending-escaped : (s : Setting) (t : At) →
-    is_line_ends (text_in s.context.bytes t.place) ≡ true →
-    Prints s Escaped (line_ending s.context t)
+pub line_ending-escaped : (s : Setting) (t : At) → is_line_ends (text_in s.context.bytes t.place)
+    ≡ true → Prints s Escaped (line_ending s.context t)
 line_ending-escaped s t h =
     let x : List ℕ = text_in s.context.bytes t.place in
     cond_both t.around.in_code (said (32 ∷ [])) (cond (is_dropped t) [] (said x)) (Prints s Escaped)
-    (λ _. adds-text s.context.ending Escaped (32 ∷ []) refl)
-    (λ _.
-    cond_both (is_dropped t) [] (said x) (Prints s Escaped)
-    (λ _. adds-nothing s.context.ending Escaped refl)
-    (λ _. adds-text s.context.ending Escaped x (line_ends-escaped x h)))
+    (λ _. adds-text refl) (λ _. cond_both (is_dropped t) [] (said x) (Prints s Escaped)
+    (λ _. adds-nothing refl) (λ _. adds-text (line_ends-escaped x h)))
 
 data-prints : (context : Context) (t : At) (name : Name) → is_data name ≡ true →
-    (inner : List Piece) →
-    prints context t name inner ≡ escaped t (text_in context.bytes t.place)
-data-prints context t name is inner =
-    picked (is_data name) (prints context t name inner) _ (by name) is
+    (inner : List Piece) → prints context t name inner ≡ escaped t (text_in context.bytes t.place)
+data-prints context t name is inner = picked _ _ _ (by name) is
   where
     by : (name : Name) → cond (is_data name) (prints context t name inner)
         (escaped t (text_in context.bytes t.place)) ≡ escaped t (text_in context.bytes t.place)
@@ -72,11 +63,10 @@ data-prints context t name is inner =
 other-node : (s : Setting) (t : At) (holds : List ℕ → Type 0) (name : Name) →
     IsNarrow t.around.is_escaping holds → is_text name && not (is_data name) ≡ true →
     IsFitAt s t name → (inner : List Piece) → Prints s holds (prints s.context t name inner)
-other-node s t holds LineEnding n is fit inner =
-    adds-weaker s.context.ending Escaped holds (line_ending s.context t) (λ x h. n x (λ _. h))
+other-node s t holds LineEnding n is fit inner = adds-weaker (λ x h. n x (λ _. h))
     (line_ending-escaped s t fit)
-other-node s t holds CharacterReferenceValue n is fit inner =
-    data-node s t holds n (reference s.context t)
+other-node s t holds CharacterReferenceValue n is fit inner = data-node s t holds n
+    (reference s.context t)
 other-node s t holds _ n is fit inner = lie is
 
 pub text-node : (s : Setting) (t : At) (holds : List ℕ → Type 0) (name : Name) →
@@ -87,8 +77,7 @@ text-node s t holds name n is fit inner = by (is_data name) refl
     by : (plain : Bool) → is_data name ≡ plain → Prints s holds (prints s.context t name inner)
     by true e = subst (Prints s holds) (sym (data-prints s.context t name e inner))
         (data-node s t holds n (text_in s.context.bytes t.place))
-    by false e = other-node s t holds name n
-        (and_from (is_text name) (not (is_data name)) is (ap not e)) fit inner
+    by false e = other-node s t holds name n (and_from _ _ is (ap not e)) fit inner
 
 mark-node : (s : Setting) (t : At) (content : Content) (name : Name) → is_mark name ≡ true →
     NodeAdds s t content name
@@ -97,13 +86,12 @@ mark-node s t content CharacterReferenceMarkerNumeric is inner a = a
 mark-node s t content CharacterReferenceMarkerHexadecimal is inner a = a
 mark-node s t content _ is inner a = lie is
 
-pub string-node : (s : Setting) (t : At) (content : Content) (name : Name) → IsNarrow
-    t.around.is_escaping (Here s t content) → is_string name ≡ true → IsFitAt s t name → NodeAdds s
-    t content name
+pub string-node : (s : Setting) (t : At) (content : Content) (name : Name) →
+    IsNarrow t.around.is_escaping (Here s t content) → is_string name ≡ true → IsFitAt s t name →
+    NodeAdds s t content name
 string-node s t content name n is fit inner a = by (is_mark name) refl
   where
-    by : (mark : Bool) → is_mark name ≡ mark →
-        Prints s (Here s t content) (prints s.context t name inner)
+    by : (mark : Bool) → is_mark name ≡ mark → Prints s
+        (Here s t content) (prints s.context t name inner)
     by true e = mark-node s t content name e inner a
-    by false e = text-node s t (Here s t content) name n
-        (and_from (is_string name) (not (is_mark name)) is (ap not e)) fit inner
+    by false e = text-node s t (Here s t content) name n (and_from _ _ is (ap not e)) fit inner

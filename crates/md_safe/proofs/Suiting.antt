@@ -6,16 +6,15 @@ use Rattle.md_base.specs.declared.event.Name.{Name}
 use Rattle.md_base.specs.declared.event.Name.TheVariants.{Image}
 use Rattle.md_base.specs.Is.{is as named}
 use Rattle.md_base.specs.Tree.{Forest}
-use Rattle.md_base.specs.NameTests.{is_transparent}
 use Rattle.md_text.specs.declared.options.CompileOptions.{CompileOptions}
 use Rattle.md_meaning.specs.declared.surroundings.Surroundings.{Surroundings}
 use Rattle.md_meaning.specs.Meaning.Inherited.{inside}
-use Rattle.md_content.specs.Built.{Content, Blocks, Spans, FirstFence}
-use Rattle.md_content.specs.Built.{InfoAndMeta, MetaAlone, Nothing, Sources, is_info}
-use Rattle.md_content.specs.Built.{is_source, may_stand, content_of, content_past, content_after}
-use Rattle.md_content.specs.Built.{content_after_node}
+use Rattle.md_content.specs.Built.{Content, Blocks, Spans, FirstFence, InfoAndMeta, MetaAlone}
+use Rattle.md_content.specs.Built.{Nothing, Sources, is_info, is_source, may_stand, content_of}
+use Rattle.md_content.specs.Built.{content_past, content_after_node}
 use Rattle.md_safe.proofs.Contents.{Suits, stays-after}
-use Rattle.md_safe.proofs.Insides.{asks_escaping, asks_image, allowed_inside}
+use Rattle.md_safe.proofs.Insides.{asks_escaping, asks_image, allowed_inside, is_blocks, of-blocks}
+use Rattle.md_safe.proofs.Insides.{is_blocks-same}
 
 suits-past : (escaping in_image : Bool) (content : Content) (name : Name) →
     Suits escaping in_image content →
@@ -28,30 +27,28 @@ suits-past escaping in_image InfoAndMeta name h =
 suits-past escaping in_image _ name h = tt
 
 pub suits-after-node : (escaping in_image : Bool) (content : Content) (name : Name)
-    (children : Forest) →
-    Suits escaping in_image content →
-    Suits escaping in_image (content_after_node content name children)
-suits-after-node escaping in_image content name children h =
-    cond_both (is_transparent name) (content_after content children) (content_past content name)
-    (Suits escaping in_image)
-    (λ _. stays-after (Suits escaping in_image) (suits-past escaping in_image) content children h)
+    (children : Forest) → Suits escaping in_image content → Suits escaping
+    in_image (content_after_node content name children)
+suits-after-node escaping in_image content name children h = cond_both _ _ _
+    (Suits escaping in_image) (λ _. stays-after (Suits escaping in_image)
+    (suits-past escaping in_image) content children h)
     (λ _. suits-past escaping in_image content name h)
 
 -- the conditions of a content on its surroundings
 suits : (escaping in_image : Bool) (content : Content) →
     (asks_escaping content ≡ true → escaping ≡ true) →
-    (asks_image content ≡ true → in_image ≡ true) →
+    (asks_image content ≡ true → in_image ≡ true) → (is_blocks content ≡ true → in_image ≡ false) →
     Suits escaping in_image content
-suits escaping in_image Blocks e i = e refl
-suits escaping in_image Spans e i = (e refl, i refl)
-suits escaping in_image FirstFence e i = e refl
-suits escaping in_image InfoAndMeta e i = e refl
-suits escaping in_image Sources e i = e refl
-suits escaping in_image _ e i = tt
+suits escaping in_image Blocks e i o = (e refl, o refl)
+suits escaping in_image Spans e i o = (e refl, i refl)
+suits escaping in_image FirstFence e i o = e refl
+suits escaping in_image InfoAndMeta e i o = e refl
+suits escaping in_image Sources e i o = e refl
+suits escaping in_image _ e i o = tt
 
 is-escaping : (escaping in_image : Bool) (content : Content) → asks_escaping content ≡ true →
     Suits escaping in_image content → escaping ≡ true
-is-escaping escaping in_image Blocks asks h = h
+is-escaping escaping in_image Blocks asks h = h.0
 is-escaping escaping in_image Spans asks h = h.0
 is-escaping escaping in_image FirstFence asks h = h
 is-escaping escaping in_image InfoAndMeta asks h = h
@@ -62,6 +59,18 @@ is-in_image : (escaping in_image : Bool) (content : Content) → asks_image cont
     Suits escaping in_image content → in_image ≡ true
 is-in_image escaping in_image Spans asks h = h.1
 is-in_image escaping in_image _ asks h = lie asks
+
+is-outside : (escaping in_image : Bool) (content : Content) → is_blocks content ≡ true →
+    Suits escaping in_image content → in_image ≡ false
+is-outside escaping in_image Blocks is h = h.1
+is-outside escaping in_image _ is h = lie is
+
+-- images alone begin an image, and no blocks stand in them
+still-outside : (options : CompileOptions) (loose : Bool) (around : Surroundings) (name : Name) →
+    is_blocks (content_of name Blocks) ≡ true → around.in_image ≡ false →
+    (inside options loose name around).in_image ≡ false
+still-outside options loose around Image blocks out = lie blocks
+still-outside options loose around _ blocks out = out
 
 -- if HTML is escaped, escaped text stays so, except in the targets of links
 keeps-escaping : (options : CompileOptions) (loose : Bool) (around : Surroundings) (name : Name) →
@@ -83,34 +92,33 @@ in-image options loose around _ is = lie is
 -- the surroundings of a node's children suit them
 pub suits-inside : (options : CompileOptions) → options.allow_dangerous_html ≡ false →
     (loose : Bool) (around : Surroundings) (content : Content) (name : Name) →
-    may_stand content name ≡ true →
-    Suits around.is_escaping around.in_image content
-    →
-    Suits (inside options loose name around).is_escaping (inside options loose name around).in_image
-    (content_of name content)
-suits-inside options html loose around content name s h =
-    suits (inside options loose name around).is_escaping
+    may_stand content name ≡ true → Suits around.is_escaping around.in_image content → Suits
+    (inside options loose name around).is_escaping
     (inside options loose name around).in_image (content_of name content)
-    (λ asks.
+suits-inside options html loose around content name s h = suits
+    (inside options loose name around).is_escaping (inside options loose name around).in_image
+    (content_of name content) (λ asks.
     let needs = (allowed_inside content name s).escaping asks in
-    escaping (is-escaping around.is_escaping around.in_image content needs.0 h) needs.1)
-    (λ asks. elim (or_cases (asks_image content) _ ((allowed_inside content name s).image asks)) [
+    escaping (is-escaping around.is_escaping around.in_image content needs.0 h) needs.1) (λ asks.
+    elim (or_cases _ _ ((allowed_inside content name s).image asks)) [
       | inl within ↦ image (is-in_image around.is_escaping around.in_image content within h)
       | inr is ↦ in-image options loose around name is
     ])
+    (λ is. still-outside options loose around name
+    (subst (λ c. is_blocks (content_of name c) ≡ true)
+    (is_blocks-same content (of-blocks content name is)) is)
+    (is-outside around.is_escaping around.in_image content (of-blocks content name is) h))
   where
     escaping : around.is_escaping ≡ true → is_source name ≡ false →
         (inside options loose name around).is_escaping ≡ true
-    escaping e out =
-        subst (λ b. (inside (record options { allow_dangerous_html = b }) loose name
-        around).is_escaping ≡ true) (sym html)
-        (subst (λ b. (inside (record options { allow_dangerous_html = false }) loose name
-        (record around { is_escaping = b })).is_escaping ≡ true) (sym e)
-        (ap (λ b. b || (inside (record options { allow_dangerous_html = false }) loose name
-        (record around { is_escaping = true })).is_escaping) (sym out)
-        ∙ keeps-escaping options loose around name))
+    escaping e out = subst (λ b. (inside (record options { allow_dangerous_html = b }) loose name
+        around).is_escaping ≡ true) (sym html) (subst (λ b. (inside
+        (record options { allow_dangerous_html = false }) loose name
+        (record around { is_escaping = b })).is_escaping ≡ true) (sym e) (ap (λ b. b || (inside
+        (record options { allow_dangerous_html = false }) loose name
+        (record around { is_escaping = true })).is_escaping) (sym out) ∙ keeps-escaping options
+        loose around name))
 
     image : around.in_image ≡ true → (inside options loose name around).in_image ≡ true
-    image e =
-        subst (λ b. (inside options loose name (record around { in_image = b })).in_image ≡ true)
-        (sym e) (keeps-image options loose around name)
+    image e = subst (λ b. (inside options loose name (record around { in_image = b })).in_image
+        ≡ true) (sym e) (keeps-image options loose around name)

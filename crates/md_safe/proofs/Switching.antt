@@ -12,9 +12,8 @@ use Rattle.md_safe.specs.AroundBody.{start_before_html, start_before_head, start
 use Rattle.md_safe.specs.AroundBody.{start_after_head, enter, with_root, with_head, without_head}
 use Rattle.md_safe.specs.AroundBody.{with_body}
 use Rattle.md_safe.specs.Elements.{button_scope, headings, blocks, formatting, ordinary, parts}
-use Rattle.md_safe.specs.Elements.{sections, cells}
 use Rattle.md_safe.specs.Stack.{is_named, has_in_scope, insert}
-use Rattle.md_safe.specs.Formatting.{needs_reconstruction, last_active}
+use Rattle.md_safe.specs.Formatting.{last_active}
 use Rattle.md_safe.specs.InBody.{reconstructed, insert_formatting, insert_void, start_in_body}
 use Rattle.md_safe.specs.InTable.{end_table_text}
 use Rattle.md_safe.specs.Construction.{start, step}
@@ -42,9 +41,7 @@ either text false x y p q = q
 
 rebuilt : (parser : Parser) (change : Parser → Parser) → is_text (change parser).mode ≡ false →
     Tokenizes false (reconstructed parser change)
-rebuilt parser change e =
-    either false (needs_reconstruction parser) None (Some (change parser)) (nowhere false)
-    (to false (change parser) e)
+rebuilt parser change e = either _ _ _ _ (nowhere _) (to _ _ e)
 
 -- a tag in a body
 in-body : (name : List ℕ) (attributes : List TokenAttribute) (parser : Parser) →
@@ -70,36 +67,32 @@ in-body name attributes parser e =
 
 after-head : (name : List ℕ) (attributes : List TokenAttribute) (parser : Parser) →
     Tokenizes false (start_after_head name attributes parser)
-after-head name attributes parser =
-    either false (bytes_eq name (codes "body")) _ _ (to false _ refl)
+after-head name attributes parser = either _ _ _ _ (to false _ refl)
     (in-body name attributes (with_body parser) refl)
 
 in-head : (name : List ℕ) (attributes : List TokenAttribute) (parser : Parser) →
-    bytes_eq name (codes "title") ≡ false →
-    is_text parser.mode ≡ false → Tokenizes false (start_in_head name attributes parser)
-in-head name attributes parser none e =
-    either false (bytes_eq name (codes "meta")) _ _ (to false _ e)
-    (subst (λ b. Tokenizes false (cond b (Some (enter (InText InHead) name attributes parser))
+    bytes_eq name (codes "title") ≡ false → is_text parser.mode ≡ false →
+    Tokenizes false (start_in_head name attributes parser)
+in-head name attributes parser none e = either _ _ _ _ (to false _ e) (subst (λ b. Tokenizes false
+    (cond b (Some (enter (InText InHead) name attributes parser))
     (start_after_head name attributes (without_head parser)))) (sym none)
     (after-head name attributes (without_head parser)))
 
 before-head : (name : List ℕ) (attributes : List TokenAttribute) (parser : Parser) →
-    bytes_eq name (codes "title") ≡ false → Tokenizes false
-    (start_before_head name attributes parser)
-before-head name attributes parser none =
-    either false (bytes_eq name (codes "head")) _ _ (to false _ refl)
+    bytes_eq name (codes "title") ≡ false → Tokenizes
+    false (start_before_head name attributes parser)
+before-head name attributes parser none = either _ _ _ _ (to false _ refl)
     (in-head name attributes (with_head parser) none refl)
 
 before-html : (name : List ℕ) (attributes : List TokenAttribute) (parser : Parser) →
-    bytes_eq name (codes "title") ≡ false → Tokenizes false
-    (start_before_html name attributes parser)
-before-html name attributes parser none =
-    either false (bytes_eq name (codes "html")) _ _ (to false _ refl)
+    bytes_eq name (codes "title") ≡ false → Tokenizes
+    false (start_before_html name attributes parser)
+before-html name attributes parser none = either _ _ _ _ (to false _ refl)
     (before-head name attributes (with_root parser) none)
 
 starts : (mode : Mode) (name : List ℕ) (attributes : List TokenAttribute) (parser : Parser) →
-    parser.mode ≡ mode →
-    bytes_eq name (codes "title") ≡ false → Tokenizes false (start mode name attributes parser)
+    parser.mode ≡ mode → bytes_eq name (codes "title") ≡ false →
+    Tokenizes false (start mode name attributes parser)
 starts Initial name attributes parser e none = before-html name attributes parser none
 starts BeforeHtml name attributes parser e none = before-html name attributes parser none
 starts BeforeHead name attributes parser e none = before-head name attributes parser none
@@ -107,20 +100,16 @@ starts InHead name attributes parser e none = in-head name attributes parser non
 starts (InText mode) name attributes parser e none = nowhere false
 starts AfterHead name attributes parser e none = after-head name attributes parser
 starts InBody name attributes parser e none = in-body name attributes parser (ap is_text e)
-starts InTable name attributes parser e none =
-    either false (is_one_of sections name) _ _ (to false _ refl) (nowhere false)
-starts InTableBody name attributes parser e none =
-    either false (bytes_eq name (codes "tr")) _ _ (to false _ refl) (nowhere false)
-starts InRow name attributes parser e none =
-    either false (is_one_of cells name) _ _ (to false _ refl) (nowhere false)
-starts InCell name attributes parser e none =
-    either false (is_one_of parts name) _ _ (nowhere false)
+starts InTable name attributes parser e none = either _ _ _ _ (to false _ refl) (nowhere false)
+starts InTableBody name attributes parser e none = either _ _ _ _ (to false _ refl) (nowhere false)
+starts InRow name attributes parser e none = either _ _ _ _ (to false _ refl) (nowhere false)
+starts InCell name attributes parser e none = either _ _ _ _ (nowhere false)
     (in-body name attributes parser (ap is_text e))
 starts (InTableText mode) name attributes parser e none = nowhere false
-starts AfterBody name attributes parser e none =
-    in-body name attributes (record parser { mode = InBody }) refl
-starts AfterAfterBody name attributes parser e none =
-    in-body name attributes (record parser { mode = InBody }) refl
+starts AfterBody name attributes parser e none = in-body name attributes
+    (record parser { mode = InBody }) refl
+starts AfterAfterBody name attributes parser e none = in-body name attributes
+    (record parser { mode = InBody }) refl
 
 -- ---- `title`
 
@@ -142,21 +131,18 @@ after-text text tag all (Some parser) = all parser
 
 steps : (text : Bool) (name : List ℕ) (attributes : List TokenAttribute) (flag : Bool) →
     ((parser : Parser) → Tokenizes text (start parser.mode name attributes parser)) →
-    (parser : Parser) →
-    Tokenizes text (step parser (StartTag name attributes flag))
+    (parser : Parser) → Tokenizes text (step parser (StartTag name attributes flag))
 steps text name attributes flag all parser = by parser.mode
   where
     tag : Parser → Option Parser
     tag parser = start parser.mode name attributes parser
 
     by : (mode : Mode) → Tokenizes text (elim mode [
-      | InTableText original ↦
-          option_and_then tag (end_table_text original (record parser { skips_line_feed = false }))
+      | InTableText original ↦ option_and_then tag (end_table_text original
+          (record parser { skips_line_feed = false }))
       | _ ↦ tag (record parser { skips_line_feed = false })
     ])
-    by (InTableText original) =
-        after-text text tag all
-        (end_table_text original (record parser { skips_line_feed = false }))
+    by (InTableText original) = after-text _ _ all _
     by _ = all (record parser { skips_line_feed = false })
 
 pub switched :

@@ -1,26 +1,22 @@
 -- What stands in a part of a table is built as it is read, by what each element of it does.
-use Rattle.std.proofs.Common.{◌≡◌, ℕ, ◌≤◌, ◌==◌, Bool, true, false, not, ◌&&◌, cond, List, [], ◌∷◌}
-use Rattle.std.proofs.Common.{◌++◌, refl, sym, ap, ◌∙◌, subst, map, codes, arith, eqb-true}
+use Rattle.std.proofs.Common.{◌≡◌, ℕ, ◌≤◌, ◌==◌, Bool, true, false, cond, List, [], ◌∷◌, ◌++◌, refl}
+use Rattle.std.proofs.Common.{sym, ap, ◌∙◌, subst, map, codes, arith, eqb-true}
 use Rattle.std.specs.Prelude.{Some, option_and_then}
-use Rattle.std.specs.Option.{option_map_or}
 use Rattle.std.specs.List.{list_all}
 use Rattle.std.proofs.lemmas.Bool.{and_parts, cond_both}
 use Rattle.md_base.proofs.Lies.{lie}
 use Rattle.md_base.specs.Identifier.{is_nonempty}
 use Rattle.md_text.specs.Bytes.{is_one_of}
-use Rattle.md_text.specs.References.{is_escaped, reference_tail, referenced, read_back_after}
-use Rattle.md_text.specs.References.{read_back}
+use Rattle.md_text.specs.References.{reference_tail, referenced, read_back_after, read_back}
 use Rattle.md_text.specs.Html.{Attribute, Forest, Empty, Text, Void, Element}
-use Rattle.md_text.specs.Html.{begins_with_text}
 use Rattle.md_safe.specs.Input.{begins_with_line_feed, with_line_feeds}
 use Rattle.md_safe.specs.Token.{Token, Character, StartTag, EndTag}
 use Rattle.md_safe.specs.Tokens.{seen, seen_attributes, tokens}
-use Rattle.md_safe.specs.Contents.{Content, Parts, Rows, Cells, is_space, held_in, voids_in}
-use Rattle.md_safe.specs.Contents.{may_say, is_contained, elements_in}
+use Rattle.md_safe.specs.Contents.{Content, Parts, Rows, Cells, is_space, voids_in, may_say}
+use Rattle.md_safe.specs.Contents.{is_contained, elements_in}
 use Rattle.md_safe.specs.Node.{Nodes, Mode, Parser, with_element, Empty as NoNode}
 use Rattle.md_safe.specs.Construction.{run}
-use Rattle.md_safe.specs.Built.{has_whole_texts, with_characters, put}
-use Rattle.md_safe.specs.Built.{AreCreated}
+use Rattle.md_safe.specs.Built.{has_whole_texts, with_characters, put, AreCreated}
 use Rattle.md_safe.proofs.Lists.{later-created}
 use Rattle.md_safe.proofs.TreeSteps.{Position, parser_of, with_children, after, seen-characters}
 use Rattle.md_safe.proofs.PhrasingNames.{Each, found}
@@ -79,12 +75,9 @@ Puts mode parent name held =
     Put (part mode parent x) name attributes inner
 
 -- two texts don't follow one another
-joined-texts : (bytes more : List ℕ) (rest : Forest) →
-    has_whole_texts (Text bytes (Text more rest)) ≡ true → false ≡ true
-joined-texts bytes more rest h =
-    (and_parts (is_nonempty bytes && is_escaped bytes) false
-    (and_parts (is_nonempty bytes && is_escaped bytes && false) (has_whole_texts (Text more rest))
-    h).0).1
+joined-texts : (bytes more : List ℕ) (rest : Forest) → has_whole_texts (Text bytes (Text more rest))
+    ≡ true → false ≡ true
+joined-texts bytes more rest h = (and_parts _ _ (and_parts _ _ h).0).1
 
 -- something is read of a text
 fed : (x : List ℕ) → begins_with_line_feed x ≡ true → is_nonempty (with_line_feeds x) ≡ true
@@ -111,20 +104,16 @@ read-filled (b ∷ x) h =
 filled : (bytes : List ℕ) (rest : Forest) → has_whole_texts (Text bytes rest) ≡ true →
     is_nonempty (seen bytes) ≡ true
 filled bytes rest h =
-    let all = and_parts (is_nonempty bytes && is_escaped bytes && not (begins_with_text rest))
-    (has_whole_texts rest) h in
-    let own =
-    and_parts (is_nonempty bytes && is_escaped bytes) (not (begins_with_text rest)) all.0 in
-    read-filled (with_line_feeds bytes)
-    (lines-filled bytes (and_parts (is_nonempty bytes) (is_escaped bytes) own.0).0)
+    let all = and_parts _ _ h in
+    let own = and_parts _ _ all.0 in
+    read-filled (with_line_feeds bytes) (lines-filled bytes (and_parts _ _ own.0).0)
 
 pub set-all : (f : Forest) (content : Content) → is_tabled content ≡ true → (mode : Mode) →
-    is_tables mode ≡ true → (parent : List ℕ) →
-    is_one_of (codes "table" ∷ codes "tbody" ∷ codes "template" ∷ codes "tfoot" ∷ codes "thead"
-    ∷ codes "tr" ∷ []) parent ≡ true →
+    is_tables mode ≡ true → (parent : List ℕ) → is_one_of (codes "table" ∷ codes "tbody" ∷ codes
+    "template" ∷ codes "tfoot" ∷ codes "thead" ∷ codes "tr" ∷ []) parent ≡ true →
     Each (Puts mode parent) (elements_in false content) → has_whole_texts f ≡ true →
-    is_contained false content f ≡ true →
-    (x : Position) → AreCreated x.created x.active → Set (part mode parent x) f
+    is_contained false content f ≡ true → (x : Position) → AreCreated x.created x.active →
+    Set (part mode parent x) f
 set-all Empty content is mode tables parent tabular putting h c x made = record {
   more = x.created;
   last = parser_of (part mode parent x);
@@ -134,24 +123,23 @@ set-all Empty content is mode tables parent tabular putting h c x made = record 
 }
 set-all (Text bytes rest) content is mode tables parent tabular putting h c x made =
     let y : Position = part mode parent x in
-    let parts = and_parts (may_say content bytes) (is_contained false content rest) c in
+    let parts = and_parts _ _ c in
     let wait : Parser = waiting mode (y.node ∷ y.others) y.active y.created (seen bytes) in
     let waits = text-waits mode tables y.node y.others y.active y.created (seen bytes) tabular
     (filled bytes rest h) (seen-characters bytes (text-escaped bytes rest h).0) in
     let settle = settled mode tables y.node y.others y.active y.created (seen bytes)
     (space-seen bytes (white-said content bytes is parts.0)) in
-    by rest h parts.1 wait waits settle
-    (set-all rest content is mode tables parent tabular putting (text-escaped bytes rest h).1
-    parts.1
-    (with_children x (with_characters x.node.children (seen bytes)) x.active x.created) made)
+    by rest h parts.1 wait waits settle (set-all rest content is mode tables parent tabular putting
+    (text-escaped bytes rest h).1 parts.1 (with_children x
+    (with_characters x.node.children (seen bytes)) x.active x.created) made)
   where
     by : (rest : Forest) → has_whole_texts (Text bytes rest) ≡ true →
         is_contained false content rest ≡ true → (wait : Parser) →
-        run (parser_of (part mode parent x)) (map Character (seen bytes)) ≡ Some wait →
-        Settles wait (parser_of (part mode parent (with_children x
-        (with_characters x.node.children (seen bytes)) x.active x.created))) →
-        Set (part mode parent (with_children x (with_characters x.node.children (seen bytes))
-        x.active x.created)) rest → Set (part mode parent x) (Text bytes rest)
+        run (parser_of (part mode parent x)) (map Character (seen bytes)) ≡ Some wait → Settles wait
+        (parser_of (part mode parent (with_children x (with_characters x.node.children (seen bytes))
+        x.active x.created))) → Set (part mode parent (with_children x
+        (with_characters x.node.children (seen bytes)) x.active x.created)) rest →
+        Set (part mode parent x) (Text bytes rest)
     by Empty h c wait waits settle later = record {
       more = x.created;
       last = wait;
@@ -160,30 +148,28 @@ set-all (Text bytes rest) content is mode tables parent tabular putting h c x ma
       later = omega arith;
     }
     by (Text more rest) h c wait waits settle later = lie (joined-texts bytes more rest h)
-    by (Void name attributes rest) h c wait waits settle later = lie (no_void content name is
-        (and_parts (is_one_of (voids_in content) name) (is_contained false content rest) c).0)
+    by (Void name attributes rest) h c wait waits settle later = lie
+        (no_void content name is (and_parts _ _ c).0)
     by (Element name attributes inner rest) h c wait waits settle later = record {
       more = later.more;
       last = later.last;
       runs = after (parser_of (part mode parent x)) wait (map Character (seen bytes))
-          (tokens (Element name attributes inner rest)) waits
-          ∙ (ap (option_and_then (λ q. run q (tokens inner ++ (EndTag name ∷ tokens rest))))
+          (tokens (Element name attributes inner rest)) waits ∙ (ap (option_and_then
+          (λ q. run q (tokens inner ++ (EndTag name ∷ tokens rest))))
           (settle.starts name (seen_attributes attributes) false) ∙ later.runs);
       settles = later.settles;
       later = later.later;
     }
-set-all (Void name attributes rest) content is mode tables parent tabular putting h c x made =
-    lie (no_void content name is
-    (and_parts (is_one_of (voids_in content) name) (is_contained false content rest) c).0)
+set-all (Void name attributes rest) content is mode tables parent tabular putting h c x made = lie
+    (no_void content name is (and_parts _ _ c).0)
 set-all (Element name attributes inner rest) content is mode tables parent tabular putting h c x
     made =
     let forests = element-parts name attributes inner rest h in
-    let parts = and_parts (option_map_or (λ held. is_contained false held inner)
-    (held_in false content name) false) (is_contained false content rest) c in
+    let parts = and_parts _ _ c in
     let held = found (Puts mode parent) (elements_in false content) name inner putting parts.0 in
     let own = held.1 x attributes inner forests.0 held.2 made in
-    let next : Nodes =
-    with_element x.node.children name (seen_attributes attributes) (put NoNode inner) in
+    let next : Nodes = with_element x.node.children name (seen_attributes attributes)
+    (put NoNode inner) in
     let later = set-all rest content is mode tables parent tabular putting forests.1 parts.1
     (with_children x next x.active own.more)
     (later-created x.created own.more x.active own.later made) in

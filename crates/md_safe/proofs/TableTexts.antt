@@ -1,6 +1,6 @@
 -- Texts in a table wait as pending characters, and white space is inserted as it is.
-use Rattle.std.proofs.Common.{◌≡◌, ℕ, ◌==◌, Bool, true, false, cond, List, [], ◌∷◌, ◌++◌, refl}
-use Rattle.std.proofs.Common.{sym, ap, ◌∙◌, subst, map, append_assoc, append-nil}
+use Rattle.std.proofs.Common.{◌≡◌, ℕ, ◌==◌, Bool, true, false, cond, List, [], ◌∷◌, ◌++◌, refl, sym}
+use Rattle.std.proofs.Common.{ap, ◌∙◌, subst, map, append_assoc, append-nil}
 use Rattle.std.specs.Prelude.{Option, Some, None, option_and_then}
 use Rattle.std.specs.List.{list_all}
 use Rattle.std.proofs.lemmas.Bool.{and_parts, and_from, cond_both, not-true}
@@ -27,15 +27,12 @@ space-line_feeds : (x : List ℕ) → list_all is_space x ≡ true →
     list_all is_space (with_line_feeds x) ≡ true
 space-line_feeds [] h = refl
 space-line_feeds (b ∷ x) h =
-    let parts = and_parts (is_space b) (list_all is_space x) h in
+    let parts = and_parts _ _ h in
     let later = space-line_feeds x parts.1 in
-    cond_both (b == 13)
-    (cond (begins_with_line_feed x) (with_line_feeds x) (10 ∷ with_line_feeds x))
-    (b ∷ with_line_feeds x)
-    (λ y. list_all is_space y ≡ true)
-    (λ _. cond_both (begins_with_line_feed x) (with_line_feeds x) (10 ∷ with_line_feeds x)
-    (λ y. list_all is_space y ≡ true) (λ _. later) (λ _. later))
-    (λ _. and_from (is_space b) (list_all is_space (with_line_feeds x)) parts.0 later)
+    cond_both (b == 13) (cond (begins_with_line_feed x) (with_line_feeds x)
+    (10 ∷ with_line_feeds x)) (b ∷ with_line_feeds x) (λ y. list_all is_space y ≡ true) (λ _.
+    cond_both (begins_with_line_feed x) (with_line_feeds x) (10 ∷ with_line_feeds x)
+    (λ y. list_all is_space y ≡ true) (λ _. later) (λ _. later)) (λ _. and_from _ _ parts.0 later)
 
 no_and : (b : ℕ) → is_space b ≡ true → b ≡ 38 → false ≡ true
 no_and b h e = subst (λ b. is_space b ≡ true) e h
@@ -117,33 +114,30 @@ settled mode is node others active created bytes h = record {
         (ap (λ stack. Some (at mode stack active created)) (say-all bytes node others)))
         ∙ sym (tagged mode is next tag)
 
-more-waits :
-    (mode : Mode) (stack : List Open) (active : List Entry) (created : ℕ) (before bytes : List ℕ) →
-    list_all is_character bytes ≡ true →
-    run (waiting mode stack active created before) (map Character bytes)
+more-waits : (mode : Mode) (stack : List Open) (active : List Entry) (created : ℕ)
+    (before bytes : List ℕ) → list_all is_character bytes ≡ true → run
+    (waiting mode stack active created before) (map Character bytes)
     ≡ Some (waiting mode stack active created (before ++ bytes))
-more-waits mode stack active created before [] h =
-    ap (λ x. Some (waiting mode stack active created x)) (sym (append-nil before))
+more-waits mode stack active created before [] h = ap
+    (λ x. Some (waiting mode stack active created x)) (sym (append-nil before))
 more-waits mode stack active created before (b ∷ bytes) h =
-    let parts = and_parts (is_character b) (list_all is_character bytes) h in
+    let parts = and_parts _ _ h in
     after-one (waiting mode stack active created before)
-    (waiting mode stack active created (before ++ (b ∷ [])))
-    (Character b) (map Character bytes) (past _ (not-true (b == 0) parts.0) refl)
-    ∙ (more-waits mode stack active created (before ++ (b ∷ [])) bytes parts.1
-    ∙ ap (λ x. Some (waiting mode stack active created x)) (append_assoc before (b ∷ []) bytes))
+    (waiting mode stack active created (before ++ (b ∷ []))) (Character b) (map Character bytes)
+    (past _ (not-true _ parts.0) refl) ∙ (more-waits mode stack active created (before ++ (b ∷ []))
+    bytes parts.1 ∙ ap (λ x. Some (waiting mode stack active created x))
+    (append_assoc before (b ∷ []) bytes))
 
 -- a text in a table waits
-pub text-waits : (mode : Mode) → is_tables mode ≡ true →
-    (node : Open) (others : List Open) (active : List Entry)
-    (created : ℕ) (bytes : List ℕ) → is_tabular node ≡ true → is_nonempty bytes ≡ true →
-    list_all is_character bytes ≡ true →
-    run (at mode (node ∷ others) active created) (map Character bytes)
+pub text-waits : (mode : Mode) → is_tables mode ≡ true → (node : Open) (others : List Open)
+    (active : List Entry) (created : ℕ) (bytes : List ℕ) → is_tabular node ≡ true →
+    is_nonempty bytes ≡ true → list_all is_character bytes ≡ true → run
+    (at mode (node ∷ others) active created) (map Character bytes)
     ≡ Some (waiting mode (node ∷ others) active created bytes)
 text-waits mode is node others active created [] t f h = lie f
 text-waits mode is node others active created (b ∷ bytes) t f h =
-    let parts = and_parts (is_character b) (list_all is_character bytes) h in
+    let parts = and_parts _ _ h in
     after-one (at mode (node ∷ others) active created)
-    (waiting mode (node ∷ others) active created (b ∷ []))
-    (Character b) (map Character bytes) (past _ (not-true (b == 0) parts.0)
-    (said mode is b (at mode (node ∷ others) active created) ∙ here None t refl))
-    ∙ more-waits mode (node ∷ others) active created (b ∷ []) bytes parts.1
+    (waiting mode (node ∷ others) active created (b ∷ [])) (Character b) (map Character bytes) (past
+    _ (not-true _ parts.0) (said mode is b (at mode (node ∷ others) active created) ∙ here None t
+    refl)) ∙ more-waits mode (node ∷ others) active created (b ∷ []) bytes parts.1

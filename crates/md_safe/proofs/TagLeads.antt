@@ -2,10 +2,9 @@
 use Rattle.std.specs.Str.{bytes_eq}
 use Rattle.std.proofs.Common.{◌≡◌, ℕ, ◌==◌, Bool, true, false, not, ◌&&◌, List, [], ◌∷◌, ◌++◌, refl}
 use Rattle.std.proofs.Common.{sym, ap, ◌∙◌, append-nil, append_assoc}
-use Rattle.std.specs.List.{list_all, list_any}
+use Rattle.std.specs.List.{list_any}
 use Rattle.std.proofs.lemmas.Bool.{and_parts, and_from, not-true, or_from, or_parts}
 use Rattle.md_base.proofs.Lies.{lie}
-use Rattle.md_base.specs.Identifier.{is_nonempty}
 use Rattle.md_text.specs.Bytes.{is_letter}
 use Rattle.md_text.specs.Html.{Attribute}
 use Rattle.md_text.proofs.HtmlWriting.{attributes_before}
@@ -17,8 +16,8 @@ use Rattle.md_safe.specs.TokenizerStates.{AfterAttributeValueQuoted, Goes, Stuck
 use Rattle.md_safe.specs.Tokenizer.{step, IsRun}
 use Rattle.md_safe.specs.Tokens.{seen, seen_attributes}
 use Rattle.md_safe.proofs.LineFeeds.{line_feeds-append, line_feeds-name, line_feeds-escaped}
-use Rattle.md_safe.proofs.GoodNames.{is_good_byte, is_good_name, are_good, good_attribute}
-use Rattle.md_safe.proofs.GoodNames.{begins_tag, good-leaves, good-not_title}
+use Rattle.md_safe.proofs.GoodNames.{is_good_name, are_good, good_attribute, begins_tag}
+use Rattle.md_safe.proofs.GoodNames.{good-leaves, good-not_title}
 use Rattle.md_safe.proofs.Steps.{past, here, tag_with, attribute}
 use Rattle.md_safe.proofs.Joining.{runs-on}
 use Rattle.md_safe.proofs.TextLeads.{To, arrived, quiet, loud, along}
@@ -36,12 +35,11 @@ pub line_feeds-attributes : (x : List Attribute) (r : List ℕ) → are_good x �
 line_feeds-attributes [] r g = refl
 line_feeds-attributes (a ∷ x) r g =
     let p = good_attribute a x g in
-    let n = and_parts (is_nonempty a.name) (list_all is_good_byte a.name) p.0 in
-    ap (λ y. 32 ∷ y)
-    (line_feeds-name a.name (61 ∷ 34 ∷ (a.value ++ (34 ∷ attributes_before x r)))
-    (good-no_return a.name n.1) ∙ ap (λ y. a.name ++ (61 ∷ 34 ∷ y))
-    (line_feeds-append a.value (34 ∷ attributes_before x r) refl
-    ∙ ap (λ y. with_line_feeds a.value ++ (34 ∷ y)) (line_feeds-attributes x r p.3)))
+    let n = and_parts _ _ p.0 in
+    ap (λ y. 32 ∷ y) (line_feeds-name a.name (61 ∷ 34 ∷ (a.value ++ (34 ∷ attributes_before x r)))
+    (good-no_return a.name n.1) ∙ ap (λ y. a.name ++ (61 ∷ 34 ∷ y)) (line_feeds-append a.value
+    (34 ∷ attributes_before x r) refl ∙ ap (λ y. with_line_feeds a.value ++ (34 ∷ y))
+    (line_feeds-attributes x r p.3)))
 
 -- more attributes, the last one first
 abbrev pub onto : List TokenAttribute → List Attribute → List TokenAttribute
@@ -92,38 +90,30 @@ fresh-more : (a : TokenAttribute) (earlier : List TokenAttribute) (x : List Attr
     fresh (a ∷ earlier) x ≡ true
 fresh-more a earlier [] n f = refl
 fresh-more a earlier (b ∷ x) n f =
-    let p =
-    or_parts (bytes_eq a.name b.name) (list_any (λ later. bytes_eq a.name later.name) x) n in
-    let q = and_parts (not (list_any (λ c. bytes_eq c.name b.name) earlier)) (fresh earlier x) f in
-    and_from (not (list_any (λ c. bytes_eq c.name b.name) (a ∷ earlier))) (fresh (a ∷ earlier) x)
-    (ap not (or_from (bytes_eq a.name b.name) (list_any (λ c. bytes_eq c.name b.name) earlier) p.0
-    (not-true (list_any (λ c. bytes_eq c.name b.name) earlier) q.0)))
-    (fresh-more a earlier x p.1 q.1)
+    let p = or_parts _ _ n in
+    let q = and_parts _ _ f in
+    and_from _ _ (ap not (or_from _ _ p.0 (not-true _ q.0))) (fresh-more a earlier x p.1 q.1)
 
 kept-onto : (earlier : List TokenAttribute) (x : List Attribute) → are_good x ≡ true →
-    fresh earlier x ≡ true →
-    kept (onto earlier x) ≡ kept earlier ++ seen_attributes x
+    fresh earlier x ≡ true → kept (onto earlier x) ≡ kept earlier ++ seen_attributes x
 kept-onto earlier [] g f = sym (append-nil (kept earlier))
 kept-onto earlier (a ∷ x) g f =
     let p = good_attribute a x g in
-    let u = and_parts (not (list_any (λ b. bytes_eq b.name a.name) earlier)) (fresh earlier x) f in
+    let u = and_parts _ _ f in
     let now = attribute a.name (seen a.value) in
-    kept-onto (now ∷ earlier) x p.3 (fresh-more now earlier x p.2 u.1)
-    ∙ ap (λ k. k ++ seen_attributes x)
-    (past _ (not-true (list_any (λ b. bytes_eq b.name a.name) earlier) u.0) refl)
-    ∙ append_assoc (kept earlier) (now ∷ []) (seen_attributes x)
+    kept-onto (now ∷ earlier) x p.3 (fresh-more now earlier x p.2 u.1) ∙ ap
+    (λ k. k ++ seen_attributes x) (past _ (not-true _ u.0) refl) ∙ append_assoc (kept earlier)
+    (now ∷ []) (seen_attributes x)
 
 -- ---- whole tags
 
 tag-begins : {left : List ℕ} (is_end : Bool) (name r : List ℕ) (t : List Token) →
-    is_good_name name ≡ true →
-    To left (TagName (tag_with is_end name [])) r t →
+    is_good_name name ≡ true → To left (TagName (tag_with is_end name [])) r t →
     To left (TagName (tag_with is_end [] [])) (name ++ r) t
 tag-begins is_end name r t g h =
-    let p = and_parts (begins_tag name) _ g in
-    name-leads (λ n. TagName (tag_with is_end n []))
-    (λ before b rest good. tag_name_step (tag_with is_end before []) b rest good) [] name r t
-    (and_parts (list_all is_good_byte name) _ p.1).0 h
+    let p = and_parts _ _ g in
+    name-leads (λ n. TagName (tag_with is_end n [])) (λ before b rest good. tag_name_step
+    (tag_with is_end before []) b rest good) [] name r t (and_parts _ _ p.1).0 h
 
 pub opens : (name r : List ℕ) → begins_tag name ≡ true →
     step TagOpen (name ++ r) ≡ Goes [] (TagName (tag_with false [] [])) (name ++ r)
@@ -164,53 +154,46 @@ pub good-emitted : (name : List ℕ) (x : List Attribute) (flag : Bool) (r : Lis
     ≡ Goes (StartTag name (kept (onto [] x)) flag ∷ []) Data r
 good-emitted name x flag r n = past _ (good-not_title name n) (here Stuck (good-leaves name n) refl)
 
-pub element-leads :
-    {left : List ℕ} (name : List ℕ) (x : List Attribute) (r : List ℕ) (t : List Token) →
-    is_good_name name ≡ true → are_good x ≡ true → To left Data r t →
-    To left Data (60 ∷ (name ++ attributes_before (lined x) (62 ∷ r)))
+pub element-leads : {left : List ℕ} (name : List ℕ) (x : List Attribute) (r : List ℕ)
+    (t : List Token) → is_good_name name ≡ true → are_good x ≡ true → To left Data r t → To left
+    Data
+    (60 ∷ (name ++ attributes_before (lined x) (62 ∷ r)))
     (StartTag name (seen_attributes x) false ∷ t)
 element-leads name x r t n g h =
     let token = StartTag name (kept (onto [] x)) false in
-    along Data _ _ (token ∷ t) (StartTag name (seen_attributes x) false ∷ t) refl
-    (all-kept name x false t g)
-    (start-leads name x (62 ∷ r) (token ∷ t) n g (loud token (good-emitted name x false r n) h)
-    (loud token (good-emitted name x false r n) h))
+    along Data _ _ _ _ refl (all-kept name x false t g) (start-leads name x (62 ∷ r) (token ∷ t) n g
+    (loud token (good-emitted name x false r n) h) (loud token (good-emitted name x false r n) h))
 
-pub void-leads :
-    {left : List ℕ} (name : List ℕ) (x : List Attribute) (r : List ℕ) (t : List Token) →
-    is_good_name name ≡ true → are_good x ≡ true → To left Data r t →
-    To left Data (60 ∷ (name ++ attributes_before (lined x) (32 ∷ 47 ∷ 62 ∷ r)))
+pub void-leads : {left : List ℕ} (name : List ℕ) (x : List Attribute) (r : List ℕ)
+    (t : List Token) → is_good_name name ≡ true → are_good x ≡ true → To left Data r t → To left
+    Data (60
+    ∷ (name ++ attributes_before (lined x) (32 ∷ 47 ∷ 62 ∷ r)))
     (StartTag name (seen_attributes x) true ∷ t)
 void-leads {left = left} name x r t n g h =
     let token = StartTag name (kept (onto [] x)) true in
-    let on : To left (BeforeAttributeName (tag_with false name (onto [] x)))
-    (47 ∷ 62 ∷ r) (token ∷ t) =
-    quiet refl (quiet refl (loud token (good-emitted name x true r n) h)) in
-    along Data _ _ (token ∷ t) (StartTag name (seen_attributes x) true ∷ t) refl
-    (all-kept name x true t g)
-    (start-leads name x (32 ∷ 47 ∷ 62 ∷ r) (token ∷ t) n g (quiet refl on) (quiet refl on))
+    let on : To left (BeforeAttributeName (tag_with false name (onto [] x))) (47 ∷ 62 ∷ r)
+    (token ∷ t) = quiet refl (quiet refl (loud token (good-emitted name x true r n) h)) in
+    along Data _ _ _ _ refl (all-kept name x true t g) (start-leads name x (32 ∷ 47 ∷ 62 ∷ r)
+    (token ∷ t) n g (quiet refl on) (quiet refl on))
 
-pub end-leads : {left : List ℕ} (name r : List ℕ) (t : List Token) →
-    is_good_name name ≡ true → To left Data r t →
-    To left Data (60 ∷ 47 ∷ (name ++ (62 ∷ r))) (EndTag name ∷ t)
-end-leads name r t n h =
-    quiet refl (quiet refl (quiet (closes name (62 ∷ r) (and_parts (begins_tag name) _ n).0)
+pub end-leads : {left : List ℕ} (name r : List ℕ) (t : List Token) → is_good_name name ≡ true →
+    To left Data r t → To left Data (60 ∷ 47 ∷ (name ++ (62 ∷ r))) (EndTag name ∷ t)
+end-leads name r t n h = quiet refl (quiet refl (quiet (closes name (62 ∷ r) (and_parts _ _ n).0)
     (tag-begins true name (62 ∷ r) (EndTag name ∷ t) n (loud (EndTag name) refl h))))
 
 -- ---- a run of what follows a tag
 
 pub element-runs : (name : List ℕ) (x : List Attribute) (r : List ℕ) (t : List Token) →
-    is_good_name name ≡ true → are_good x ≡ true → IsRun Data r t →
-    IsRun Data (60 ∷ (name ++ attributes_before (lined x) (62 ∷ r)))
+    is_good_name name ≡ true → are_good x ≡ true → IsRun Data r t → IsRun Data
+    (60 ∷ (name ++ attributes_before (lined x) (62 ∷ r)))
     (StartTag name (seen_attributes x) false ∷ t)
-element-runs name x r t n g h =
-    runs-on Data _ r _ t (element-leads name x r [] n g (arrived r)) h
+element-runs name x r t n g h = runs-on _ _ r _ t (element-leads _ x r _ n g (arrived r)) h
 
 pub void-runs : (name : List ℕ) (x : List Attribute) (r : List ℕ) (t : List Token) →
-    is_good_name name ≡ true → are_good x ≡ true → IsRun Data r t →
-    IsRun Data (60 ∷ (name ++ attributes_before (lined x) (32 ∷ 47 ∷ 62 ∷ r)))
+    is_good_name name ≡ true → are_good x ≡ true → IsRun Data r t → IsRun Data (60
+    ∷ (name ++ attributes_before (lined x) (32 ∷ 47 ∷ 62 ∷ r)))
     (StartTag name (seen_attributes x) true ∷ t)
-void-runs name x r t n g h = runs-on Data _ r _ t (void-leads name x r [] n g (arrived r)) h
+void-runs name x r t n g h = runs-on _ _ r _ t (void-leads _ x r _ n g (arrived r)) h
 
 pub end-runs : (name r : List ℕ) (t : List Token) → is_good_name name ≡ true → IsRun Data r t →
     IsRun Data (60 ∷ 47 ∷ (name ++ (62 ∷ r))) (EndTag name ∷ t)

@@ -1,6 +1,6 @@
 -- The name of a tag, and the names of its attributes, byte after byte.
-use Rattle.std.proofs.Common.{◌≡◌, ℕ, ◌==◌, true, false, not, ◌||◌, List, [], ◌∷◌, ◌++◌, refl}
-use Rattle.std.proofs.Common.{sym, ap, ◌∙◌, subst, append-nil, append_assoc}
+use Rattle.std.proofs.Common.{◌≡◌, ℕ, ◌==◌, true, false, not, List, [], ◌∷◌, ◌++◌, refl, sym, ap}
+use Rattle.std.proofs.Common.{◌∙◌, subst, append-nil, append_assoc}
 use Rattle.std.specs.List.{list_all}
 use Rattle.std.proofs.lemmas.Bool.{and_parts, not-true, or_from}
 use Rattle.md_base.proofs.Lies.{lie}
@@ -11,8 +11,8 @@ use Rattle.md_safe.specs.Token.{Token, TokenAttribute}
 use Rattle.md_safe.specs.Tag.{Tag, with_tag_name, with_name}
 use Rattle.md_safe.specs.TokenizerStates.{State, TagName, BeforeAttributeName, AttributeName}
 use Rattle.md_safe.specs.TokenizerStates.{AfterAttributeValueQuoted, Goes, is_space, in_name}
-use Rattle.md_safe.specs.Tokenizer.{step}
 use Rattle.md_safe.specs.TokenizerStates.{in_value}
+use Rattle.md_safe.specs.Tokenizer.{step}
 use Rattle.md_safe.proofs.LineFeeds.{no_return}
 use Rattle.md_safe.proofs.GoodNames.{is_good_byte, is_good_attribute_name}
 use Rattle.md_safe.proofs.Steps.{past, tag_with, attribute}
@@ -64,41 +64,36 @@ tag_name_step tag b rest g =
     (ap (λ bytes. Goes [] (TagName (with_tag_name tag bytes)) rest) (in_name-good b g))))
 
 -- a name, after a first part of it, where each good byte is appended to it
-pub name-leads : {left : List ℕ} (S : List ℕ → State) →
-    ((before : List ℕ) (b : ℕ) (rest : List ℕ) → IsGoodByte b →
-    step (S before) (b ∷ rest) ≡ Goes [] (S (before ++ (b ∷ []))) rest) →
+pub name-leads : {left : List ℕ} (S : List ℕ → State) → ((before : List ℕ) (b : ℕ) (rest : List ℕ) →
+    IsGoodByte b → step (S before) (b ∷ rest) ≡ Goes [] (S (before ++ (b ∷ []))) rest) →
     (before name r : List ℕ) (t : List Token) → list_all is_good_byte name ≡ true →
     To left (S (before ++ name)) r t → To left (S before) (name ++ r) t
-name-leads {left = left} S steps before [] r t g h =
-    subst (λ n. To left (S n) r t) (append-nil before) h
+name-leads {left = left} S steps before [] r t g h = subst (λ n. To left (S n) r t)
+    (append-nil before) h
 name-leads {left = left} S steps before (b ∷ name) r t g h =
-    let p = and_parts (is_good_byte b) (list_all is_good_byte name) g in
-    quiet (steps before b (name ++ r) (good_parts b p.0))
-    (name-leads S steps (before ++ (b ∷ [])) name r t p.1
-    (subst (λ n. To left (S n) r t) (sym (append_assoc before (b ∷ []) name)) h))
+    let p = and_parts _ _ g in
+    quiet (steps before b (name ++ r) (good_parts b p.0)) (name-leads S steps (before ++ (b ∷ []))
+    name r t p.1 (subst (λ n. To left (S n) r t) (sym (append_assoc before (b ∷ []) name)) h))
 
 pub attribute_name_step : (tag : Tag) (b : ℕ) (rest : List ℕ) → IsGoodByte b →
     step (AttributeName tag) (b ∷ rest) ≡ Goes [] (AttributeName (with_name tag (b ∷ []))) rest
-attribute_name_step tag b rest g =
-    past _ (or_from (is_space b || (b == 47)) (b == 62)
-    (or_from (is_space b) (b == 47) g.no_space g.no_slash) g.no_angle) (past _ g.no_equals
-    (ap (λ bytes. Goes [] (AttributeName (with_name tag bytes)) rest) (in_name-good b g)))
+attribute_name_step tag b rest g = past _
+    (or_from _ _ (or_from _ _ g.no_space g.no_slash) g.no_angle) (past _ g.no_equals (ap (λ bytes.
+    Goes [] (AttributeName (with_name tag bytes)) rest) (in_name-good b g)))
 
 -- where an attribute's name is read, up to here
 abbrev pub AtName : List ℕ → List TokenAttribute → List ℕ → State
 AtName tag earlier name = AttributeName (tag_with false tag (attribute name [] ∷ earlier))
 
 -- a name begins another attribute
-attribute-begins : {left : List ℕ} (tag : List ℕ) (earlier : List TokenAttribute)
-    (name r : List ℕ) (t : List Token) →
-    is_good_attribute_name name ≡ true → To left (AtName tag earlier name) r t →
+attribute-begins : {left : List ℕ} (tag : List ℕ) (earlier : List TokenAttribute) (name r : List ℕ)
+    (t : List Token) → is_good_attribute_name name ≡ true → To left (AtName tag earlier name) r t →
     To left (BeforeAttributeName (tag_with false tag earlier)) (name ++ r) t
 attribute-begins tag earlier [] r t g h = lie g
 attribute-begins tag earlier (b ∷ name) r t g h =
-    let p = and_parts (is_good_byte b) (list_all is_good_byte name) g in
+    let p = and_parts _ _ g in
     let q = good_parts b p.0 in
-    quiet (past _ q.no_space
-    (past _ (or_from (b == 47) (b == 62) q.no_slash q.no_angle) (past _ q.no_equals refl)))
+    quiet (past _ q.no_space (past _ (or_from _ _ q.no_slash q.no_angle) (past _ q.no_equals refl)))
     (name-leads (AtName tag earlier) (λ before b rest good. attribute_name_step
     (tag_with false tag (attribute before [] ∷ earlier)) b rest good) [] (b ∷ name) r t g h)
 

@@ -34,62 +34,67 @@ pub record IsTest (p : Attribute → Bool) (options : CompileOptions) : Type 0 w
   pub html : options.allow_dangerous_html ≡ false
 
 -- two texts around a text, so that a claim on it becomes one on the whole
-abbrev pub Turns : (List ℕ → Type 0) → (List ℕ → Type 0) → List ℕ → List ℕ → Type 0
-Turns Q R o c = (x : List ℕ) → Q x → R (o ++ (x ++ c))
+pub record Turns (Q R : List ℕ → Type 0) (o c : List ℕ) : Type 0 where
+  pub turn : (x : List ℕ) → Q x → R (o ++ (x ++ c))
 
 -- two texts that preserve a claim about the text between them
 abbrev pub Bracket : Claim → List ℕ → List ℕ → Type 0
 Bracket p o c = Turns p.holds p.holds o c
 
-pub bracket-tag : (p : Claim) (name : List ℕ) (attributes : List Attribute) →
-    is_tag elements name attributes ≡ true → list_all p.test attributes ≡ true →
-    Bracket p (opening_tag name attributes) (closing_tag name)
-bracket-tag p name attributes h a x r =
-    subst p.holds (sym (opening-before name attributes (x ++ closing_tag name)))
-    (p.within name attributes x h a r)
+-- the tag of an element, with any attributes that pass, changes one claim into another
+pub record TurnsTag (test : Attribute → Bool) (Q R : List ℕ → Type 0) (name : List ℕ) : Type 0 where
+  pub tag : (attributes : List Attribute) → is_tag elements name attributes ≡ true →
+      list_all test attributes ≡ true → Turns Q R (opening_tag name attributes) (closing_tag name)
 
-pub turns-two : (Q R S : List ℕ → Type 0) (o c o' c' : List ℕ) → Turns R S o c →
-    Turns Q R o' c' → Turns Q S (o ++ o') (c' ++ c)
-turns-two Q R S o c o' c' a b x r = subst S (by o c o' c' x) (a (o' ++ (x ++ c')) (b x r))
+pub bracket-tag : (p : Claim) (name : List ℕ) → TurnsTag p.test p.holds p.holds name
+bracket-tag p name = record {
+  tag = λ attributes h a. record {
+    turn = λ x r. subst p.holds (sym (opening-before name attributes (x ++ closing_tag name)))
+        (p.within name attributes x h a r);
+  };
+}
+
+pub turns-two : {Q R S : List ℕ → Type 0} {o c o' c' : List ℕ} → Turns R S o c → Turns Q R o' c' →
+    Turns Q S (o ++ o') (c' ++ c)
+turns-two {S = S} {o} {c} {o'} {c'} a b =
+    record { turn = λ x r. subst S (by o c o' c' x) (a.turn (o' ++ (x ++ c')) (b.turn x r)) }
   where
     by : (o c o' c' x : List ℕ) → o ++ ((o' ++ (x ++ c')) ++ c) ≡ (o ++ o') ++ (x ++ (c' ++ c))
     by o c o' c' x = simp append_assoc
 
--- the tag of an element, with any attributes that pass, changes one claim into another
-abbrev pub TurnsTag : (Attribute → Bool) → (List ℕ → Type 0) → (List ℕ → Type 0) → List ℕ → Type 0
-TurnsTag test Q R name = (attributes : List Attribute) → is_tag elements name attributes ≡ true →
-    list_all test attributes ≡ true → Turns Q R (opening_tag name attributes) (closing_tag name)
-
 -- the same of the whole element, attribute by attribute, and of a void tag
-abbrev pub Tagged : (Attribute → Bool) → (List ℕ → Type 0) → (List ℕ → Type 0) → List ℕ → Type 0
-Tagged test Q R name =
-    (attributes : List Attribute) (inside : List ℕ) → is_tag elements name attributes ≡ true →
-    list_all test attributes ≡ true → Q inside → R (60
-    ∷ (name ++ attributes_before attributes (62 ∷ (inside ++ (60 ∷ 47 ∷ (name ++ (62 ∷ [])))))))
+pub record Tagged (test : Attribute → Bool) (Q R : List ℕ → Type 0) (name : List ℕ) : Type 0 where
+  pub tag : (attributes : List Attribute) (inside : List ℕ) →
+      is_tag elements name attributes ≡ true → list_all test attributes ≡ true → Q inside → R (60
+      ∷ (name ++ attributes_before attributes (62 ∷ (inside ++ (60 ∷ 47 ∷ (name ++ (62 ∷ [])))))))
 
-abbrev pub Single : (Attribute → Bool) → (List ℕ → Type 0) → List ℕ → Type 0
-Single test R name = (attributes : List Attribute) → is_tag void_tags name attributes ≡ true →
-    list_all test attributes ≡ true →
-    R (60 ∷ (name ++ attributes_before attributes (32 ∷ 47 ∷ 62 ∷ [])))
+pub record Single (test : Attribute → Bool) (R : List ℕ → Type 0) (name : List ℕ) : Type 0 where
+  pub tag : (attributes : List Attribute) → is_tag void_tags name attributes ≡ true →
+      list_all test attributes ≡ true → R
+      (60 ∷ (name ++ attributes_before attributes (32 ∷ 47 ∷ 62 ∷ [])))
 
 pub element-read : (p : Claim) (name : List ℕ) → Tagged p.test p.holds p.holds name
-element-read p name attributes inside h a r =
-    subst (λ x. p.holds (60 ∷ (name ++ x))) (written_attributes-before attributes (62
-    ∷ (inside ++ (60 ∷ 47 ∷ (name ++ (62 ∷ [])))))) (p.within name attributes inside h a r)
+element-read p name = record {
+  tag = λ attributes inside h a r. subst (λ x. p.holds (60 ∷ (name ++ x)))
+      (written_attributes-before attributes (62 ∷ (inside ++ (60 ∷ 47 ∷ (name ++ (62 ∷ []))))))
+      (p.within name attributes inside h a r);
+}
 
 pub void-read : (p : Claim) (name : List ℕ) → Single p.test p.holds name
-void-read p name attributes h a =
-    p.plain (60 ∷ (name ++ attributes_before attributes (32 ∷ 47 ∷ 62 ∷ [])))
-    (subst (λ x. HasReadingWith p.test (60 ∷ (name ++ x)))
-    (written_attributes-before attributes (32 ∷ 47 ∷ 62 ∷ [])) (void p.test name attributes h a))
+void-read p name = record {
+  tag = λ attributes h a. p.plain (60 ∷ (name ++ attributes_before attributes (32 ∷ 47 ∷ 62 ∷ [])))
+      (subst (λ x. HasReadingWith p.test (60 ∷ (name ++ x)))
+      (written_attributes-before attributes (32 ∷ 47 ∷ 62 ∷ [])) (void p.test name attributes h a));
+}
 
 -- what stays when such texts are beside it
-abbrev pub Takes : (List ℕ → Type 0) → (List ℕ → Type 0) → Type 0
-Takes W Q = (w x v : List ℕ) → W w → Q x → W v → Q (w ++ (x ++ v))
+pub record Takes (W Q : List ℕ → Type 0) : Type 0 where
+  pub take : (w x v : List ℕ) → W w → Q x → W v → Q (w ++ (x ++ v))
 
 pub takes-escaped : (p : Claim) → Takes Escaped p.holds
-takes-escaped p w x v h r g =
-    p.before w (x ++ v) (text p.test w h) (p.after x v r (text p.test v g))
+takes-escaped p = record {
+  take = λ w x v h r g. p.before w (x ++ v) (text p.test w h) (p.after x v r (text p.test v g));
+}
 
 -- a text between two such ones
 pub record IsFramed (W : List ℕ → Type 0) (c x : List ℕ) : Type 0 where
@@ -103,99 +108,78 @@ regrouped : (e o f y g c h : List ℕ) →
     e ++ ((o ++ ((f ++ (y ++ g)) ++ c)) ++ h) ≡ (e ++ (o ++ f)) ++ (y ++ (g ++ (c ++ h)))
 regrouped e o f y g c h = simp append_assoc
 
-enclosed : (W Q R : List ℕ → Type 0) (o c x y z : List ℕ) → Takes W Q → Takes W R →
-    Turns Q R o c → IsFramed W o x → Q y → IsFramed W c z → R (x ++ (y ++ z))
-enclosed W Q R o c x y z takes stays turn a r b =
+enclosed : {W Q R : List ℕ → Type 0} {o c x y z : List ℕ} → Takes W Q → Takes W R → Turns Q R o c →
+    IsFramed W o x → Q y → IsFramed W c z → R (x ++ (y ++ z))
+enclosed {R = R} {o} {c} {x} {y} {z} takes stays turns a r b =
     let inside : List ℕ = a.after ++ (y ++ b.before) in
-    let parts : R ((a.before ++ (o ++ a.after)) ++ (y ++ (b.before ++ (c ++ b.after)))) =
-    subst R (regrouped a.before o a.after y b.before c b.after)
-    (stays a.before (o ++ (inside ++ c)) b.after a.is_before
-    (turn inside (takes a.after y b.before a.is_after r b.is_before)) b.is_after) in
-    subst (λ x. R (x ++ (y ++ z))) (sym a.whole)
-    (subst (λ z. R ((a.before ++ (o ++ a.after)) ++ (y ++ z))) (sym b.whole) parts)
+    let parts : R ((a.before ++ (o ++ a.after)) ++ (y ++ (b.before ++ (c ++ b.after)))) = subst R
+    (regrouped _ o _ y _ c _) (stays.take a.before (o ++ (inside ++ c)) b.after a.is_before
+    (turns.turn inside (takes.take a.after y b.before a.is_after r b.is_before)) b.is_after) in
+    subst (λ x. R (x ++ (y ++ z))) (sym a.whole) (subst
+    (λ z. R ((a.before ++ (o ++ a.after)) ++ (y ++ z))) (sym b.whole) parts)
 
 -- pieces between those of two texts
-pub adds-turned : (W Q R : List ℕ → Type 0) (ending o c : List ℕ) (xs ys zs : List Piece) →
+pub adds-turned : {W Q R : List ℕ → Type 0} {ending o c : List ℕ} {xs ys zs : List Piece} →
     Takes W Q → Takes W R → Turns Q R o c → Adds ending (IsFramed W o) xs → Adds ending Q ys →
     Adds ending (IsFramed W c) zs → Adds ending R (xs ++ (ys ++ zs))
-adds-turned W Q R ending o c xs ys zs takes stays turn a r b =
-    adds-append ending (IsFramed W o)
-    (λ w. (y : List ℕ) × (z : List ℕ) × (w ≡ y ++ z) × Q y × IsFramed W c z) R xs (ys ++ zs)
-    (λ x w f g. subst (λ w. R (x ++ w)) (sym g.2)
-    (enclosed W Q R o c x g.0 g.1 takes stays turn f g.3 g.4))
-    a
-    (adds-append ending Q (IsFramed W c)
-    (λ w. (y : List ℕ) × (z : List ℕ) × (w ≡ y ++ z) × Q y × IsFramed W c z) ys zs
-    (λ y z f g. (y, z, refl, f, g)) r b)
+adds-turned {W} {Q} {R} {c = c} takes stays turns a r b = adds-append
+    {g = λ w. (y : List ℕ) × (z : List ℕ) × (w ≡ y ++ z) × Q y × IsFramed W c z} (λ x w f g. subst
+    (λ w. R (x ++ w)) (sym g.2) (enclosed takes stays turns f g.3 g.4)) a
+    (adds-append (λ y z f g. (y, z, refl, f, g)) r b)
 
 -- pieces between those of a bracket
-pub adds-pair : (p : Claim) (ending o c : List ℕ) (xs ys zs : List Piece) → Bracket p o c →
+pub adds-pair : (p : Claim) {ending o c : List ℕ} {xs ys zs : List Piece} → Bracket p o c →
     Adds ending (IsFramed Escaped o) xs → Adds ending p.holds ys →
     Adds ending (IsFramed Escaped c) zs → Adds ending p.holds (xs ++ (ys ++ zs))
-adds-pair p ending o c xs ys zs bracket a r b =
-    adds-turned Escaped p.holds p.holds ending o c xs ys zs (takes-escaped p) (takes-escaped p)
-    bracket a r b
+adds-pair p bracket a r b = adds-turned (takes-escaped p) (takes-escaped p) bracket a r b
 
 -- a text between pieces that add such texts, and a tag
-pub framed-around : {W : List ℕ → Type 0} (ending c : List ℕ) (xs ys zs : List Piece) →
+pub framed-around : {W : List ℕ → Type 0} {ending c : List ℕ} {xs ys zs : List Piece} →
     Adds ending W xs → Adds ending (λ y. y ≡ c) ys → Adds ending W zs →
     Adds ending (IsFramed W c) (xs ++ (ys ++ zs))
-framed-around {W = W} ending c xs ys zs a t b =
-    adds-append ending W (λ w. (z : List ℕ) × (w ≡ c ++ z) × W z)
-    (IsFramed W c) xs (ys ++ zs)
+framed-around {W} {c = c} a t b = adds-append {g = λ w. (z : List ℕ) × (w ≡ c ++ z) × W z}
     (λ x w f g. record {
       before = x;
       after = g.0;
       whole = ap (λ w. x ++ w) g.1;
       is_before = f;
       is_after = g.2;
-    })
-    a
-    (adds-append ending (λ x. x ≡ c) W (λ w. (z : List ℕ) × (w ≡ c ++ z) × W z) ys zs
-    (λ x z f g. (z, ap (λ x. x ++ z) f, g)) t b)
+    }) a (adds-append (λ x z f g. (z, ap (λ x. x ++ z) f, g)) t b)
 
-pub adds-framed : {W : List ℕ → Type 0} (ending c : List ℕ) (xs zs : List Piece) →
+pub adds-framed : {W : List ℕ → Type 0} {ending c : List ℕ} {xs zs : List Piece} →
     Adds ending W xs → Adds ending W zs → Adds ending (IsFramed W c) (xs ++ (Text c ∷ zs))
-adds-framed ending c xs zs a b =
-    framed-around ending c xs (Text c ∷ []) zs a (adds-text ending (λ x. x ≡ c) c refl) b
+adds-framed a b = framed-around a (adds-text refl) b
 
 -- a tag after such pieces, alone, or on a line of its own
-pub framed-after : {W : List ℕ → Type 0} → IsBeside W → (ending c : List ℕ) (xs : List Piece) →
+pub framed-after : {W : List ℕ → Type 0} {ending c : List ℕ} {xs : List Piece} → IsBeside W →
     Adds ending W xs → Adds ending (IsFramed W c) (xs ++ (Text c ∷ []))
-framed-after {W = W} beside ending c xs a =
-    adds-framed ending c xs [] a (adds-nothing ending W beside.none)
+framed-after beside a = adds-framed a (adds-nothing beside.none)
 
-pub framed-text : {W : List ℕ → Type 0} → IsBeside W → (ending c : List ℕ) →
+pub framed-text : {W : List ℕ → Type 0} {ending c : List ℕ} → IsBeside W →
     Adds ending (IsFramed W c) (Text c ∷ [])
-framed-text {W = W} beside ending c =
-    framed-after beside ending c [] (adds-nothing ending W beside.none)
+framed-text beside = framed-after beside (adds-nothing beside.none)
 
-pub framed-needed : {W : List ℕ → Type 0} → IsBeside W → (ending c : List ℕ) → W ending →
+pub framed-needed : {W : List ℕ → Type 0} {ending c : List ℕ} → IsBeside W → W ending →
     Adds ending (IsFramed W c) (Needed ∷ Text c ∷ [])
-framed-needed beside ending c h =
-    framed-after beside ending c (Needed ∷ []) (adds-needed beside ending h)
+framed-needed beside h = framed-after beside (adds-needed beside h)
 
-pub framed-forced : {W : List ℕ → Type 0} → IsBeside W → (ending c : List ℕ) → W ending →
+pub framed-forced : {W : List ℕ → Type 0} {ending c : List ℕ} → IsBeside W → W ending →
     Adds ending (IsFramed W c) (Forced ∷ Text c ∷ [])
-framed-forced beside ending c h =
-    framed-after beside ending c (Forced ∷ []) (adds-forced ending h)
+framed-forced beside h = framed-after beside (adds-forced h)
 
 -- what is claimed before or after what has a reading
-pub adds-before : (p : Claim) (ending : List ℕ) (xs ys : List Piece) →
-    Adds ending (HasReadingWith p.test) xs →
-    Adds ending p.holds ys → Adds ending p.holds (xs ++ ys)
-adds-before p ending xs ys a b =
-    adds-append ending (HasReadingWith p.test) p.holds p.holds xs ys p.before a b
+pub adds-before : (p : Claim) {ending : List ℕ} {xs ys : List Piece} →
+    Adds ending (HasReadingWith p.test) xs → Adds ending p.holds ys → Adds ending p.holds (xs ++ ys)
+adds-before p a b = adds-append p.before a b
 
-pub adds-after : (p : Claim) (ending : List ℕ) (xs ys : List Piece) → Adds ending p.holds xs →
+pub adds-after : (p : Claim) {ending : List ℕ} {xs ys : List Piece} → Adds ending p.holds xs →
     Adds ending (HasReadingWith p.test) ys → Adds ending p.holds (xs ++ ys)
-adds-after p ending xs ys a b =
-    adds-append ending p.holds (HasReadingWith p.test) p.holds xs ys p.after a b
+adds-after p a b = adds-append p.after a b
 
 -- an escaped text has a reading
-pub adds-escaped : (p : Claim) (ending : List ℕ) (xs : List Piece) → Adds ending Escaped xs →
+pub adds-escaped : (p : Claim) {ending : List ℕ} {xs : List Piece} → Adds ending Escaped xs →
     Adds ending (HasReadingWith p.test) xs
-adds-escaped p ending xs a = adds-weaker ending Escaped (HasReadingWith p.test) xs (text p.test) a
+adds-escaped p a = adds-weaker (text p.test) a
 
 -- the texts of some pieces in one
 abbrev pub flat : List Piece → List ℕ
@@ -208,22 +192,19 @@ are_texts [] = true
 are_texts (Text x ∷ pieces) = are_texts pieces
 are_texts (_ ∷ pieces) = false
 
-pub adds-flat : (ending : List ℕ) (f : List ℕ → Type 0) (pieces : List Piece) →
+pub adds-flat : {ending : List ℕ} {f : List ℕ → Type 0} {pieces : List Piece} →
     are_texts pieces ≡ true → f (flat pieces) → Adds ending f pieces
-adds-flat ending f [] texts h = adds-nothing ending f h
-adds-flat ending f (Text x ∷ pieces) texts h =
-    adds-append ending (λ y. y ≡ x) (λ y. y ≡ flat pieces) f (Text x
-    ∷ []) pieces (λ y z e g. subst f (sym (ap (λ y. y ++ z) e ∙ ap (λ z. x ++ z) g)) h)
-    (adds-text ending (λ y. y ≡ x) x refl)
-    (adds-flat ending (λ y. y ≡ flat pieces) pieces texts refl)
-adds-flat ending f (Needed ∷ pieces) texts h = absurd (cc texts)
-adds-flat ending f (Forced ∷ pieces) texts h = absurd (cc texts)
+adds-flat {pieces = []} texts h = adds-nothing h
+adds-flat {f = f} {pieces = Text x ∷ pieces} texts h = adds-append (λ y z e g. subst f
+    (sym (ap (λ y. y ++ z) e ∙ ap (λ z. x ++ z) g)) h) (adds-text {f = λ y. y ≡ x} refl)
+    (adds-flat {f = λ z. z ≡ flat pieces} texts refl)
+adds-flat {pieces = Needed ∷ pieces} texts h = absurd (cc texts)
+adds-flat {pieces = Forced ∷ pieces} texts h = absurd (cc texts)
 
 -- some texts after pieces that add such a one
-pub adds-framed_flat : {W : List ℕ → Type 0} → IsBeside W → (ending : List ℕ)
-    (xs zs : List Piece) → are_texts zs ≡ true →
-    Adds ending W xs → Adds ending (IsFramed W (flat zs)) (xs ++ zs)
-adds-framed_flat {W = W} beside ending xs zs texts a =
-    subst (λ zs'. Adds ending (IsFramed W (flat zs)) (xs ++ zs')) (append-nil zs)
-    (framed-around ending (flat zs) xs zs [] a (adds-flat ending (λ x. x ≡ flat zs) zs texts refl)
-    (adds-nothing ending W beside.none))
+pub adds-framed_flat : {W : List ℕ → Type 0} {ending : List ℕ} {xs : List Piece} → IsBeside W →
+    (zs : List Piece) → are_texts zs ≡ true → Adds ending W xs →
+    Adds ending (IsFramed W (flat zs)) (xs ++ zs)
+adds-framed_flat {W} {ending} {xs} beside zs texts a = subst
+    (λ zs'. Adds ending (IsFramed W (flat zs)) (xs ++ zs')) (append-nil zs) (framed-around a
+    (adds-flat texts refl) (adds-nothing beside.none))

@@ -1,7 +1,7 @@
 -- Step by step: the way to the data state from a state, by the way from the state after its first
 -- step.
-use Rattle.std.proofs.Common.{◌≡◌, ℕ, false, List, [], ◌∷◌, ◌++◌, map, refl, sym, ap}
-use Rattle.std.proofs.Common.{◌∙◌, subst, suc, append-nil, append_assoc, true}
+use Rattle.std.proofs.Common.{◌≡◌, ℕ, List, [], ◌∷◌, ◌++◌, map, refl, sym, ap, ◌∙◌, subst, suc}
+use Rattle.std.proofs.Common.{append-nil, append_assoc, true}
 use Rattle.md_text.specs.References.{is_escaped, read_back}
 use Rattle.md_text.proofs.EncodeLaws.{read_back-other}
 use Rattle.md_safe.specs.Token.{Token, Character, TokenAttribute}
@@ -9,8 +9,7 @@ use Rattle.md_safe.specs.TokenizerStates.{State, Data, Goes}
 use Rattle.md_safe.specs.Tokenizer.{step, IsRun}
 use Rattle.md_safe.proofs.EscapedCases.{IsPlain, by_escaped}
 use Rattle.md_safe.proofs.Joining.{runs-on}
-use Rattle.md_safe.proofs.Steps.{tag_with, attribute, AtValue}
-use Rattle.md_safe.proofs.Steps.{plain-ne, plain_step, value_step}
+use Rattle.md_safe.proofs.Steps.{AtValue, plain-ne, plain_step, value_step}
 use Rattle.md_safe.specs.Tokenizes.{Tokenizes, emitted_before, and_then, steps}
 
 -- with the rest of the input first
@@ -50,21 +49,16 @@ TextLeads left x = (r : List ℕ) (t : List Token) → To left Data r t →
 
 plain-leads : (left : List ℕ) (b : ℕ) (rest : List ℕ) → IsPlain b → TextLeads left rest →
     TextLeads left (b ∷ rest)
-plain-leads left b rest p later r t h =
-    along Data (b ∷ (rest ++ r)) (b ∷ (rest ++ r))
-    (Character b ∷ (map Character (read_back rest) ++ t))
-    (map Character (read_back (b ∷ rest)) ++ t) refl
-    (ap (λ x. map Character x ++ t) (sym (read_back-other b rest (plain-ne b p))))
-    (loud (Character b) (plain_step b (rest ++ r) p.no_and p.no_less) (later r t h))
+plain-leads left b rest p later r t h = along Data _ _ _ _ refl (ap (λ x. map Character x ++ t)
+    (sym (read_back-other b rest (plain-ne b p)))) (loud (Character b)
+    (plain_step b (rest ++ r) p.no_and p.no_less) (later r t h))
 
 pub text-leads : (left x : List ℕ) → is_escaped x ≡ true → TextLeads left x
-text-leads left x e =
-    by_escaped (TextLeads left) (λ r t h. h) (plain-leads left)
-    (λ rest later r t h. quiet refl (quiet refl (loud (Character 38) refl (later r t h))))
-    (λ rest later r t h. quiet refl (quiet refl (loud (Character 34) refl (later r t h))))
-    (λ rest later r t h. quiet refl (quiet refl (loud (Character 60) refl (later r t h))))
-    (λ rest later r t h. quiet refl (quiet refl (loud (Character 62) refl (later r t h))))
-    x e
+text-leads left x e = by_escaped _ (λ r t h. h) (plain-leads left) (λ rest later r t h. quiet refl
+    (quiet refl (loud _ refl (later r t h)))) (λ rest later r t h. quiet refl
+    (quiet refl (loud _ refl (later r t h)))) (λ rest later r t h. quiet refl
+    (quiet refl (loud _ refl (later r t h)))) (λ rest later r t h. quiet refl
+    (quiet refl (loud _ refl (later r t h)))) x e
 
 -- and so a run of what follows
 pub text-runs : (x : List ℕ) → is_escaped x ≡ true → (r : List ℕ) (t : List Token) →
@@ -90,28 +84,19 @@ more_value left tag earlier name value b x r t h =
 
 value-plain : (left : List ℕ) (b : ℕ) (rest : List ℕ) → IsPlain b → ValueLeads left rest →
     ValueLeads left (b ∷ rest)
-value-plain left b rest p later tag earlier name value r t h =
-    quiet (value_step (tag_with false tag (attribute name value ∷ earlier)) b (rest ++ r) p.no_quote
-    p.no_and p.no_nul) (later tag earlier name (value ++ (b ∷ [])) r t
-    (more_value left tag earlier name value b (read_back rest) r t
-    (subst (λ v. To left (AtValue tag earlier name (value ++ v)) r t)
+value-plain left b rest p later tag earlier name value r t h = quiet
+    (value_step _ b _ p.no_quote p.no_and p.no_nul) (later tag earlier name (value ++ (b ∷ [])) r t
+    (more_value _ _ _ _ _ b _ r t (subst (λ v. To left (AtValue tag earlier name (value ++ v)) r t)
     (read_back-other b rest (plain-ne b p)) h)))
 
 pub value-leads : (left x : List ℕ) → is_escaped x ≡ true → ValueLeads left x
-value-leads left x e =
-    by_escaped (ValueLeads left)
-    (λ tag earlier name value r t h. subst (λ v. To left (AtValue tag earlier name v) r t)
-    (append-nil value) h) (value-plain left)
-    (λ rest later tag earlier name value r t h.
-    quiet refl (quiet refl (quiet refl (later tag earlier name (value ++ (38 ∷ [])) r t
-    (more_value left tag earlier name value 38 (read_back rest) r t h)))))
-    (λ rest later tag earlier name value r t h.
-    quiet refl (quiet refl (quiet refl (later tag earlier name (value ++ (34 ∷ [])) r t
-    (more_value left tag earlier name value 34 (read_back rest) r t h)))))
-    (λ rest later tag earlier name value r t h.
-    quiet refl (quiet refl (quiet refl (later tag earlier name (value ++ (60 ∷ [])) r t
-    (more_value left tag earlier name value 60 (read_back rest) r t h)))))
-    (λ rest later tag earlier name value r t h.
-    quiet refl (quiet refl (quiet refl (later tag earlier name (value ++ (62 ∷ [])) r t
-    (more_value left tag earlier name value 62 (read_back rest) r t h)))))
-    x e
+value-leads left x e = by_escaped _ (λ tag earlier name value r t h. subst
+    (λ v. To left (AtValue tag earlier name v) r t) (append-nil value) h) (value-plain left) (λ rest
+    later tag earlier name value r t h. quiet refl (quiet refl (quiet refl (later tag earlier name
+    (value ++ (38 ∷ [])) r t (more_value _ _ _ _ _ _ _ r t h))))) (λ rest later tag earlier name
+    value r t h. quiet refl (quiet refl (quiet refl (later tag earlier name (value ++ (34 ∷ [])) r t
+    (more_value _ _ _ _ _ _ _ r t h))))) (λ rest later tag earlier name value r t h. quiet refl
+    (quiet refl (quiet refl (later tag earlier name (value ++ (60 ∷ [])) r t
+    (more_value _ _ _ _ _ _ _ r t h))))) (λ rest later tag earlier name value r t h. quiet refl
+    (quiet refl (quiet refl (later tag earlier name (value ++ (62 ∷ [])) r t
+    (more_value _ _ _ _ _ _ _ r t h))))) x e

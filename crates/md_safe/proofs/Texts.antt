@@ -7,6 +7,7 @@ use Rattle.std.specs.Prelude.{nat_le, nat_lt}
 use Rattle.std.specs.Fmt.{decimal, digits, digits_onto, digit_glyph}
 use Rattle.std.specs.List.{list_all}
 use Rattle.std.proofs.lemmas.Bool.{and_parts, or_cases, cond_both, agree_below_at, leb-true}
+use Rattle.std.proofs.lemmas.Bool.{and_from}
 use Rattle.md_text.specs.References.{is_escaped}
 use Rattle.md_text.specs.Laws.{is_line_ends}
 use Rattle.md_text.proofs.EscapedLemmas.{completes_reference, escaped-tail, escaped-without}
@@ -23,9 +24,8 @@ abbrev pub is_plain : ℕ → Bool
 is_plain b = not ((b == 0) || (b == 60) || (b == 62) || (b == 34)) && not (b == 38)
 
 plain_first : (b : ℕ) (rest : List ℕ) → is_plain b ≡ true → Escaped rest → Escaped (b ∷ rest)
-plain_first b rest plain h =
-    by ((b == 0) || (b == 60) || (b == 62) || (b == 34)) (b == 38)
-    (and_parts (not ((b == 0) || (b == 60) || (b == 62) || (b == 34))) (not (b == 38)) plain)
+plain_first b rest plain h = by ((b == 0) || (b == 60) || (b == 62) || (b == 34)) (b == 38)
+    (and_parts _ _ plain)
   where
     by : (special and : Bool) → (not special ≡ true) × (not and ≡ true) →
         ((cond special false (cond and (completes_reference rest) true)) && is_escaped rest) ≡ true
@@ -67,41 +67,41 @@ digits-escaped (b ∷ text) h =
 -- digits without the zeros before them are digits
 pub zeros-escaped : (text : List ℕ) → list_all is_digit text ≡ true → Escaped (without_zeros text)
 zeros-escaped [] h = refl
-zeros-escaped (b ∷ text) h =
-    cond_both (b == 48 && nat_lt 0 (length text)) (without_zeros text) (b ∷ text) Escaped
-    (λ _. zeros-escaped text (and_parts (is_digit b) (list_all is_digit text) h).1)
+zeros-escaped (b ∷ text) h = cond_both (b == 48 && nat_lt 0 (length text)) (without_zeros text)
+    (b ∷ text) Escaped (λ _. zeros-escaped text (and_parts _ _ h).1)
     (λ _. digits-escaped (b ∷ text) h)
 
-glyph-plain : (d : ℕ) → d < 10 → is_plain (digit_glyph false d) ≡ true
-glyph-plain d l = agree_below_at (λ d. is_plain (digit_glyph false d)) (λ d. true) 10 d refl l
+pub glyph-digit : (d : ℕ) → d < 10 → is_digit (digit_glyph false d) ≡ true
+glyph-digit d l = agree_below_at (λ d. is_digit (digit_glyph false d)) (λ d. true) 10 d refl l
 
-onto-escaped : (k n : ℕ) (acc : List ℕ) → Escaped acc → Escaped (digits_onto k 10 false n acc)
-onto-escaped zero n acc h = h
-onto-escaped (suc k) n acc h =
+onto-digits : (k n : ℕ) (acc : List ℕ) → list_all is_digit acc ≡ true →
+    list_all is_digit (digits_onto k 10 false n acc) ≡ true
+onto-digits zero n acc h = h
+onto-digits (suc k) n acc h =
     let l : n % 10 < 10 = omega arith in
-    let first : Escaped (digit_glyph false (n % 10) ∷ acc) =
-    plain_first (digit_glyph false (n % 10)) acc (glyph-plain (n % 10) l) h in
-    cond_both (n / 10 == 0) (digit_glyph false (n % 10) ∷ acc)
-    (digits_onto k 10 false (n / 10) (digit_glyph false (n % 10) ∷ acc)) Escaped
-    (λ _. first) (λ _. onto-escaped k (n / 10) (digit_glyph false (n % 10) ∷ acc) first)
+    let first : list_all is_digit (digit_glyph false (n % 10) ∷ acc) ≡ true = and_from _ _
+    (glyph-digit (n % 10) l) h in
+    cond_both (n / 10 == 0) (digit_glyph false (n % 10) ∷ acc) (digits_onto k 10 false (n / 10)
+    (digit_glyph false (n % 10) ∷ acc)) (λ x. list_all is_digit x ≡ true) (λ _. first) (λ _.
+    onto-digits k (n / 10) (digit_glyph false (n % 10) ∷ acc) first)
+
+pub decimal-digits : (n : ℕ) → list_all is_digit (decimal n) ≡ true
+unfolding digits
+decimal-digits n = onto-digits 64 n [] refl
 
 pub decimal-escaped : (n : ℕ) → Escaped (decimal n)
-unfolding digits
-decimal-escaped n = onto-escaped 64 n [] refl
+decimal-escaped n = digits-escaped (decimal n) (decimal-digits n)
 
 -- the pipes' backslashes go
 pipes : (text front : List ℕ) → Escaped (front ++ text) → Escaped (front ++ without_escapes text)
 pipes [] front h = h
-pipes (b ∷ text) front h =
-    cond_both (b == 92 && is_at 124 text 0) [] (b ∷ [])
-    (λ own. Escaped (front ++ (own ++ without_escapes text)))
-    (λ escapes.
-    let is : b ≡ 92 = eqb-true b 92 (and_parts (b == 92) (is_at 124 text 0) escapes).0 in
-    pipes text front
-    (escaped-without 92 front text refl (subst (λ b. Escaped (front ++ (b ∷ text))) is h)))
-    (λ _.
-    subst Escaped (append_assoc front (b ∷ []) (without_escapes text))
-    (pipes text (front ++ (b ∷ [])) (subst Escaped (sym (append_assoc front (b ∷ []) text)) h)))
+pipes (b ∷ text) front h = cond_both (b == 92 && is_at 124 text 0) [] (b ∷ [])
+    (λ own. Escaped (front ++ (own ++ without_escapes text))) (λ escapes.
+    let is : b ≡ 92 = eqb-true _ _ (and_parts _ _ escapes).0 in
+    pipes text front (escaped-without 92 front text refl
+    (subst (λ b. Escaped (front ++ (b ∷ text))) is h))) (λ _. subst Escaped
+    (append_assoc front (b ∷ []) (without_escapes text)) (pipes text (front ++ (b ∷ []))
+    (subst Escaped (sym (append_assoc front (b ∷ []) text)) h)))
 
 pub pipes-escaped : (text : List ℕ) → Escaped text → Escaped (without_escapes text)
 pipes-escaped text h = pipes text [] h
@@ -139,11 +139,8 @@ trim_both : (text : List ℕ) → Escaped text → is_padded text ≡ true →
 trim_both [] h padded = refl
 trim_both (b ∷ []) h padded = refl
 trim_both (b ∷ c ∷ text) h padded =
-    let all =
-    and_parts (is_at 32 (b ∷ c ∷ text) 0 && is_at 32 (b ∷ c ∷ text) (length (b ∷ c ∷ text) - 1))
-    (not (list_all (λ byte. byte == 32) (b ∷ c ∷ text))) padded in
-    let ends = and_parts (is_at 32 (b ∷ c ∷ text) 0)
-    (is_at 32 (b ∷ c ∷ text) (length (b ∷ c ∷ text) - 1)) all.0 in
+    let all = and_parts _ _ padded in
+    let ends = and_parts _ _ all.0 in
     let size : length (b ∷ c ∷ text) - 1 ≡ suc (length text) = omega arith in
     let cut : length (b ∷ c ∷ text) - 2 ≡ length text = omega arith in
     let last : is_at 32 (c ∷ text) (length text) ≡ true = later b c _ text size ends.1 in
@@ -151,6 +148,4 @@ trim_both (b ∷ c ∷ text) h padded =
     (cut_last c text last (escaped-tail b (c ∷ text) h))
 
 pub trimmed-escaped : (text : List ℕ) → Escaped text → Escaped (trimmed text)
-trimmed-escaped text h =
-    cond_both (is_padded text) (take (length text - 2) (drop 1 text)) text Escaped
-    (trim_both text h) (λ _. h)
+trimmed-escaped text h = cond_both _ _ _ Escaped (trim_both text h) (λ _. h)

@@ -4,12 +4,10 @@ use Rattle.std.proofs.Common.{subst, inl, inr}
 use Rattle.std.specs.Str.{bytes_eq}
 use Rattle.std.specs.List.{list_all, list_any}
 use Rattle.std.proofs.lemmas.Bool.{and_parts, and_from, or_cases, or_left, or_right}
-use Rattle.md_base.specs.Identifier.{is_nonempty}
 use Rattle.md_text.specs.Bytes.{is_one_of}
-use Rattle.md_text.specs.References.{is_escaped}
 use Rattle.md_text.specs.Html.{Attribute, Forest, Empty, Text, Void, Element, is_forest, is_tag}
-use Rattle.md_text.specs.Html.{are_attributes, begins_with_text, elements, void_tags}
-use Rattle.md_text.specs.Html.{all_attributes, any_attribute, HasOneReadingWith}
+use Rattle.md_text.specs.Html.{are_attributes, elements, void_tags, all_attributes, any_attribute}
+use Rattle.md_text.specs.Html.{HasOneReadingWith}
 use Rattle.md_text.proofs.HtmlReading.{all-any}
 use Rattle.md_safe.specs.Input.{with_line_feeds}
 use Rattle.md_safe.specs.Token.{Token, Character, StartTag, EndTag, EndOfFile, TokenAttribute}
@@ -45,44 +43,35 @@ pub record PassesTags (p : Token → Bool) (q : Attribute → Bool) : Type 0 whe
 pub all-characters : (p : Token → Bool) (q : Attribute → Bool) → PassesTags p q → (x : List ℕ) →
     list_all p (map Character x) ≡ true
 all-characters p q o [] = refl
-all-characters p q o (b ∷ x) =
-    and_from (p (Character b)) (list_all p (map Character x)) (o.characters b)
-    (all-characters p q o x)
+all-characters p q o (b ∷ x) = and_from _ _ (o.characters b) (all-characters p q o x)
 
 pub all-tokens : (p : Token → Bool) (q : Attribute → Bool) → PassesTags p q → (f : Forest) →
     is_forest f ≡ true → all_attributes q f ≡ true → list_all p (tokens f) ≡ true
 all-tokens p q o Empty h k = refl
 all-tokens p q o (Text bytes rest) h k =
-    let r = and_parts (is_nonempty bytes && is_escaped bytes && not (begins_with_text rest))
-    (is_forest rest) h in
-    all-append p (map Character (seen bytes)) (tokens rest) (all-characters p q o (seen bytes))
-    (all-tokens p q o rest r.1 k)
+    let r = and_parts _ _ h in
+    all-append p _ _ (all-characters p q o (seen bytes)) (all-tokens p q o rest r.1 k)
 all-tokens p q o (Void name attributes rest) h k =
-    let r = and_parts (is_tag void_tags name attributes) (is_forest rest) h in
-    let s = and_parts (list_all q attributes) (all_attributes q rest) k in
-    and_from (p (StartTag name (seen_attributes attributes) true)) (list_all p (tokens rest))
-    (o.voids name attributes r.0 s.0) (all-tokens p q o rest r.1 s.1)
+    let r = and_parts _ _ h in
+    let s = and_parts _ _ k in
+    and_from _ _ (o.voids name attributes r.0 s.0) (all-tokens p q o rest r.1 s.1)
 all-tokens p q o (Element name attributes children rest) h k =
-    let r = and_parts (is_tag elements name attributes && is_forest children) (is_forest rest) h in
-    let u = and_parts (is_tag elements name attributes) (is_forest children) r.0 in
-    let s =
-    and_parts (list_all q attributes && all_attributes q children) (all_attributes q rest) k in
-    let v = and_parts (list_all q attributes) (all_attributes q children) s.0 in
-    and_from (p (StartTag name (seen_attributes attributes) false))
-    (list_all p (tokens children ++ (EndTag name ∷ tokens rest))) (o.starts name attributes u.0 v.0)
-    (all-append p (tokens children) (EndTag name ∷ tokens rest) (all-tokens p q o children u.1 v.1)
-    (and_from (p (EndTag name)) (list_all p (tokens rest)) (o.ends name attributes u.0)
+    let r = and_parts _ _ h in
+    let u = and_parts _ _ r.0 in
+    let s = and_parts _ _ k in
+    let v = and_parts _ _ s.0 in
+    and_from _ _ (o.starts name attributes u.0 v.0) (all-append p _ _
+    (all-tokens p q o children u.1 v.1) (and_from _ _ (o.ends name attributes u.0)
     (all-tokens p q o rest r.1 s.1)))
 
 -- and the same for any tokens of a text
-pub all-tokenized : (p : Token → Bool) (q : Attribute → Bool) → PassesTags p q → (text : List ℕ)
-    (x : List Token) → HasOneReadingWith q text → IsTokenized text x → list_all p x ≡ true
-all-tokenized p q o text x one h =
-    subst (λ x. list_all p x ≡ true)
-    (one_run Data (with_line_feeds text) (tokens one.forest ++ (EndOfFile ∷ [])) x
-    (reading-runs q text one) h) (all-append p (tokens one.forest) (EndOfFile ∷ [])
-    (all-tokens p q o one.forest one.reading.in_grammar one.passes)
-    (and_from (p EndOfFile) true o.end_of_file refl))
+pub all-tokenized : (p : Token → Bool) (q : Attribute → Bool) → PassesTags p q →
+    (text : List ℕ) (x : List Token) → HasOneReadingWith q text → IsTokenized text x →
+    list_all p x ≡ true
+all-tokenized p q o text x one h = subst (λ x. list_all p x ≡ true) (one_run Data
+    (with_line_feeds text) (tokens one.forest ++ (EndOfFile ∷ [])) x (reading-runs q text one) h)
+    (all-append p (tokens one.forest) (EndOfFile ∷ []) (all-tokens p q o one.forest
+    one.reading.in_grammar one.passes) (and_from _ _ o.end_of_file refl))
 
 -- ---- two of them
 
@@ -103,11 +92,9 @@ pub names-listed : (listed : List (List ℕ)) (x : List Attribute) → are_attri
 names-listed listed [] h = refl
 names-listed listed (a ∷ x) h =
     let alone = not (list_any (λ later. bytes_eq a.name later.name) x) in
-    let p = and_parts (is_one_of listed a.name && is_escaped a.value && alone)
-    (are_attributes listed x) h in
-    let q = and_parts (is_one_of listed a.name && is_escaped a.value) alone p.0 in
-    and_from (is_one_of listed a.name) (list_all (λ a. is_one_of listed a.name) (seen_attributes x))
-    (and_parts (is_one_of listed a.name) (is_escaped a.value) q.0).0 (names-listed listed x p.1)
+    let p = and_parts _ _ h in
+    let q = and_parts _ _ p.0 in
+    and_from _ _ (and_parts _ _ q.0).0 (names-listed listed x p.1)
 
 tag-listed : (rules : List (List ℕ × List (List ℕ))) (name : List ℕ) (attributes : List Attribute)
     (x : List TokenAttribute) → is_tag rules name attributes ≡ true →
@@ -145,6 +132,5 @@ forest-listed f h =
     all-tokens is_listed any_attribute (listed-passes any_attribute) f h (all-any f)
 
 pub all_listed : (q : Attribute → Bool) (text : List ℕ) (x : List Token) →
-    HasOneReadingWith q text →
-    IsTokenized text x → list_all is_listed x ≡ true
-all_listed q text x one h = all-tokenized is_listed q (listed-passes q) text x one h
+    HasOneReadingWith q text → IsTokenized text x → list_all is_listed x ≡ true
+all_listed q text x one h = all-tokenized _ q (listed-passes q) _ x one h

@@ -55,10 +55,9 @@ image-tokens text one =
     tokens-with has_safe_images is_safe_image text one (λ x. safe-images text x one)
 
 pub safely-tokenized : (text : List ℕ) → HasOneReadingWith is_safe_link text →
-    HasOneReadingWith is_safe_image text →
-    IsSafelyTokenized text
+    HasOneReadingWith is_safe_image text → IsSafelyTokenized text
 safely-tokenized text links images = record {
-  as_read = read-tokenized is_safe_link text links;
-  safe_links = link-tokens text links;
-  safe_images = image-tokens text images;
+  as_read = read-tokenized _ _ links;
+  safe_links = link-tokens _ links;
+  safe_images = image-tokens _ images;
 }

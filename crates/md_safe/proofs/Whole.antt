@@ -1,8 +1,7 @@
 -- The meaning of a document has a reading in which each attribute passes a test: the theorems from
 -- the induction over forests.
-use Rattle.std.specs.Str.{bytes_eq}
-use Rattle.std.proofs.Common.{◌≡◌, ℕ, ◌&&◌, ◌||◌, Bool, true, false, not, cond, List, ◌++◌}
-use Rattle.std.proofs.Common.{refl, sym, ap, subst, codes}
+use Rattle.std.proofs.Common.{◌≡◌, ℕ, ◌||◌, Bool, true, false, cond, List, ◌++◌, refl, sym, ap}
+use Rattle.std.proofs.Common.{subst}
 use Rattle.std.proofs.lemmas.Bool.{and_parts, not-true}
 use Rattle.md_text.specs.Html.{Attribute, any_attribute, HasReadingWith, HasOneReadingWith}
 use Rattle.md_text.specs.Safe.{is_safe_link, is_safe_image, is_safe_value}
@@ -20,7 +19,7 @@ use Rattle.md_meaning.specs.Meaning.Layout.{layout}
 use Rattle.md_meaning.specs.Meaning.Nodes.{Outcome, outcome}
 use Rattle.md_content.specs.Built.{Blocks, IsBuilt}
 use Rattle.md_safe.proofs.Costs.{Document, read_in}
-use Rattle.md_safe.proofs.Prepared.{document_of}
+use Rattle.md_safe.proofs.Prepared.{document_of, blocks-stay, outermost-ready, reads-whole}
 use Rattle.md_safe.specs.Options.{KeepsGrammar, KeepsLinks, KeepsImages}
 use Rattle.md_safe.proofs.Claim.{reading}
 use Rattle.md_safe.proofs.Laid.{adds-alone}
@@ -30,25 +29,21 @@ use Rattle.md_safe.proofs.Spot.{PassesIds, IsWhole, Setting, Prints}
 use Rattle.md_safe.proofs.FlowNodes.{Reads}
 use Rattle.md_safe.proofs.Forests.{Means, means}
 use Rattle.md_safe.proofs.Section.{section-prints}
-use Rattle.md_safe.proofs.Prepared.{blocks-stay, outermost-ready, reads-whole}
 
 -- a document and its section
 document-prints : (s : Setting) → IsWhole s.p → (document : Forest) →
-    IsBuilt s.context.bytes Blocks document →
-    KeepsGrammar s.context.options
-    → s.p.holds (layout s.context.ending ((outcome s.context outermost nothing_before
-    document).pieces
-    ++ section s.context (outcome s.context outermost nothing_before document).footnotes))
+    IsBuilt s.context.bytes Blocks document → KeepsGrammar s.context.options → s.p.holds (layout
+    s.context.ending ((outcome s.context outermost nothing_before document).pieces ++ section
+    s.context (outcome s.context outermost nothing_before document).footnotes))
 document-prints s whole document built keeps =
     let all : Outcome = outcome s.context outermost nothing_before document in
-    let known : Means s outermost Blocks document all =
-    means s document outermost nothing_before Blocks built (outermost-ready s whole) in
-    let last : Prints s (Reads s) (section s.context all.footnotes) =
-    section-prints s whole keeps.usual_tag keeps.usual_attributes all.footnotes known.texts in
-    adds-alone s.context.ending (Reads s) (all.pieces ++ section s.context all.footnotes)
-    (known.prints (section s.context all.footnotes)
-    (subst (λ content. Prints s (Holds s.p true false content) (section s.context all.footnotes))
-    (sym (blocks-stay document)) last))
+    let known : Means s outermost Blocks document all = means s document outermost nothing_before
+    Blocks built (outermost-ready s whole) in
+    let last : Prints s (Reads s) (section s.context all.footnotes) = section-prints s whole
+    keeps.usual_tag keeps.usual_attributes all.footnotes known.texts in
+    adds-alone (known.prints (section s.context all.footnotes) (subst (λ content. Prints s
+    (Holds s.p true false content) (section s.context all.footnotes)) (sym (blocks-stay document))
+    last))
 
 -- the meaning has a reading in which each attribute passes the test
 meaning-reads : (p : Attribute → Bool) (bytes : List ℕ) (names : List (List ℕ × List ℕ))
@@ -69,12 +64,9 @@ meaning-reads p bytes names options document test ids built keeps =
 -- a safe link passes
 link-test : (options : CompileOptions) → KeepsLinks options → IsTest is_safe_link options
 link-test options keeps = record {
-  other = λ name value h.
-      ap (λ b. cond b (is_safe_value link_protocols value) true)
-      (not-true (bytes_eq name (codes "href")) (and_parts (not (bytes_eq name (codes "href")))
-      (not (bytes_eq name (codes "src")) && not (bytes_eq name (codes "id"))) h).0);
-  link = λ destination.
-      subst (λ b. is_safe_value link_protocols (cond b (sanitized destination)
+  other = λ name value h. ap (λ b. cond b (is_safe_value link_protocols value) true)
+      (not-true _ (and_parts _ _ h).0);
+  link = λ destination. subst (λ b. is_safe_value link_protocols (cond b (sanitized destination)
       (sanitized_with link_protocols destination)) ≡ true) (sym keeps.permitted_links)
       (kept-link destination);
   anchor = λ rest. refl;
@@ -85,45 +77,36 @@ link-test options keeps = record {
 -- a safe image passes
 image-test : (options : CompileOptions) → KeepsImages options → IsTest is_safe_image options
 image-test options keeps = record {
-  other = λ name value h.
-      ap (λ b. cond b (is_safe_value image_protocols value) true)
-      (not-true (bytes_eq name (codes "src")) (and_parts (not (bytes_eq name (codes "src")))
-      (not (bytes_eq name (codes "id"))) (and_parts (not (bytes_eq name (codes "href")))
-      (not (bytes_eq name (codes "src")) && not (bytes_eq name (codes "id"))) h).1).0);
+  other = λ name value h. ap (λ b. cond b (is_safe_value image_protocols value) true)
+      (not-true _ (and_parts _ _ (and_parts _ _ h).1).0);
   link = λ destination. refl;
   anchor = λ rest. refl;
-  image = λ destination.
-      subst (λ b. is_safe_value image_protocols
-      (cond (b || options.allow_dangerous_protocol) (sanitized destination)
-      (sanitized_with image_protocols destination)) ≡ true) (sym keeps.permitted_images)
-      (subst (λ b. is_safe_value image_protocols (cond b (sanitized destination)
+  image = λ destination. subst (λ b. is_safe_value image_protocols (cond
+      (b || options.allow_dangerous_protocol) (sanitized destination)
+      (sanitized_with image_protocols destination)) ≡ true) (sym keeps.permitted_images) (subst
+      (λ b. is_safe_value image_protocols (cond b (sanitized destination)
       (sanitized_with image_protocols destination)) ≡ true) (sym keeps.links.permitted_links)
       (kept-image destination));
   html = keeps.links.grammar.escapes_html;
 }
 
 pub one-reading : (bytes : List ℕ) (names : List (List ℕ × List ℕ)) (options : CompileOptions)
-    (document : Forest) →
-    IsBuilt bytes Blocks document → KeepsGrammar options →
+    (document : Forest) → IsBuilt bytes Blocks document → KeepsGrammar options →
     HasOneReadingWith any_attribute (meaning options names bytes document)
-one-reading bytes names options document built keeps =
-    only_reading any_attribute (meaning options names bytes document) (meaning-reads any_attribute
-    bytes names options document (read_in (document_of bytes names options document built
-    keeps)).test (λ value. refl) built keeps)
+one-reading bytes names options document built keeps = only_reading any_attribute
+    (meaning options names bytes document) (meaning-reads _ _ _ _ _ (read_in
+    (document_of bytes names options document built keeps)).test (λ value. refl) built keeps)
 
 pub safe-links : (bytes : List ℕ) (names : List (List ℕ × List ℕ)) (options : CompileOptions)
-    (document : Forest) →
-    IsBuilt bytes Blocks document → KeepsLinks options →
+    (document : Forest) → IsBuilt bytes Blocks document → KeepsLinks options →
     HasOneReadingWith is_safe_link (meaning options names bytes document)
-safe-links bytes names options document built keeps =
-    only_reading is_safe_link (meaning options names bytes document) (meaning-reads is_safe_link
-    bytes names options document (link-test options keeps) (λ value. refl) built keeps.grammar)
+safe-links bytes names options document built keeps = only_reading is_safe_link
+    (meaning options names bytes document) (meaning-reads _ _ _ _ _ (link-test _ keeps)
+    (λ value. refl) built keeps.grammar)
 
 pub safe-images : (bytes : List ℕ) (names : List (List ℕ × List ℕ)) (options : CompileOptions)
-    (document : Forest) →
-    IsBuilt bytes Blocks document → KeepsImages options →
+    (document : Forest) → IsBuilt bytes Blocks document → KeepsImages options →
     HasOneReadingWith is_safe_image (meaning options names bytes document)
-safe-images bytes names options document built keeps =
-    only_reading is_safe_image (meaning options names bytes document)
-    (meaning-reads is_safe_image bytes names options document (image-test options keeps)
+safe-images bytes names options document built keeps = only_reading is_safe_image
+    (meaning options names bytes document) (meaning-reads _ _ _ _ _ (image-test _ keeps)
     (λ value. refl) built keeps.links.grammar)

@@ -1,8 +1,8 @@
 -- No id stands twice in the meaning of a document, nor in two documents whose prefixes are apart.
 use Rattle.std.specs.Str.{bytes_eq}
-use Rattle.std.proofs.Common.{◌≡◌, ◌⊎◌, inl, inr, ℕ, suc, ◌&&◌, ◌||◌, Bool, true, false, not, cond}
-use Rattle.std.proofs.Common.{List, [], ◌∷◌, ◌++◌, length, ◌<◌, ◌^◌, ◌+◌, ◌≤◌, arith, refl, sym, ap}
-use Rattle.std.proofs.Common.{◌∙◌, codes}
+use Rattle.std.proofs.Common.{◌≡◌, ◌⊎◌, inl, inr, ℕ, suc, ◌||◌, Bool, true, false, not, cond, List}
+use Rattle.std.proofs.Common.{[], ◌∷◌, ◌++◌, length, ◌<◌, ◌^◌, ◌+◌, ◌≤◌, arith, refl, sym, ap, ◌∙◌}
+use Rattle.std.proofs.Common.{codes}
 use Rattle.std.specs.Fmt.{decimal}
 use Rattle.std.specs.List.{list_any}
 use Rattle.md_base.proofs.Lies.{lie}
@@ -14,13 +14,11 @@ use Rattle.md_meaning.proofs.Identifiers.{itself}
 use Rattle.std.proofs.lemmas.List.{length-append}
 use Rattle.md_base.specs.Is.{is as named}
 use Rattle.md_base.specs.Tree.{Forest, Empty, Node, flatten, exiting}
-use Rattle.md_base.specs.Children.{is_empty}
 use Rattle.md_pattern.specs.Looseness.{is_loose}
 use Rattle.md_text.specs.Ids.{ids, HasDistinctIds}
 use Rattle.md_text.proofs.HtmlIds.{occurs, counted-once}
 use Rattle.md_content.specs.Underlined.{IsUnderlined}
 use Rattle.md_text.specs.declared.options.CompileOptions.{CompileOptions}
-use Rattle.md_tree.specs.Rules.{place as position}
 use Rattle.md_meaning.specs.Meaning.{meaning}
 use Rattle.md_meaning.specs.Meaning.Inherited.{outermost, inside}
 use Rattle.md_meaning.specs.Meaning.At.{Context, At, Before, identifier_of}
@@ -37,6 +35,7 @@ use Rattle.md_safe.specs.Apart.{prefix_of, are_apart, ShareNoId}
 use Rattle.md_safe.proofs.CountedSection.{document-counts, document-counted}
 use Rattle.md_safe.proofs.Distinct.{IsNote, IsCall, document-known}
 use Rattle.md_safe.proofs.Prefixes.{has_fn, same-prefix, note-once, call-once, any-occurs}
+use Rattle.md_safe.proofs.Spot.{at_in}
 
 -- the identifiers of the footnote calls in some nodes, in the order of their exits
 abbrev calls_in : List ℕ → Forest → List (List ℕ)
@@ -53,21 +52,13 @@ calls-same context (Node name start end children rest) around before =
     let around' : Surroundings = inside context.options (is_loose children) name around in
     let before' : Before = before_children name children before in
     let inner : Outcome = outcome context around' before' children in
-    let t : At = record {
-      around = around;
-      before = before;
-      children = children;
-      found = inner.found;
-      calls = before.calls ++ inner.calls;
-      place = position start end;
-      is_last = around.is_outermost && is_empty rest;
-    } in
+    let t : At = at_in around before start end children rest inner in
     let next : Before = before_next t name (node context t name inner) in
-    let own : List (List ℕ) =
-    when (named GfmFootnoteCall name) (identifier_of context.bytes children ∷ []) in
+    let own : List (List ℕ) = when (named GfmFootnoteCall name)
+    (identifier_of context.bytes children ∷ []) in
     ap (λ calls. (calls ++ own) ++ (outcome context around next rest).calls)
-    (calls-same context children around' before')
-    ∙ ap (λ calls. (calls_in context.bytes children ++ own) ++ calls)
+    (calls-same context children around' before') ∙ ap
+    (λ calls. (calls_in context.bytes children ++ own) ++ calls)
     (calls-same context rest around next)
 
 -- a document has at most half as many calls as events
@@ -144,16 +135,14 @@ one-prefix options other w n m =
     same-prefix (prefix_of options) (prefix_of other) a.0 b.0 a.1 b.1 (sym a.2 ∙ b.2)
 
 -- where no id but the heading's is among both, they are apart
-apart-ids : (xs ys : List (List ℕ)) → ((w : List ℕ) → 1 ≤ occurs w xs → 1 ≤ occurs w ys →
-    codes "footnote-label" ≡ w) → are_apart xs ys ≡ true
+apart-ids : (xs ys : List (List ℕ)) → ((w : List ℕ) → 1 ≤ occurs w xs → 1 ≤ occurs w ys → codes
+    "footnote-label" ≡ w) → are_apart xs ys ≡ true
 apart-ids [] ys h = refl
-apart-ids (x ∷ xs) ys h =
-    and_from _ (are_apart xs ys)
-    (of (list_any (λ other. bytes_eq other x) ys) refl)
+apart-ids (x ∷ xs) ys h = and_from _ _ (of (list_any (λ other. bytes_eq other x) ys) refl)
     (apart-ids xs ys (λ w some. h w (later w (bytes_eq x w) some)))
   where
-    later : (w : List ℕ) (is : Bool) → 1 ≤ occurs w xs →
-        1 ≤ cond is (suc (occurs w xs)) (occurs w xs)
+    later : (w : List ℕ) (is : Bool) → 1 ≤ occurs w xs → 1 ≤ cond is
+        (suc (occurs w xs)) (occurs w xs)
     later w true some = omega (arith, some)
     later w false some = some
 
@@ -163,12 +152,11 @@ apart-ids (x ∷ xs) ys h =
 
     of : (is : Bool) → list_any (λ other. bytes_eq other x) ys ≡ is →
         (bytes_eq (codes "footnote-label") x || not is) ≡ true
-    of false e = or_right (bytes_eq (codes "footnote-label") x) true refl
+    of false e = or_right _ _ refl
     of true e =
-        let label : codes "footnote-label" ≡ x =
-        h x (first (bytes_eq x x) (itself x)) (any-occurs x ys e) in
-        or_left (bytes_eq (codes "footnote-label") x) false
-        (ap (λ y. bytes_eq y x) label ∙ itself x)
+        let label : codes "footnote-label" ≡ x = h x (first (bytes_eq x x) (itself x))
+        (any-occurs x ys e) in
+        or_left _ _ (ap (λ y. bytes_eq y x) label ∙ itself x)
 
 pub apart : (bytes other_bytes : List ℕ) (names other_names : List (List ℕ × List ℕ))
     (options other_options : CompileOptions) (document other : Forest) →

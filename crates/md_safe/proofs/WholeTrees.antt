@@ -1,9 +1,9 @@
 -- A text that is contained without a link in a link is built as it is read.
-use Rattle.std.proofs.Common.{◌≡◌, ℕ, true, false, not, ◌&&◌, List, [], ◌∷◌, ◌++◌, codes, refl}
-use Rattle.std.proofs.Common.{ap, ◌∙◌, subst}
+use Rattle.std.proofs.Common.{◌≡◌, ℕ, true, false, not, ◌&&◌, List, [], ◌∷◌, ◌++◌, codes, refl, ap}
+use Rattle.std.proofs.Common.{◌∙◌, subst}
 use Rattle.std.specs.Prelude.{Some, None}
-use Rattle.md_text.specs.Html.{Forest, Empty, Text, Void, Element, is_forest, is_tag}
-use Rattle.md_text.specs.Html.{any_attribute, begins_with_text, elements, void_tags}
+use Rattle.md_text.specs.Html.{Forest, Empty, Text, Void, Element, is_forest, any_attribute}
+use Rattle.md_text.specs.Html.{begins_with_text}
 use Rattle.md_text.specs.References.{is_escaped}
 use Rattle.md_base.specs.Identifier.{is_nonempty}
 use Rattle.std.proofs.lemmas.Bool.{and_parts, and_from}
@@ -16,8 +16,8 @@ use Rattle.md_safe.proofs.Tokenized.{read-tokenized}
 use Rattle.md_safe.specs.Contents.{Flow, is_contained, IsUnnested}
 use Rattle.md_safe.specs.Node.{Open, Entry, Marker, Formatting, Mode}
 use Rattle.md_safe.specs.Formatting.{last_active}
-use Rattle.md_safe.specs.Built.{has_whole_texts, put, at, IsPlace, Builds, IsBuiltAsRead}
-use Rattle.md_safe.specs.Built.{AreOpen, has_none_active}
+use Rattle.md_safe.specs.Built.{has_whole_texts, put, at, IsPlace, Builds, IsBuiltAsRead, AreOpen}
+use Rattle.md_safe.specs.Built.{has_none_active}
 use Rattle.md_safe.proofs.TreeSteps.{Position}
 use Rattle.md_safe.proofs.Flow.{flow-done, kept-none}
 
@@ -39,15 +39,12 @@ pub reading-texts : (forest : Forest) → is_forest forest ≡ true → has_whol
 reading-texts Empty h = refl
 reading-texts (Text bytes rest) h =
     let own = is_nonempty bytes && is_escaped bytes && not (begins_with_text rest) in
-    let parts = and_parts own (is_forest rest) h in
-    and_from own (has_whole_texts rest) parts.0 (reading-texts rest parts.1)
-reading-texts (Void name attributes rest) h =
-    reading-texts rest (and_parts (is_tag void_tags name attributes) (is_forest rest) h).1
+    let parts = and_parts _ _ h in
+    and_from _ _ parts.0 (reading-texts rest parts.1)
+reading-texts (Void name attributes rest) h = reading-texts rest (and_parts _ _ h).1
 reading-texts (Element name attributes inner rest) h =
-    let all = and_parts (is_tag elements name attributes && is_forest inner) (is_forest rest) h in
-    and_from (has_whole_texts inner) (has_whole_texts rest)
-    (reading-texts inner (and_parts (is_tag elements name attributes) (is_forest inner) all.0).1)
-    (reading-texts rest all.1)
+    let all = and_parts _ _ h in
+    and_from _ _ (reading-texts inner (and_parts _ _ all.0).1) (reading-texts rest all.1)
 
 pub forest-built : (forest : Forest) → has_whole_texts forest ≡ true →
     is_contained false Flow forest ≡ true →

@@ -5,9 +5,8 @@ use Rattle.std.proofs.Common.{◌≡◌, ℕ, Bool, true, false, cond, List, [],
 use Rattle.std.specs.Prelude.{Option, Some, None, find, option_map}
 use Rattle.std.proofs.lemmas.Bool.{and_parts, and_from, or_right}
 use Rattle.md_base.proofs.Lies.{lie}
-use Rattle.md_text.specs.Bytes.{is_one_of}
 use Rattle.md_text.specs.Html.{Forest, Empty, Text, Void, Element}
-use Rattle.md_safe.specs.Contents.{Content, Flow, Phrasing, span_elements, block_elements, voids_in}
+use Rattle.md_safe.specs.Contents.{Content, Flow, Phrasing, span_elements, block_elements}
 use Rattle.md_safe.specs.Contents.{is_contained}
 use Rattle.md_safe.proofs.Stands.{is_held, Stands}
 
@@ -45,20 +44,14 @@ contained-wider : (nested : Bool) (f : Forest) → is_contained nested Phrasing 
 contained-wider nested Empty h = refl
 contained-wider nested (Text bytes rest) h = contained-wider nested rest h
 contained-wider nested (Void name attributes rest) h =
-    let parts =
-    and_parts (is_one_of (voids_in Phrasing) name) (is_contained nested Phrasing rest) h in
-    and_from (is_one_of (voids_in Flow) name) (is_contained nested Flow rest)
-    (or_right (bytes_eq name (104 ∷ 114 ∷ [])) (is_one_of (voids_in Phrasing) name) parts.0)
-    (contained-wider nested rest parts.1)
+    let parts = and_parts _ _ h in
+    and_from _ _ (or_right _ _ parts.0) (contained-wider nested rest parts.1)
 contained-wider nested (Element name attributes inner rest) h =
-    let parts =
-    and_parts (is_held nested Phrasing name inner) (is_contained nested Phrasing rest) h in
-    and_from (is_held nested Flow name inner) (is_contained nested Flow rest)
-    (held-wider nested name inner parts.0)
-    (contained-wider nested rest parts.1)
+    let parts = and_parts _ _ h in
+    and_from _ _ (held-wider nested name inner parts.0) (contained-wider nested rest parts.1)
 
-pub stands-wider : (nested : Bool) (x : List ℕ) → Stands nested Phrasing x → Stands nested Flow x
-stands-wider nested x h = record {
+pub stands-wider : {nested : Bool} (x : List ℕ) → Stands nested Phrasing x → Stands nested Flow x
+stands-wider {nested} x h = record {
   forest = h.forest;
   reading = h.reading;
   contained = contained-wider nested h.forest h.contained;
