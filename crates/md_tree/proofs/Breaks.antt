@@ -1,31 +1,18 @@
 -- Which rules a node can break, and how a walk stops at its exit.
 use Rattle.std.proofs.Common.{◌≡◌, ℕ, Bool, true, false, cond, Option, Some, None, List, ◌∷◌}
 use Rattle.std.proofs.Common.{length, nat_lt, sym, subst}
-use Rattle.md_base.specs.declared.event.Point.{Point}
-use Rattle.md_base.specs.declared.event.Name.{Name}
-use Rattle.md_base.specs.declared.event.Kind.TheVariants.{Exit}
-use Rattle.md_base.specs.Place.{fits, text_between, label_between}
-use Rattle.md_pattern.specs.declared.kinds.Symbol.{Symbol}
-use Rattle.md_pattern.specs.declared.kinds.Role.{Role}
-use Rattle.md_pattern.specs.declared.kinds.Reading.{Reading}
+use Rattle.md_tree.proofs.Common.{Point, Name, Exit, text_between, label_between, Symbol, Role}
+use Rattle.md_tree.proofs.Common.{Reading, Referral, Missing, Resource, Label, Rule, CompileError}
+use Rattle.md_tree.proofs.Common.{Position, Mentioned, State, Open, Outer, place, broken_by}
+use Rattle.md_tree.proofs.Common.{broken_rule, is_complete, Course, Exits, ExitsWhere, Anything}
+use Rattle.md_tree.proofs.Common.{BreaksWhere, BreaksAtExit, StopsAtExit, IsStop, IsStopInside}
+use Rattle.md_base.specs.Place.{fits}
 use Rattle.md_pattern.specs.declared.kinds.Reading.TheVariants as reading
-use Rattle.md_tree.specs.declared.mention.Referral.{Referral}
-use Rattle.md_tree.specs.declared.mention.Referral.TheVariants.{Missing, Resource, Label}
-use Rattle.md_tree.specs.declared.rule.Rule.{Rule}
 use Rattle.md_tree.specs.declared.rule.Rule.TheVariants as rule
-use Rattle.md_tree.specs.declared.rule.CompileError.{CompileError}
 use Rattle.md_tree.specs.declared.rule.CompileError.TheVariants as error
-use Rattle.md_base.specs.declared.event.Position.{Position}
-use Rattle.md_tree.specs.declared.mention.Mentioned.{Mentioned}
-use Rattle.md_pattern.specs.declared.state.State.{State}
-use Rattle.md_tree.specs.Machine.{Open}
-use Rattle.md_tree.specs.Machine.{Outer}
-use Rattle.md_tree.specs.Rules.{place, is_line_ending, is_decodable, is_list_number, is_rank}
-use Rattle.md_tree.specs.Rules.{columns, unless, broken_by, broken_by_target, broken_rule}
-use Rattle.md_pattern.specs.Steps.{is_complete}
-use Rattle.md_tree.specs.Machine.{Course, Exits, ExitsWhere}
-use Rattle.md_tree.specs.Walk.{Anything, BreaksWhere, BreaksAtExit, StopsAtExit, IsStop}
-use Rattle.md_tree.specs.Walk.{StopsInside, IsStopInside}
+use Rattle.md_tree.specs.Rules.{is_line_ending, is_decodable, is_list_number, is_rank, columns}
+use Rattle.md_tree.specs.Rules.{unless, broken_by_target}
+use Rattle.md_tree.specs.Walk.{StopsInside}
 
 -- a rule that is judged when a node ends
 abbrev pub IsOfNode : Rule → Type 0

@@ -2,32 +2,20 @@
 -- of the grammar. The contracts of `check` and of `Reader` follow from it.
 use Rattle.std.proofs.Common.{◌≡◌, ◌⊎◌, inl, inr, ℕ, suc, ◌<◌, ◌≤◌, false, Some, None, List, []}
 use Rattle.std.proofs.Common.{◌∷◌, length, take, get_or, refl, sym, ap, ◌∙◌, subst, arith}
-use Rattle.std.specs.Prelude.{map, slice_get}
-use Rattle.std.specs.List.{All}
-use Rattle.std.proofs.Math.Seq.{take-suc}
-use Rattle.std.proofs.lemmas.Option.{slice_get_cases, get_or_from_slice_get}
-use Rattle.md_base.specs.declared.event.Name.TheVariants.{Data}
-use Rattle.md_base.specs.declared.event.Event.{Event}
-use Rattle.md_tree.specs.declared.mention.Mention.{Mention}
-use Rattle.md_tree.specs.declared.mention.Mention.TheVariants.{Reference, Call}
-use Rattle.md_tree.specs.declared.mention.Mentioned.{Mentioned}
-use Rattle.md_tree.specs.declared.rule.Rule.{Rule}
+use Rattle.md_tree.proofs.Common.{map, slice_get, All, take-suc, slice_get_cases}
+use Rattle.md_tree.proofs.Common.{get_or_from_slice_get, Data, Event, Mention, Reference, Call}
+use Rattle.md_tree.proofs.Common.{Mentioned, Rule, CompileError, mentions_of, mentions_among}
+use Rattle.md_tree.proofs.Common.{IsResolved, Handed, IsGrammatical, IsReadAs, IsChecked, IsRefusal}
+use Rattle.md_tree.proofs.Common.{is_complete, Reads, Course, Runs, Steps, beginning, Unbroken}
+use Rattle.md_tree.proofs.Common.{IsUnresolvedBy, IsUnresolved, Forest, flatten, facts_at, numbered}
+use Rattle.md_tree.proofs.Common.{number_for, facts_with}
 use Rattle.md_tree.specs.declared.rule.Rule.TheVariants as rule
-use Rattle.md_tree.specs.declared.rule.CompileError.{CompileError}
 use Rattle.md_tree.specs.declared.rule.CompileError.TheVariants as error
-use Rattle.md_tree.specs.Mentions.{mentions_of, mentions_among, IsResolved}
-use Rattle.md_tree.specs.Grammar.{Handed, IsGrammatical, IsReadAs, IsChecked}
-use Rattle.md_tree.specs.Refusal.{EndsUnresolved, IsRefusal}
-use Rattle.md_pattern.specs.Steps.{is_complete}
-use Rattle.md_tree.specs.Machine.{Reads, Course, Runs, Steps, beginning}
-use Rattle.md_tree.specs.Walk.{Unbroken}
-use Rattle.md_tree.specs.Resolve.{RefersNowhere, IsUnresolvedBy, IsUnresolved}
+use Rattle.md_tree.specs.Refusal.{EndsUnresolved}
+use Rattle.md_tree.specs.Resolve.{RefersNowhere}
 use Rattle.md_tree.proofs.OneTree.{flatten_one}
 use Rattle.md_tree.proofs.Listing.{listed, resolved-listed, all-resolved, got-listed}
 use Rattle.md_tree.proofs.Trees.{Runs-append}
-use Rattle.md_base.specs.Tree.{Forest, flatten}
-use Rattle.md_pattern.specs.Facts.{facts_at}
-use Rattle.md_tree.specs.Numbers.{numbered, number_for, facts_with}
 use Rattle.md_tree.proofs.NumbersPut.{numbered-listed}
 use Rattle.md_tree.proofs.Endings.{LeaveOpen-undone, outside-undone, IsWalked}
 use Rattle.md_tree.proofs.LeastNodes.{somewhere}

@@ -1,25 +1,11 @@
 -- A node that ends is valid, and extends its parent's spine.
 use Rattle.std.proofs.Common.{◌≡◌, ◌≢◌, true, false, Option, Some, None, List, refl, sym, ap, ◌∙◌}
 use Rattle.std.proofs.Common.{subst}
-use Rattle.md_base.specs.declared.event.Point.{Point}
-use Rattle.md_base.specs.declared.event.Name.{Name}
-use Rattle.md_pattern.specs.declared.kinds.Symbol.{Symbol}
-use Rattle.md_pattern.specs.declared.kinds.Role.{Role}
-use Rattle.md_pattern.specs.declared.kinds.Role.TheVariants.{Childless}
-use Rattle.md_pattern.specs.declared.kinds.Reading.{Reading}
-use Rattle.md_pattern.specs.declared.kinds.Reading.TheVariants.{Free}
-use Rattle.md_pattern.specs.declared.kinds.Standing.{Standing}
-use Rattle.md_pattern.specs.declared.kinds.Standing.TheVariants.{Through, Space, Solid, Mdx}
-use Rattle.md_tree.specs.declared.mention.Referral.{Referral}
-use Rattle.md_tree.specs.declared.mention.Referral.TheVariants.{Missing}
-use Rattle.md_pattern.specs.declared.state.State.{State}
-use Rattle.md_tree.specs.Machine.{Entry, Open, Outer}
-use Rattle.md_base.specs.Tree.{Forest, Empty, Node}
-use Rattle.md_pattern.specs.Spine.{spine, shown}
-use Rattle.md_pattern.specs.Shape.{EachNode, IsStanding, role_for}
-use Rattle.md_tree.specs.Rules.{place, target_at, target_after, target_of}
-use Rattle.md_pattern.specs.Steps.{may_hold, start_of, advance}
-use Rattle.md_tree.specs.Machine.{Reads, Course, ExitsWhere, entered_on}
+use Rattle.md_tree.proofs.Common.{Point, Name, Symbol, Role, Childless, Reading, Free, Standing}
+use Rattle.md_tree.proofs.Common.{Through, Space, Solid, Mdx, Referral, Missing, State, Entry, Open}
+use Rattle.md_tree.proofs.Common.{Outer, Forest, Empty, Node, spine, shown, EachNode, IsStanding}
+use Rattle.md_tree.proofs.Common.{role_for, place, target_at, target_after, target_of, may_hold}
+use Rattle.md_tree.proofs.Common.{start_of, advance, Reads, Course, ExitsWhere, entered_on}
 use Rattle.md_tree.proofs.Spots.{Feeds, advance_role, option_map-some}
 use Rattle.md_tree.proofs.Groups.{matches_feeds}
 use Rattle.md_tree.proofs.NodesRead.{IsReadWhere, IsFine}

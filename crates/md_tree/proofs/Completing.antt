@@ -3,18 +3,12 @@
 -- and so outwards.
 use Rattle.std.proofs.Common.{◌≡◌, true, Option, Some, None, List, [], ◌∷◌, ◌++◌, refl, sym, ap}
 use Rattle.std.proofs.Common.{◌∙◌, subst}
-use Rattle.std.specs.List.{list_all}
-use Rattle.md_base.specs.declared.event.Event.{Event}
+use Rattle.md_tree.proofs.Common.{list_all, Event, State, Forest, flatten, exiting, spine, EachNode}
+use Rattle.md_tree.proofs.Common.{IsShaped, items_of, is_whole, is_optional, is_complete, Reads}
+use Rattle.md_tree.proofs.Common.{Outer, Open, Course, Runs, Exits, ExitsWhere, after_exit}
+use Rattle.md_tree.proofs.Common.{after_through, beginning, Anything, opening}
 use Rattle.md_pattern.specs.declared.kinds.Role.TheVariants as role
-use Rattle.md_pattern.specs.declared.state.State.{State}
-use Rattle.md_base.specs.Tree.{Forest, flatten, exiting}
-use Rattle.md_pattern.specs.Spine.{spine}
-use Rattle.md_pattern.specs.Shape.{EachNode, IsShaped}
-use Rattle.md_pattern.specs.Steps.{items_of, is_whole, is_optional, is_complete}
-use Rattle.md_tree.specs.Machine.{Reads, Outer, Open, Course, Runs, Exits, ExitsWhere, after_exit}
-use Rattle.md_tree.specs.Machine.{after_through, beginning}
-use Rattle.md_tree.specs.Walk.{Anything}
-use Rattle.md_tree.specs.Refusal.{BeginTree, opening}
+use Rattle.md_tree.specs.Refusal.{BeginTree}
 use Rattle.md_tree.proofs.SettledPatterns.{and_left}
 use Rattle.md_tree.proofs.Spots.{Feeds}
 use Rattle.md_tree.proofs.Groups.{matches_feeds, whole_stage}

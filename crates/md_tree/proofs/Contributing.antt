@@ -1,13 +1,10 @@
 -- The last contributing child that the pass finds is that of the definition.
 use Rattle.std.proofs.Common.{◌≡◌, ℕ, suc, Bool, true, false, cond, Option, Some, None, refl, ap}
 use Rattle.std.proofs.Common.{◌∙◌}
-use Rattle.std.specs.Prelude.{unwrap_or}
-use Rattle.md_base.specs.Tree.{Forest, Empty, Node}
+use Rattle.md_tree.proofs.Common.{unwrap_or, Forest, Empty, Node, or_else, index_after}
+use Rattle.md_tree.proofs.Common.{contributing_over, index_if}
 use Rattle.md_base.specs.NameTests.{contributes}
-use Rattle.md_base.specs.Children.{or_else}
-use Rattle.md_pattern.specs.Partners.{index_after, last_contributing_at}
-use Rattle.md_pattern.specs.Facts.{contributing_over}
-use Rattle.md_tree.specs.Found.{index_if}
+use Rattle.md_pattern.specs.Partners.{last_contributing_at}
 
 one_more : (later : Option ℕ) (here : Bool) (index before : ℕ) →
     unwrap_or later (cond here index before)

@@ -3,35 +3,19 @@
 use Rattle.std.proofs.Common.{◌≡◌, ◌≢◌, ◌⊎◌, inl, inr, ℕ, zero, suc, Bool, true, false, Option}
 use Rattle.std.proofs.Common.{Some, None, List, [], ◌∷◌, ◌++◌, drop, refl, sym, ap, ◌∙◌, subst}
 use Rattle.std.proofs.Common.{append_assoc}
-use Rattle.std.specs.List.{list_all}
-use Rattle.md_base.specs.declared.event.Point.{Point}
-use Rattle.md_base.specs.declared.event.Name.{Name}
-use Rattle.md_base.specs.declared.event.Event.{Event}
-use Rattle.md_pattern.specs.declared.kinds.Role.TheVariants.{Flow, Childless}
-use Rattle.md_pattern.specs.declared.kinds.Reading.TheVariants.{Free}
-use Rattle.md_pattern.specs.declared.kinds.Standing.{Standing}
-use Rattle.md_pattern.specs.declared.kinds.Standing.TheVariants.{Through, Space, Solid, Mdx}
-use Rattle.md_tree.specs.declared.mention.Referral.{Referral}
-use Rattle.md_tree.specs.declared.mention.Referral.TheVariants.{Missing}
-use Rattle.md_tree.specs.declared.mention.Mentioned.{Mentioned}
-use Rattle.md_tree.specs.declared.rule.Rule.{Rule}
-use Rattle.md_pattern.specs.declared.state.State.{State}
-use Rattle.md_tree.specs.Machine.{Open}
-use Rattle.md_tree.specs.Machine.{Outer}
-use Rattle.md_base.specs.Tree.{Forest, Empty, Node, flatten, entering, exiting}
-use Rattle.md_pattern.specs.Standing.{standing_of}
-use Rattle.md_pattern.specs.Spine.{spine}
-use Rattle.md_pattern.specs.Pattern.{pattern_of}
-use Rattle.md_pattern.specs.Shape.{IsShaped, AreShaped, inner_role, inner_before}
-use Rattle.md_tree.specs.Rules.{broken_rule, reading_of, MeetRules, target_of}
-use Rattle.md_tree.specs.Grammar.{Handed, IsGrammatical, IsReadAs, IsChecked}
-use Rattle.md_tree.specs.Refusal.{Level, opening, role_in, before_in, symbol_after, Begins}
-use Rattle.md_tree.specs.Refusal.{EndsInGroup, LeaveOpen, EndsBroken}
-use Rattle.md_pattern.specs.Steps.{is_complete, is_whole, is_optional, items_of, start_of}
-use Rattle.md_tree.specs.Machine.{Reads, Course, Runs, Exits, ExitsWhere, after_exit, entered_on}
-use Rattle.md_tree.specs.Machine.{beginning}
-use Rattle.md_tree.specs.Walk.{Unbroken, Broken, BreaksWhere, BreaksAtExit}
-use Rattle.md_tree.specs.Mentions.{mentions_of}
+use Rattle.md_tree.proofs.Common.{list_all, Point, Name, Event, Flow, Childless, Free, Standing}
+use Rattle.md_tree.proofs.Common.{Through, Space, Solid, Mdx, Referral, Missing, Mentioned, Rule}
+use Rattle.md_tree.proofs.Common.{State, Open, Outer, Forest, Empty, Node, flatten, entering}
+use Rattle.md_tree.proofs.Common.{exiting, standing_of, spine, pattern_of, IsShaped, AreShaped}
+use Rattle.md_tree.proofs.Common.{inner_role, inner_before, broken_rule, reading_of, MeetRules}
+use Rattle.md_tree.proofs.Common.{target_of, Handed, IsGrammatical, IsReadAs, IsChecked, Level}
+use Rattle.md_tree.proofs.Common.{opening, role_in, before_in, symbol_after, EndsInGroup}
+use Rattle.md_tree.proofs.Common.{EndsBroken, is_complete, is_whole, is_optional, items_of}
+use Rattle.md_tree.proofs.Common.{start_of, Reads, Course, Runs, Exits, ExitsWhere, after_exit}
+use Rattle.md_tree.proofs.Common.{entered_on, beginning, Unbroken, BreaksWhere, BreaksAtExit}
+use Rattle.md_tree.proofs.Common.{mentions_of}
+use Rattle.md_tree.specs.Refusal.{Begins, LeaveOpen}
+use Rattle.md_tree.specs.Walk.{Broken}
 use Rattle.md_tree.proofs.Listing.{listed, mentions_over-listed}
 use Rattle.md_tree.proofs.SettledPatterns.{and_both}
 use Rattle.md_tree.proofs.Spots.{Feeds}

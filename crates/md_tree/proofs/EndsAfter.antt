@@ -1,10 +1,6 @@
 -- A spine that has been read so far may end after some symbols, and is then read to its end.
 use Rattle.std.proofs.Common.{◌≡◌, Bool, true, false, Option, Some, None, List, [], ◌∷◌, refl}
-use Rattle.md_pattern.specs.declared.kinds.Symbol.{Symbol}
-use Rattle.md_pattern.specs.declared.kinds.Role.{Role}
-use Rattle.md_pattern.specs.declared.state.State.{State}
-use Rattle.md_pattern.specs.Spine.{Matches}
-use Rattle.md_pattern.specs.Steps.{advance, is_complete, start_of}
+use Rattle.md_tree.proofs.Common.{Symbol, Role, State, Matches, advance, is_complete, start_of}
 use Rattle.md_tree.proofs.Spots.{Feeds}
 use Rattle.md_tree.proofs.Groups.{matches_feeds}
 

@@ -1,29 +1,15 @@
 -- The tables of a document of the grammar have a table's shape.
 use Rattle.std.proofs.Common.{◌≡◌, ℕ, suc, Option, Some, None, ◌∷◌, ◌++◌, sym, ap, ◌∙◌, subst}
-use Rattle.std.specs.Prelude.{slice_get}
-use Rattle.std.specs.List.{All}
-use Rattle.std.proofs.lemmas.List.Elements.{All-cons, All-append, All-nil}
-use Rattle.md_base.specs.declared.event.Event.{Event}
-use Rattle.md_base.specs.declared.event.Name.{Name}
-use Rattle.md_base.specs.declared.event.Name.TheVariants.{GfmTable}
-use Rattle.md_pattern.specs.declared.kinds.Symbol.{Symbol}
-use Rattle.md_pattern.specs.declared.kinds.Role.{Role}
+use Rattle.md_tree.proofs.Common.{slice_get, All, All-cons, All-append, All-nil, Event, Name}
+use Rattle.md_tree.proofs.Common.{GfmTable, Symbol, Role, Forest, Empty, Node, entering}
+use Rattle.md_tree.proofs.Common.{standing_of, spine, shown, EachNode, IsShapedNode, IsStanding}
+use Rattle.md_tree.proofs.Common.{AreShaped, inner_role, inner_before, last_symbol, Handed}
+use Rattle.md_tree.proofs.Common.{IsChecked, IsReadAs, IsGrammatical, EntersAt, children_of}
+use Rattle.md_tree.proofs.Common.{IsEnteredAt, IsTable, index_after, tables_with, tables_after}
 use Rattle.md_pattern.specs.declared.kinds.Role.TheVariants as role
-use Rattle.md_base.specs.Tree.{Forest, Empty, Node, entering}
-use Rattle.md_pattern.specs.Standing.{standing_of}
-use Rattle.md_pattern.specs.Spine.{spine, shown}
-use Rattle.md_pattern.specs.Shape.{EachNode, IsShapedNode, IsStanding, AreShaped, inner_role}
-use Rattle.md_pattern.specs.Shape.{inner_before, last_symbol}
-use Rattle.md_tree.specs.Grammar.{Handed, IsChecked, IsReadAs, IsGrammatical}
-use Rattle.md_tree.specs.Texts.{EntersAt}
-use Rattle.md_tree.specs.Entered.{children_of, IsEnteredAt}
-use Rattle.md_tree.specs.Tables.{IsTable}
 use Rattle.md_tree.proofs.OneTree.{flatten_one}
-use Rattle.md_pattern.specs.Partners.{index_after}
-use Rattle.md_pattern.specs.Facts.{tables_with, tables_after}
 use Rattle.md_tree.proofs.EventRows.{Row, entry_row, exit_row, rows_of}
-use Rattle.md_tree.proofs.Entering.{past_row, inside_rows}
-use Rattle.md_tree.proofs.Entering.{event_there, children_there}
+use Rattle.md_tree.proofs.Entering.{past_row, inside_rows, event_there, children_there}
 
 -- a table has its shape
 abbrev IsTableRow : Row → Type 0

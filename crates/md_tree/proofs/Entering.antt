@@ -3,30 +3,18 @@
 use Rattle.std.proofs.Common.{◌≡◌, ◌⊎◌, inl, inr, ℕ, suc, ◌+◌, ◌<◌, ◌≤◌, true, cond, Some, None}
 use Rattle.std.proofs.Common.{List, [], ◌∷◌, ◌++◌, length, get_or, refl, sym, ap, ◌∙◌, subst}
 use Rattle.std.proofs.Common.{append_assoc, append-nil, arith}
-use Rattle.std.specs.Prelude.{map, option_map, slice_get}
-use Rattle.std.specs.List.{All}
-use Rattle.std.proofs.lemmas.List.{get_or-map, map-append, length-map}
-use Rattle.std.proofs.lemmas.List.Elements.{All-cons, All-append, All-nil}
-use Rattle.std.proofs.lemmas.Option.{slice_get_cases, slice_get-get_or, slice_get-map}
-use Rattle.std.proofs.lemmas.Option.{get_or_from_slice_get}
-use Rattle.md_base.specs.declared.event.AlignKind.{AlignKind}
-use Rattle.md_base.specs.declared.event.Point.{Point}
-use Rattle.md_base.specs.declared.event.Name.{Name}
-use Rattle.md_base.specs.declared.event.Kind.TheVariants.{Enter}
-use Rattle.md_base.specs.declared.event.Event.{Event}
-use Rattle.md_pattern.specs.declared.facts.Fact.{Fact}
-use Rattle.md_base.specs.Tree.{Forest, Empty, Node, flatten, entering}
-use Rattle.md_base.specs.NameTests.{is_table}
-use Rattle.md_pattern.specs.Alignments.{alignments}
-use Rattle.md_tree.specs.Grammar.{Handed}
-use Rattle.md_tree.specs.Texts.{EntersAt}
-use Rattle.md_tree.specs.Entered.{children_of, IsEnteredAt, EntersNode}
-use Rattle.md_pattern.specs.Partners.{index_after, partners_of}
+use Rattle.md_tree.proofs.Common.{map, option_map, slice_get, All, get_or-map, map-append}
+use Rattle.md_tree.proofs.Common.{length-map, All-cons, All-append, All-nil, slice_get_cases}
+use Rattle.md_tree.proofs.Common.{slice_get-get_or, slice_get-map, get_or_from_slice_get, AlignKind}
+use Rattle.md_tree.proofs.Common.{Point, Name, Enter, Event, Fact, Forest, Empty, Node, flatten}
+use Rattle.md_tree.proofs.Common.{entering, is_table, alignments, Handed, EntersAt, children_of}
+use Rattle.md_tree.proofs.Common.{IsEnteredAt, EntersNode, index_after, partner_alone, tables_with}
+use Rattle.md_tree.proofs.Common.{tables_after, fact_at, facts_of, facts_at, tables_at}
+use Rattle.md_tree.proofs.Common.{facts-flatten}
+use Rattle.md_pattern.specs.Partners.{partners_of}
 use Rattle.md_pattern.specs.Columns.{tables_of}
-use Rattle.md_pattern.specs.Facts.{partner_alone, tables_with, tables_after, fact_at, facts_of}
-use Rattle.md_pattern.specs.Facts.{facts_at, tables_at}
 use Rattle.md_pattern.proofs.CountedFacts.{length_table, length_tables}
-use Rattle.md_pattern.proofs.Passing.{facts-flatten, tables-flatten}
+use Rattle.md_pattern.proofs.Passing.{tables-flatten}
 use Rattle.md_tree.proofs.EventRows.{Row, entry_row, exit_row, rows_of, event_rows, children_rows}
 use Rattle.md_tree.proofs.EventRows.{fact_rows, numbered_rows, numbered_get}
 

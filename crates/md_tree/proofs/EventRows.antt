@@ -1,19 +1,10 @@
 -- The events of a document in rows, each with what is found at it, its node's children and place.
 use Rattle.std.proofs.Common.{◌≡◌, ℕ, zero, suc, ◌+◌, ◌<◌, Option, Some, None, List, [], ◌∷◌, ◌++◌}
 use Rattle.std.proofs.Common.{length, get_or, refl, sym, ap, ◌∙◌, subst, arith}
-use Rattle.std.specs.Prelude.{map}
-use Rattle.std.proofs.lemmas.List.{map-append}
-use Rattle.md_base.specs.declared.event.Point.{Point}
-use Rattle.md_base.specs.declared.event.Position.{Position}
-use Rattle.md_base.specs.declared.event.Name.{Name}
-use Rattle.md_base.specs.declared.event.Event.{Event}
-use Rattle.md_pattern.specs.declared.facts.Fact.{Fact}
-use Rattle.md_base.specs.Tree.{Forest, Empty, Node, flatten, entering, exiting}
-use Rattle.md_tree.specs.Rules.{place}
-use Rattle.md_tree.specs.Texts.{positions_of}
-use Rattle.md_tree.specs.Entered.{children_of}
-use Rattle.md_pattern.specs.Partners.{index_after}
-use Rattle.md_pattern.specs.Facts.{partner_alone, tables_with, tables_after, fact_at, facts_of}
+use Rattle.md_tree.proofs.Common.{map, map-append, Point, Position, Name, Event, Fact, Forest}
+use Rattle.md_tree.proofs.Common.{Empty, Node, flatten, entering, exiting, place, positions_of}
+use Rattle.md_tree.proofs.Common.{children_of, index_after, partner_alone, tables_with}
+use Rattle.md_tree.proofs.Common.{tables_after, fact_at, facts_of}
 
 -- an event, its index, what is found at it, at an entry the node's children, and at an exit
 -- where the node lies

@@ -1,23 +1,16 @@
 -- What is found on a spine, in the words of the definitions: the place of the first node.
 use Rattle.std.proofs.Common.{◌≡◌, ℕ, Bool, true, false, cond, Option, Some, None, refl, ap, ◌∙◌}
-use Rattle.std.specs.Prelude.{option_map, unwrap_or}
-use Rattle.md_base.specs.declared.event.Name.{Name}
+use Rattle.md_tree.proofs.Common.{option_map, unwrap_or, Name, Point, Position, Wanted, Forest}
+use Rattle.md_tree.proofs.Common.{Empty, Node, is_transparent, is_heading_mark, is_item}
+use Rattle.md_tree.proofs.Common.{is_item_prefix, is_item_value, is_label, is_label_text}
+use Rattle.md_tree.proofs.Common.{is_reference, is_definition_label, is_footnote_prefix}
+use Rattle.md_tree.proofs.Common.{is_footnote_label, or_else, first_on_spine, lie, place, wanted_by}
+use Rattle.md_tree.proofs.Common.{first_place, number_in, reads, is_reader}
 use Rattle.md_base.specs.declared.event.Name.TheVariants as name_variants
 use name_variants.{HeadingAtx, ListOrdered, ListItem, ListItemPrefix, Link, Image, Label}
 use name_variants.{GfmFootnoteCall, Definition, GfmFootnoteDefinition, GfmFootnoteDefinitionPrefix}
-use Rattle.md_base.specs.declared.event.Point.{Point}
-use Rattle.md_base.specs.declared.event.Position.{Position}
-use Rattle.md_pattern.specs.declared.seeking.Wanted.{Wanted}
 use Rattle.md_pattern.specs.declared.seeking.Wanted.TheVariants as want
-use Rattle.md_base.specs.Tree.{Forest, Empty, Node}
-use Rattle.md_base.specs.NameTests.{is_transparent, is_heading_mark, is_item, is_item_prefix}
-use Rattle.md_base.specs.NameTests.{is_item_value, is_label, is_label_text, is_reference}
-use Rattle.md_base.specs.NameTests.{is_definition_label, is_footnote_prefix, is_footnote_label}
-use Rattle.md_base.specs.Children.{or_else, first_on_spine}
-use Rattle.md_base.proofs.Lies.{lie}
-use Rattle.md_tree.specs.Rules.{place}
-use Rattle.md_pattern.specs.Seeking.{wanted_by}
-use Rattle.md_tree.specs.Reads.{first_place, number_in, label_in, reads, is_reader}
+use Rattle.md_tree.specs.Reads.{label_in}
 use Rattle.md_tree.proofs.SearchSteps.{spot, reference, At, Held}
 
 none_through : {A : Type 0} (t : Bool) → or_else {A = A} (cond t None None) None ≡ None

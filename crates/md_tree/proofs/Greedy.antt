@@ -1,12 +1,8 @@
 -- In a settled pattern, the first item that takes a symbol is the right one.
 use Rattle.std.proofs.Common.{◌≡◌, ℕ, Bool, true, false, not, ◌||◌, cond, Some, None, List, [], ◌∷◌}
 use Rattle.std.proofs.Common.{◌++◌, length, refl, sym, subst, arith}
-use Rattle.std.specs.List.{list_all}
-use Rattle.md_pattern.specs.declared.kinds.Symbol.{Symbol}
-use Rattle.md_pattern.specs.declared.kinds.Item.{Item}
-use Rattle.md_pattern.specs.declared.kinds.Item.TheVariants.{Once, Maybe, Many}
-use Rattle.md_pattern.specs.Pattern.{class_of, takes, Fits, IsCount}
-use Rattle.md_pattern.specs.Steps.{is_optional}
+use Rattle.md_tree.proofs.Common.{list_all, Symbol, Item, Once, Maybe, Many, class_of, takes, Fits}
+use Rattle.md_tree.proofs.Common.{IsCount, is_optional}
 use Rattle.md_tree.proofs.SettledPatterns.{is_many, and_left, and_right, only_many, leaves_order}
 use Rattle.md_tree.proofs.SettledPatterns.{settled, only_many_after, and_both}
 use Rattle.md_tree.proofs.TakenFits.{kept, left_after}

@@ -1,22 +1,13 @@
 -- Reading a spine symbol by symbol matches it against its pattern.
 use Rattle.std.proofs.Common.{◌≡◌, ◌⊎◌, inl, inr, suc, true, Some, List, [], ◌∷◌, ◌++◌, refl, sym}
 use Rattle.std.proofs.Common.{ap, ◌∙◌, subst}
-use Rattle.std.specs.List.{list_all}
-use Rattle.std.specs.Prelude.{option_map}
-use Rattle.md_pattern.specs.declared.kinds.Symbol.{Symbol}
+use Rattle.md_tree.proofs.Common.{list_all, option_map, Symbol, Role, Item, Stage, Whole, Marker}
+use Rattle.md_tree.proofs.Common.{Numeric, Hexadecimal, Setext, State, pattern_of, Fits, IsTail}
+use Rattle.md_tree.proofs.Common.{IsGrouped, Matches, begun_by, next_stage, is_optional, items_of}
+use Rattle.md_tree.proofs.Common.{is_whole, is_complete, start_of}
 use Rattle.md_pattern.specs.declared.kinds.Symbol.TheVariants as symbol_variants
 use symbol_variants.{ReferenceMarker, ReferenceNumeric, ReferenceHexadecimal, ReferenceValue}
 use symbol_variants.{SetextText, SetextUnderline, LineEnding}
-use Rattle.md_pattern.specs.declared.kinds.Role.{Role}
-use Rattle.md_pattern.specs.declared.kinds.Item.{Item}
-use Rattle.md_pattern.specs.declared.state.Stage.{Stage}
-use Rattle.md_pattern.specs.declared.state.Stage.TheVariants.{Whole, Marker, Numeric, Hexadecimal}
-use Rattle.md_pattern.specs.declared.state.Stage.TheVariants.{Setext}
-use Rattle.md_pattern.specs.declared.state.State.{State}
-use Rattle.md_pattern.specs.Pattern.{pattern_of, Fits}
-use Rattle.md_pattern.specs.Spine.{IsTail, IsGrouped, Matches}
-use Rattle.md_pattern.specs.Steps.{begun_by, next_stage, is_optional, items_of, is_whole}
-use Rattle.md_pattern.specs.Steps.{is_complete, start_of}
 use Rattle.md_tree.proofs.SettledPatterns.{and_left, and_right, and_both, pattern_settled}
 use Rattle.md_tree.proofs.TakenFits.{left_after, fits_nothing, fits_back}
 use Rattle.md_tree.proofs.Spots.{At, spot_after, option_map-some, at_items, Goes, Feeds}

@@ -1,21 +1,13 @@
 -- Where a group is open, the spine that has been read ends in it.
 use Rattle.std.proofs.Common.{◌≡◌, inl, inr, ℕ, zero, suc, false, Some, List, [], ◌∷◌, ◌++◌}
 use Rattle.std.proofs.Common.{replicate, refl, ap, ◌∙◌, subst, append_assoc, append-nil}
-use Rattle.std.specs.Prelude.{option_map}
-use Rattle.md_pattern.specs.declared.kinds.Symbol.{Symbol}
+use Rattle.md_tree.proofs.Common.{option_map, Symbol, Role, Item, Stage, Whole, Marker, Numeric}
+use Rattle.md_tree.proofs.Common.{Hexadecimal, Setext, State, pattern_of, EndsInGroup, begun_by}
+use Rattle.md_tree.proofs.Common.{next_stage, items_of, is_whole, start_of}
 use Rattle.md_pattern.specs.declared.kinds.Symbol.TheVariants as symbol_variants
 use symbol_variants.{ReferenceMarker, ReferenceNumeric, ReferenceHexadecimal, ReferenceValue}
 use symbol_variants.{SetextText, SetextUnderline, LineEnding}
-use Rattle.md_pattern.specs.declared.kinds.Role.{Role}
-use Rattle.md_pattern.specs.declared.kinds.Item.{Item}
-use Rattle.md_pattern.specs.declared.state.Stage.{Stage}
-use Rattle.md_pattern.specs.declared.state.Stage.TheVariants.{Whole, Marker, Numeric, Hexadecimal}
-use Rattle.md_pattern.specs.declared.state.Stage.TheVariants.{Setext}
-use Rattle.md_pattern.specs.declared.state.State.{State}
-use Rattle.md_pattern.specs.Pattern.{pattern_of}
 use Rattle.md_pattern.specs.Spine.{IsBegunGroup}
-use Rattle.md_tree.specs.Refusal.{EndsInGroup}
-use Rattle.md_pattern.specs.Steps.{begun_by, next_stage, items_of, is_whole, start_of}
 use Rattle.md_tree.proofs.Spots.{At, spot_after, Goes, at_items, Feeds, Goes-from_feeds}
 use Rattle.md_tree.proofs.Groups.{some_stage, spot_whole, spot_inside}
 

@@ -2,39 +2,21 @@
 -- in any tree of the events, and no look-up fails.
 use Rattle.std.proofs.Common.{◌≡◌, ℕ, suc, ◌<◌, Bool, true, Option, Some, None, List, [], ◌∷◌, ◌++◌}
 use Rattle.std.proofs.Common.{length, get_or, refl, sym, ap, ◌∙◌, append-nil, arith}
-use Rattle.std.specs.Prelude.{map, option_map, slice_get, option_copied, IsSome}
+use Rattle.std.specs.Prelude.{IsSome}
 use Rattle.std.specs.Borrow.{Bor}
-use Rattle.std.specs.List.{All}
-use Rattle.std.proofs.lemmas.List.Elements.{All-cons, All-append, All-nil}
-use Rattle.std.proofs.lemmas.Option.{slice_get-map, slice_get-get_or}
-use Rattle.md_base.specs.declared.event.Point.{Point}
-use Rattle.md_base.specs.declared.event.Position.{Position}
-use Rattle.md_base.specs.declared.event.Name.{Name}
-use Rattle.md_base.specs.declared.event.Kind.TheVariants.{Exit}
-use Rattle.md_base.specs.declared.event.Event.{Event}
-use Rattle.md_base.specs.Place.{text_between, label_between}
-use Rattle.md_pattern.specs.declared.kinds.Symbol.{Symbol}
-use Rattle.md_pattern.specs.declared.kinds.Role.{Role}
-use Rattle.md_pattern.specs.declared.kinds.Role.TheVariants.{Flow}
-use Rattle.md_pattern.specs.declared.kinds.Reading.{Reading}
+use Rattle.md_tree.proofs.Common.{map, option_map, slice_get, option_copied, All, All-cons}
+use Rattle.md_tree.proofs.Common.{All-append, All-nil, slice_get-map, slice_get-get_or, Point}
+use Rattle.md_tree.proofs.Common.{Position, Name, Exit, Event, text_between, label_between, Symbol}
+use Rattle.md_tree.proofs.Common.{Role, Flow, Reading, Standing, Through, Space, Solid, Mdx}
+use Rattle.md_tree.proofs.Common.{Referral, Missing, Rule, Forest, Empty, Node, flatten, entering}
+use Rattle.md_tree.proofs.Common.{exiting, standing_of, spine, shown, inner_role, inner_before}
+use Rattle.md_tree.proofs.Common.{last_symbol, place, broken_by, broken_rule, reading_of, MeetRules}
+use Rattle.md_tree.proofs.Common.{target_of, Handed, IsGrammatical, IsReadAs, IsChecked}
+use Rattle.md_tree.proofs.Common.{index_after, partner_alone, tables_with, tables_after, facts_at}
+use Rattle.md_tree.proofs.Common.{position_from, partner_event, position_ended, ExitsAt}
+use Rattle.md_tree.proofs.Common.{positions_of, has_reading, is_text, is_identifier, length_one}
+use Rattle.md_tree.proofs.Common.{facts-flatten}
 use Rattle.md_pattern.specs.declared.kinds.Reading.TheVariants as reading
-use Rattle.md_pattern.specs.declared.kinds.Standing.{Standing}
-use Rattle.md_pattern.specs.declared.kinds.Standing.TheVariants.{Through, Space, Solid, Mdx}
-use Rattle.md_tree.specs.declared.mention.Referral.{Referral}
-use Rattle.md_tree.specs.declared.mention.Referral.TheVariants.{Missing}
-use Rattle.md_tree.specs.declared.rule.Rule.{Rule}
-use Rattle.md_base.specs.Tree.{Forest, Empty, Node, flatten, entering, exiting}
-use Rattle.md_pattern.specs.Standing.{standing_of}
-use Rattle.md_pattern.specs.Spine.{spine, shown}
-use Rattle.md_pattern.specs.Shape.{inner_role, inner_before, last_symbol}
-use Rattle.md_tree.specs.Rules.{place, broken_by, broken_rule, reading_of, MeetRules, target_of}
-use Rattle.md_tree.specs.Grammar.{Handed, IsGrammatical, IsReadAs, IsChecked}
-use Rattle.md_pattern.specs.Partners.{index_after}
-use Rattle.md_pattern.specs.Facts.{partner_alone, tables_with, tables_after, facts_at}
-use Rattle.md_tree.specs.Found.{position_from, partner_event, position_ended}
-use Rattle.md_tree.specs.Texts.{ExitsAt, positions_of, has_reading, is_text, is_identifier}
-use Rattle.md_pattern.proofs.CountedFacts.{length_one}
-use Rattle.md_pattern.proofs.Passing.{facts-flatten}
 use Rattle.md_tree.proofs.EventRows.{Row, entry_row, exit_row, rows_of, event_rows, fact_rows}
 use Rattle.md_tree.proofs.EventRows.{position_rows}
 use Rattle.md_tree.proofs.Entering.{get_at, got_inside, got_mapped, mapped_long}

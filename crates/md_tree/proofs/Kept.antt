@@ -2,35 +2,18 @@
 -- of `Checked` only look something up: what they answer is right by this.
 use Rattle.std.proofs.Common.{◌≡◌, ℕ, ◌<◌, Bool, true, Option, Some, List, length, refl, sym, ap}
 use Rattle.std.proofs.Common.{◌∙◌, subst}
-use Rattle.std.specs.Prelude.{map, slice_get}
-use Rattle.std.specs.List.{All}
-use Rattle.std.proofs.lemmas.List.{length-map}
-use Rattle.md_base.specs.declared.event.Point.{Point}
-use Rattle.md_base.specs.declared.event.Position.{Position}
-use Rattle.md_base.specs.declared.event.Name.{Name}
-use Rattle.md_base.specs.declared.event.Name.TheVariants.{Definition, GfmTable}
-use Rattle.md_tree.specs.declared.checked.Checked.TheInside.{Inside}
-use Rattle.md_pattern.specs.declared.facts.Fact.{Fact}
-use Rattle.md_pattern.specs.declared.kinds.Reading.{Reading}
-use Rattle.md_base.specs.Tree.{Forest, flatten}
-use Rattle.md_pattern.specs.Alignments.{alignments}
-use Rattle.md_tree.specs.Grammar.{Handed, IsReadAs, IsChecked}
-use Rattle.md_pattern.specs.Standing.{standing_of}
-use Rattle.md_tree.specs.Texts.{EntersAt, ExitsAt, has_reading}
-use Rattle.md_tree.specs.Entered.{IsEnteredAt, EntersNode}
-use Rattle.md_tree.specs.Checked.{handed_of, IsKept}
-use Rattle.md_pattern.specs.Facts.{facts_at, tables_at, definitions_at, fact_at}
-use Rattle.md_tree.specs.Found.{EntersSome, IsFactAt, position_ended}
-use Rattle.md_tree.specs.Indices.{AreDefinitions}
-use Rattle.md_tree.specs.Mentions.{mentions_of, mention_of}
-use Rattle.md_base.specs.declared.event.Event.{Event}
-use Rattle.md_base.specs.declared.event.Kind.TheVariants.{Exit}
-use Rattle.md_tree.specs.declared.mention.Mention.{Mention}
-use Rattle.md_tree.specs.declared.mention.Referral.{Referral}
-use Rattle.md_tree.specs.Rules.{reading_of}
-use Rattle.md_tree.specs.Numbers.{number_for, with_number, facts_with, AreNumbered, ExitsOf}
-use Rattle.md_tree.specs.Numbers.{is_of_definitions, definition_for}
-use Rattle.md_tree.specs.Numbers.{place_of}
+use Rattle.md_tree.proofs.Common.{map, slice_get, All, length-map, Point, Position, Name, GfmTable}
+use Rattle.md_tree.proofs.Common.{Inside, Fact, Reading, Forest, flatten, alignments, Handed}
+use Rattle.md_tree.proofs.Common.{IsReadAs, IsChecked, standing_of, EntersAt, ExitsAt, has_reading}
+use Rattle.md_tree.proofs.Common.{IsEnteredAt, EntersNode, handed_of, IsKept, facts_at, tables_at}
+use Rattle.md_tree.proofs.Common.{fact_at, EntersSome, position_ended, AreDefinitions, mentions_of}
+use Rattle.md_tree.proofs.Common.{mention_of, Event, Exit, Mention, Referral, reading_of}
+use Rattle.md_tree.proofs.Common.{number_for, with_number, facts_with, is_of_definitions}
+use Rattle.md_tree.proofs.Common.{definition_for, place_of}
+use Rattle.md_base.specs.declared.event.Name.TheVariants.{Definition}
+use Rattle.md_pattern.specs.Facts.{definitions_at}
+use Rattle.md_tree.specs.Found.{IsFactAt}
+use Rattle.md_tree.specs.Numbers.{AreNumbered, ExitsOf}
 use Rattle.md_tree.proofs.Numbers.{recorded-at, got-with, ended-with, length-with, kept-number}
 use Rattle.md_tree.proofs.Numbers.{number-definition}
 use Rattle.md_tree.proofs.Defining.{definitions-entered}

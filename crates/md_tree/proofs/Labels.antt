@@ -1,28 +1,15 @@
 -- The label by which a node of a document refers, or is referred to, is a text: else a rule is
 -- broken. So each identifier of a document is there.
 use Rattle.std.proofs.Common.{◌≡◌, ℕ, Option, Some, None, List, [], ◌∷◌, ◌++◌, refl, sym, ap, ◌∙◌}
-use Rattle.std.specs.Prelude.{map, unwrap_or, option_map}
-use Rattle.std.specs.List.{All}
-use Rattle.std.proofs.lemmas.List.Elements.{All-cons, All-nil, All-append, All-head, All-tail}
-use Rattle.md_base.specs.declared.event.Point.{Point}
+use Rattle.md_tree.proofs.Common.{map, unwrap_or, option_map, All, All-cons, All-nil, All-append}
+use Rattle.md_tree.proofs.Common.{All-head, All-tail, Point, label_between, Symbol, Role, Reading}
+use Rattle.md_tree.proofs.Common.{Standing, Through, Space, Solid, Mdx, standing_of, Forest, Empty}
+use Rattle.md_tree.proofs.Common.{Node, Referral, Missing, Resource, Label, Mention, Nothing}
+use Rattle.md_tree.proofs.Common.{Reference, Call, Definition, FootnoteDefinition, place, broken_by}
+use Rattle.md_tree.proofs.Common.{broken_rule, reading_of, target_of, target_after, MeetRules}
+use Rattle.md_tree.proofs.Common.{identifier_at, mention_of, mentions_of, defined, footnoted}
 use Rattle.md_base.specs.Identifier.{normalized}
-use Rattle.md_base.specs.Place.{label_between}
-use Rattle.md_pattern.specs.declared.kinds.Symbol.{Symbol}
-use Rattle.md_pattern.specs.declared.kinds.Role.{Role}
-use Rattle.md_pattern.specs.declared.kinds.Reading.{Reading}
 use Rattle.md_pattern.specs.declared.kinds.Reading.TheVariants as reading
-use Rattle.md_pattern.specs.declared.kinds.Standing.{Standing}
-use Rattle.md_pattern.specs.declared.kinds.Standing.TheVariants.{Through, Space, Solid, Mdx}
-use Rattle.md_pattern.specs.Standing.{standing_of}
-use Rattle.md_base.specs.Tree.{Forest, Empty, Node}
-use Rattle.md_tree.specs.declared.mention.Referral.{Referral}
-use Rattle.md_tree.specs.declared.mention.Referral.TheVariants.{Missing, Resource, Label}
-use Rattle.md_tree.specs.declared.mention.Mention.{Mention}
-use Rattle.md_tree.specs.declared.mention.Mention.TheVariants.{Nothing, Reference, Call, Definition}
-use Rattle.md_tree.specs.declared.mention.Mention.TheVariants.{FootnoteDefinition}
-use Rattle.md_tree.specs.Rules.{place, broken_by, broken_rule, reading_of, target_of, target_after}
-use Rattle.md_tree.specs.Rules.{MeetRules}
-use Rattle.md_tree.specs.Mentions.{identifier_at, mention_of, mentions_of, defined, footnoted}
 
 -- a label's identifier is there
 abbrev pub HasIdentifier : List ℕ → Referral → Type 0

@@ -1,23 +1,13 @@
 -- The two events of a node without children, read at once.
 use Rattle.std.proofs.Common.{◌≡◌, inl, inr, ◌+◌, ℕ, suc, Option, Some, None, take, get_or, refl}
 use Rattle.std.proofs.Common.{sym, ap, subst, ◌∙◌, add-one}
-use Rattle.std.specs.Prelude.{slice_get}
-use Rattle.std.proofs.lemmas.Option.{slice_get_within, get_or_from_slice_get}
-use Rattle.md_base.specs.declared.event.Point.{Point}
-use Rattle.md_base.specs.declared.event.Name.{Name}
-use Rattle.md_base.specs.declared.event.Event.{Event}
-use Rattle.md_base.specs.declared.event.Kind.{Kind}
-use Rattle.md_base.specs.declared.event.Kind.TheVariants.{Enter, Exit}
-use Rattle.md_tree.specs.declared.rule.CompileError.{CompileError}
-use Rattle.md_pattern.specs.Ending.{first_index, ending_after}
-use Rattle.md_pattern.specs.Facts.{PassState, pass_beginning, passed, passed_entry, passed_exit}
-use Rattle.md_pattern.specs.Facts.{passed_over}
-use Rattle.md_pattern.proofs.FirstIndex.{first_index-more}
-use Rattle.md_pattern.proofs.Passing.{passed_more}
-use Rattle.md_tree.specs.Grammar.{Handed}
-use Rattle.md_tree.specs.Refusal.{IsRefusal}
-use Rattle.md_tree.specs.Machine.{Course, Runs, StepsBy, Enters, beginning}
-use Rattle.md_tree.specs.Walk.{point_of, point_at, Unbroken, Passes, IsStop, IsStopAtLeaf}
+use Rattle.md_tree.proofs.Common.{slice_get, slice_get_within, get_or_from_slice_get, Point, Name}
+use Rattle.md_tree.proofs.Common.{Event, Kind, Enter, Exit, CompileError, first_index, ending_after}
+use Rattle.md_tree.proofs.Common.{PassState, pass_beginning, passed, passed_over, first_index-more}
+use Rattle.md_tree.proofs.Common.{passed_more, Handed, IsRefusal, Course, Runs, StepsBy, Enters}
+use Rattle.md_tree.proofs.Common.{beginning, point_at, Unbroken, Passes, IsStop, IsStopAtLeaf}
+use Rattle.md_pattern.specs.Facts.{passed_entry, passed_exit}
+use Rattle.md_tree.specs.Walk.{point_of}
 use Rattle.md_tree.specs.Reader.{IsLeaf}
 use Rattle.md_tree.proofs.Checking.{Runs-more}
 use Rattle.md_tree.proofs.Stopped.{IsRefusal-stopped}

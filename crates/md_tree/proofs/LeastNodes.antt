@@ -2,19 +2,12 @@
 -- grammar.
 use Rattle.std.proofs.Common.{◌≡◌, ◌≢◌, Bool, true, false, Option, Some, None, List, [], ◌∷◌, ◌++◌}
 use Rattle.std.proofs.Common.{refl, ap, ◌∙◌}
-use Rattle.std.specs.List.{list_all}
-use Rattle.md_base.specs.declared.event.Point.{Point}
-use Rattle.md_base.specs.declared.event.Name.{Name}
+use Rattle.md_tree.proofs.Common.{list_all, Point, Name, Symbol, Role, Forest, Empty, Node, spine}
+use Rattle.md_tree.proofs.Common.{IsShapedNode, AreShaped, last_symbol, start_of, may_hold}
 use Rattle.md_base.specs.declared.event.Name.TheVariants as name
-use Rattle.md_pattern.specs.declared.kinds.Symbol.{Symbol}
 use Rattle.md_pattern.specs.declared.kinds.Symbol.TheVariants as symbol
-use Rattle.md_pattern.specs.declared.kinds.Role.{Role}
 use Rattle.md_pattern.specs.declared.kinds.Role.TheVariants as role
-use Rattle.md_base.specs.Tree.{Forest, Empty, Node}
-use Rattle.md_pattern.specs.Spine.{spine}
-use Rattle.md_pattern.specs.Shape.{IsShapedNode, AreShaped, item_in, prefix_in, label_in}
-use Rattle.md_pattern.specs.Shape.{code_fence_after, math_fence_after, last_symbol}
-use Rattle.md_pattern.specs.Steps.{start_of, may_hold}
+use Rattle.md_pattern.specs.Shape.{item_in, prefix_in, label_in, code_fence_after, math_fence_after}
 use Rattle.md_tree.proofs.SettledPatterns.{and_left, and_right}
 use Rattle.md_tree.proofs.OpenPaths.{joined, spine-joined, EachNode-joined}
 use Rattle.md_tree.proofs.ClosedNodes.{not_childless}

@@ -2,34 +2,17 @@
 use Rattle.std.proofs.Common.{◌≡◌, ◌⊎◌, inl, inr, true, false, ℕ, suc, Option, Some, None, List}
 use Rattle.std.proofs.Common.{◌∷◌, refl, sym, ap, subst, ◌∙◌}
 use Rattle.std.specs.Prelude.{MatchOption}
-use Rattle.md_base.specs.declared.event.Point.{Point}
-use Rattle.md_base.specs.declared.event.Name.{Name}
-use Rattle.md_base.specs.declared.event.Name.TheVariants.{GfmTable}
-use Rattle.md_base.specs.NameTests.{is_table}
-use Rattle.md_base.proofs.Lies.{lie}
-use Rattle.md_tree.specs.declared.rule.Rule.{Rule}
+use Rattle.md_tree.proofs.Common.{Point, Name, GfmTable, is_table, lie, Rule, CompileError, Symbol}
+use Rattle.md_tree.proofs.Common.{Role, Reading, Free, Through, Space, Solid, standing_of, role_for}
+use Rattle.md_tree.proofs.Common.{Referral, Missing, State, place, target_at, broken_rule, Nothing}
+use Rattle.md_tree.proofs.Common.{mention_of, mentions_with, start_of, may_hold, advance}
+use Rattle.md_tree.proofs.Common.{is_complete, Reads, Outer, Entry, Course, entered, after_entry}
+use Rattle.md_tree.proofs.Common.{after_through, after_exit, Enters, ExitsWhere, Passes, Unbroken}
+use Rattle.md_tree.proofs.Common.{IsStopAtLeaf, IsStopInside}
 use Rattle.md_tree.specs.declared.rule.Rule.TheVariants as rule
-use Rattle.md_tree.specs.declared.rule.CompileError.{CompileError}
 use Rattle.md_tree.specs.declared.rule.CompileError.TheVariants as error
-use Rattle.md_pattern.specs.declared.kinds.Symbol.{Symbol}
-use Rattle.md_pattern.specs.declared.kinds.Role.{Role}
 use Rattle.md_pattern.specs.declared.kinds.Role.TheVariants as role
-use Rattle.md_pattern.specs.declared.kinds.Reading.{Reading}
 use Rattle.md_pattern.specs.declared.kinds.Reading.TheVariants as reads
-use Rattle.md_pattern.specs.declared.kinds.Reading.TheVariants.{Free}
-use Rattle.md_pattern.specs.declared.kinds.Standing.TheVariants.{Through, Space, Solid}
-use Rattle.md_pattern.specs.Standing.{standing_of}
-use Rattle.md_pattern.specs.Shape.{role_for}
-use Rattle.md_tree.specs.declared.mention.Referral.{Referral}
-use Rattle.md_tree.specs.declared.mention.Referral.TheVariants.{Missing}
-use Rattle.md_pattern.specs.declared.state.State.{State}
-use Rattle.md_tree.specs.Rules.{place, target_at, broken_rule}
-use Rattle.md_tree.specs.declared.mention.Mention.TheVariants.{Nothing}
-use Rattle.md_tree.specs.Mentions.{mention_of, mentions_with}
-use Rattle.md_pattern.specs.Steps.{start_of, may_hold, advance, is_complete}
-use Rattle.md_tree.specs.Machine.{Reads, Outer, Entry, Course, entered, after_entry, after_through}
-use Rattle.md_tree.specs.Machine.{after_exit, Enters, ExitsWhere}
-use Rattle.md_tree.specs.Walk.{Passes, Unbroken, IsStopAtLeaf, IsStopInside}
 use Rattle.md_tree.proofs.Breaks.{IsStop-inside, IsStopInside-same, StopsInside-broken}
 
 -- the course inside such a node, without the node among the open ones

@@ -2,20 +2,11 @@
 -- So what is resolved among those kept is resolved among all, as the grammar requires.
 use Rattle.std.proofs.Common.{◌≡◌, ℕ, zero, suc, ◌+◌, Some, List, [], ◌∷◌, ◌++◌, refl, sym, ap, ◌∙◌}
 use Rattle.std.proofs.Common.{subst, append_assoc, append-nil, arith}
-use Rattle.std.specs.Prelude.{slice_get}
-use Rattle.std.specs.List.{All, Contains}
-use Rattle.std.proofs.lemmas.List.Elements.{All-cons, All-nil, All-head, All-tail}
-use Rattle.md_tree.specs.declared.mention.Mention.{Mention}
-use Rattle.md_tree.specs.declared.mention.Mention.TheVariants.{Nothing, Reference, Call, Definition}
-use Rattle.md_tree.specs.declared.mention.Mention.TheVariants.{FootnoteDefinition}
-use Rattle.md_tree.specs.declared.mention.Mentioned.{Mentioned}
-use Rattle.md_tree.specs.declared.mention.Referral.TheVariants.{Missing}
-use Rattle.md_base.specs.Tree.{Forest, Empty, Node}
-use Rattle.md_pattern.specs.Standing.{standing_of}
-use Rattle.md_tree.specs.Rules.{reading_of, target_of}
-use Rattle.md_pattern.specs.Partners.{index_after}
-use Rattle.md_tree.specs.Mentions.{mention_of, mentions_of, mentions_with, mentions_among}
-use Rattle.md_tree.specs.Mentions.{identifier_at, defined, footnoted, IsResolved}
+use Rattle.md_tree.proofs.Common.{slice_get, All, Contains, All-cons, All-nil, All-head, All-tail}
+use Rattle.md_tree.proofs.Common.{Mention, Nothing, Reference, Call, Definition, FootnoteDefinition}
+use Rattle.md_tree.proofs.Common.{Mentioned, Missing, Forest, Empty, Node, standing_of, reading_of}
+use Rattle.md_tree.proofs.Common.{target_of, index_after, mention_of, mentions_of, mentions_with}
+use Rattle.md_tree.proofs.Common.{mentions_among, identifier_at, defined, footnoted, IsResolved}
 use Rattle.md_tree.proofs.NodesRead.{mentions_over}
 
 -- those of these mentions that are of something, where the first is of the event at an index

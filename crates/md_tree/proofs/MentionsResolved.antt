@@ -2,22 +2,17 @@
 use Rattle.std.proofs.Common.{arith, ◌≡◌, ◌⊎◌, ℕ, suc, ◌<◌, true, false, Option, Some, None, List}
 use Rattle.std.proofs.Common.{[], ◌∷◌, length, get_or, inl, inr, true≢false, refl, sym, ap, ◌∙◌}
 use Rattle.std.proofs.Common.{subst}
-use Rattle.std.specs.Prelude.{option_map, is_some, if◌then◌else◌, slice_get, Bool, Ok, Err}
-use Rattle.std.specs.List.{Contains}
+use Rattle.std.specs.Prelude.{Bool}
 use Rattle.std.specs.Option.{ok_or}
-use Rattle.std.proofs.lemmas.List.{get_or-map}
 use Rattle.std.proofs.lemmas.List.Elements.{Contains-append_right, Contains-append_cases}
 use Rattle.std.proofs.lemmas.List.Elements.{Contains-push_cases}
-use Rattle.std.proofs.lemmas.Option.{slice_get-get_or}
-use Rattle.md_base.specs.declared.event.Position.{Position}
-use Rattle.md_tree.specs.declared.mention.Mention.{Mention}
-use Rattle.md_tree.specs.declared.mention.Mention.TheVariants.{Reference, Call}
-use Rattle.md_tree.specs.declared.mention.Mentioned.{Mentioned}
-use Rattle.md_tree.specs.declared.rule.Rule.{Rule}
+use Rattle.md_tree.proofs.Common.{option_map, is_some, if◌then◌else◌, slice_get, Ok, Err, Contains}
+use Rattle.md_tree.proofs.Common.{get_or-map, slice_get-get_or, Position, Mention, Reference, Call}
+use Rattle.md_tree.proofs.Common.{Mentioned, Rule, identifier_at, defined, footnoted}
+use Rattle.md_tree.proofs.Common.{mentions_among, IsResolved, is_same, which, number_of}
+use Rattle.md_tree.proofs.Common.{IsUnresolvedBy}
 use Rattle.md_tree.specs.declared.rule.Rule.TheVariants as rule
-use Rattle.md_tree.specs.Mentions.{identifier_at, defined, footnoted, mentions_among, IsResolved}
-use Rattle.md_tree.specs.Numbers.{is_same, which, number_of, IsNowhere, RefersTo}
-use Rattle.md_tree.specs.Resolve.{IsUnresolvedBy}
+use Rattle.md_tree.specs.Numbers.{IsNowhere, RefersTo}
 use Rattle.md_tree.proofs.OneMoreIdentifier.{Identifier, same-is, same-self}
 
 -- ---- the target of a mention

@@ -1,21 +1,12 @@
 -- Claims on nodes, one from another: that they have their shape, and that they meet the rules.
 use Rattle.std.proofs.Common.{◌≡◌, ℕ, Option, None, List, [], ◌∷◌, refl}
-use Rattle.md_base.specs.declared.event.Point.{Point}
-use Rattle.md_pattern.specs.declared.kinds.Symbol.{Symbol}
-use Rattle.md_pattern.specs.declared.kinds.Role.{Role}
-use Rattle.md_pattern.specs.declared.kinds.Standing.{Standing}
-use Rattle.md_pattern.specs.declared.kinds.Standing.TheVariants.{Through, Space, Solid, Mdx}
-use Rattle.md_tree.specs.declared.mention.Referral.{Referral}
-use Rattle.md_tree.specs.declared.mention.Referral.TheVariants.{Missing}
-use Rattle.md_base.specs.Tree.{Forest, Empty, Node}
-use Rattle.md_pattern.specs.Standing.{standing_of}
-use Rattle.md_pattern.specs.Spine.{spine, shown}
-use Rattle.md_pattern.specs.Shape.{Claim, EachNode, IsShapedNode, AreShaped, inner_role}
-use Rattle.md_pattern.specs.Shape.{inner_before, last_symbol}
-use Rattle.md_tree.specs.Rules.{reading_of, broken_rule, MeetsRules, MeetRules, target_of}
-use Rattle.md_tree.specs.Refusal.{Level, role_in, before_in, IsShapedPath}
-use Rattle.md_tree.specs.Machine.{Reads}
-use Rattle.md_tree.specs.Walk.{Anything, Unbroken}
+use Rattle.md_tree.proofs.Common.{Point, Symbol, Role, Standing, Through, Space, Solid, Mdx}
+use Rattle.md_tree.proofs.Common.{Referral, Missing, Forest, Empty, Node, standing_of, spine, shown}
+use Rattle.md_tree.proofs.Common.{Claim, EachNode, IsShapedNode, AreShaped, inner_role}
+use Rattle.md_tree.proofs.Common.{inner_before, last_symbol, reading_of, broken_rule, MeetRules}
+use Rattle.md_tree.proofs.Common.{target_of, Level, role_in, before_in, Reads, Anything, Unbroken}
+use Rattle.md_tree.specs.Rules.{MeetsRules}
+use Rattle.md_tree.specs.Refusal.{IsShapedPath}
 use Rattle.md_tree.proofs.NodesRead.{IsReadWhere, IsFine, AllowsFree}
 use Rattle.md_tree.proofs.Trees.{EachNode-map}
 use Rattle.md_tree.proofs.OpenPaths.{IsFinePath}

@@ -1,31 +1,14 @@
 -- A node that is fine is read: it is entered, its children are read, and it is left.
 use Rattle.std.proofs.Common.{◌≡◌, ◌≢◌, ℕ, suc, true, cond, Option, Some, None, MatchOption, List}
 use Rattle.std.proofs.Common.{refl, sym, ap, ◌∙◌, subst}
-use Rattle.std.specs.Prelude.{option_map}
-use Rattle.md_base.specs.declared.event.Point.{Point}
-use Rattle.md_base.specs.declared.event.Name.{Name}
-use Rattle.md_pattern.specs.declared.kinds.Symbol.{Symbol}
-use Rattle.md_pattern.specs.declared.kinds.Role.{Role}
-use Rattle.md_pattern.specs.declared.kinds.Role.TheVariants.{Childless}
-use Rattle.md_pattern.specs.declared.kinds.Reading.{Reading}
-use Rattle.md_pattern.specs.declared.kinds.Reading.TheVariants.{Free}
-use Rattle.md_pattern.specs.declared.kinds.Standing.{Standing}
-use Rattle.md_pattern.specs.declared.kinds.Standing.TheVariants.{Through, Space, Solid, Mdx}
-use Rattle.md_tree.specs.declared.mention.Referral.{Referral}
-use Rattle.md_tree.specs.declared.mention.Referral.TheVariants.{Missing}
-use Rattle.md_tree.specs.declared.mention.Mentioned.{Mentioned}
-use Rattle.md_pattern.specs.declared.state.State.{State}
-use Rattle.md_tree.specs.Machine.{Entry}
-use Rattle.md_base.specs.Tree.{Forest, Empty, Node, flatten}
-use Rattle.md_pattern.specs.Standing.{standing_of}
-use Rattle.md_pattern.specs.Spine.{spine, shown, Matches}
-use Rattle.md_pattern.specs.Shape.{Claim, EachNode, IsShapedNode, IsStanding, inner_role}
-use Rattle.md_pattern.specs.Shape.{inner_before, role_for}
-use Rattle.md_tree.specs.Rules.{reading_of, place, target_after, target_of}
-use Rattle.md_tree.specs.Mentions.{mention_of, mentions_with}
-use Rattle.md_pattern.specs.Partners.{index_after}
-use Rattle.md_pattern.specs.Steps.{may_hold, start_of, advance}
-use Rattle.md_tree.specs.Machine.{Reads, Course, Runs, Exits, after_entry, entered, entered_on}
+use Rattle.md_tree.proofs.Common.{option_map, Point, Name, Symbol, Role, Childless, Reading, Free}
+use Rattle.md_tree.proofs.Common.{Standing, Through, Space, Solid, Mdx, Referral, Missing}
+use Rattle.md_tree.proofs.Common.{Mentioned, State, Entry, Forest, Empty, Node, flatten}
+use Rattle.md_tree.proofs.Common.{standing_of, spine, shown, Matches, Claim, EachNode, IsShapedNode}
+use Rattle.md_tree.proofs.Common.{IsStanding, inner_role, inner_before, role_for, reading_of, place}
+use Rattle.md_tree.proofs.Common.{target_after, target_of, mention_of, mentions_with, index_after}
+use Rattle.md_tree.proofs.Common.{may_hold, start_of, advance, Reads, Course, Runs, Exits}
+use Rattle.md_tree.proofs.Common.{after_entry, entered, entered_on}
 use Rattle.md_tree.proofs.Spots.{Feeds, advance_role}
 use Rattle.md_tree.proofs.Groups.{Feeds-matches}
 

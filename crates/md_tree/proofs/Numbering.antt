@@ -3,21 +3,17 @@
 use Rattle.std.proofs.Common.{arith, ◌≡◌, ℕ, zero, suc, ◌+◌, ◌<◌, ◌≤◌, true, false, cond, Option}
 use Rattle.std.proofs.Common.{Some, None, List, [], ◌∷◌, ◌++◌, length, get_or, drop, refl, sym, ap}
 use Rattle.std.proofs.Common.{◌∙◌, subst}
-use Rattle.std.specs.Prelude.{option_map, if◌then◌else◌, set, slice_get}
+use Rattle.std.specs.Prelude.{set}
 use Rattle.std.specs.BTreeMap.{UpdatesBy}
 use Rattle.std.proofs.lemmas.List.{at_drop_more}
-use Rattle.md_base.specs.declared.event.Position.{Position}
-use Rattle.md_pattern.specs.declared.facts.Fact.{Fact}
-use Rattle.md_tree.specs.declared.mention.Mention.{Mention}
-use Rattle.md_tree.specs.declared.mention.Mention.TheVariants.{Nothing, Reference, Call, Definition}
-use Rattle.md_tree.specs.declared.mention.Mention.TheVariants.{FootnoteDefinition}
-use Rattle.md_tree.specs.declared.mention.Mentioned.{Mentioned}
-use Rattle.md_tree.specs.Mentions.{defined, defined_by, footnoted_by, mentions_among}
-use Rattle.md_tree.specs.Numbers.{is_same, which, with_number, put_number, numbered}
-use Rattle.md_tree.specs.Numbers.{found_in, NumbersFrom, IdentifiersBefore}
+use Rattle.md_tree.proofs.Common.{option_map, if◌then◌else◌, slice_get, Position, Fact, Mention}
+use Rattle.md_tree.proofs.Common.{Nothing, Reference, Call, Definition, FootnoteDefinition}
+use Rattle.md_tree.proofs.Common.{Mentioned, defined, defined_by, footnoted_by, mentions_among}
+use Rattle.md_tree.proofs.Common.{is_same, which, with_number, put_number, numbered, NumbersFrom}
+use Rattle.md_tree.proofs.Common.{IdentifiersBefore}
+use Rattle.md_tree.specs.Numbers.{found_in}
 use Rattle.md_tree.proofs.OneMoreIdentifier.{Text, Identifier, identifier_of, text_cmp, Numbered}
-use Rattle.md_tree.proofs.OneMoreIdentifier.{Known}
-use Rattle.md_tree.proofs.OneMoreIdentifier.{compared}
+use Rattle.md_tree.proofs.OneMoreIdentifier.{Known, compared}
 
 -- ---- definitions from the last on
 one_later : (before place : ℕ) → suc (suc before + place) ≡ suc (before + suc place)

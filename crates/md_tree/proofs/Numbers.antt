@@ -1,30 +1,17 @@
 -- What is kept of a document's events: what is found at them, with a number at each
 -- exit of a mention.
-use Rattle.std.proofs.Common.{◌≡◌, ℕ, zero, suc, true, Option, Some, None, List, [], ◌∷◌}
-use Rattle.std.proofs.Common.{◌++◌, length, refl, sym, ap, ◌∙◌, subst}
-use Rattle.std.specs.Prelude.{map, slice_get, option_map}
-use Rattle.md_base.specs.declared.event.Name.{Name}
+use Rattle.std.proofs.Common.{◌≡◌, ℕ, zero, suc, true, Option, Some, None, List, [], ◌∷◌, ◌++◌}
+use Rattle.std.proofs.Common.{length, refl, sym, ap, ◌∙◌, subst}
+use Rattle.md_tree.proofs.Common.{map, slice_get, option_map, Name, Enter, Exit, Event, Fact}
+use Rattle.md_tree.proofs.Common.{index_after, facts_at, facts_of, fact_at, partner_alone}
+use Rattle.md_tree.proofs.Common.{tables_with, tables_after, facts-flatten, standing_of, Forest}
+use Rattle.md_tree.proofs.Common.{Empty, Node, flatten, entering, exiting, lie, Referral, Missing}
+use Rattle.md_tree.proofs.Common.{Resource, Label, Mention, Nothing, Reference, reading_of}
+use Rattle.md_tree.proofs.Common.{target_of, position_from, partner_event, position_there}
+use Rattle.md_tree.proofs.Common.{position_at, position_ended, mention_of, mentions_of, number_of}
+use Rattle.md_tree.proofs.Common.{with_number, number_for, facts_with, place_of, definition_for}
+use Rattle.md_tree.proofs.Common.{is_of_definitions}
 use Rattle.md_base.specs.declared.event.Name.TheVariants.{Link, Image}
-use Rattle.md_base.specs.declared.event.Kind.TheVariants.{Enter, Exit}
-use Rattle.md_base.specs.declared.event.Event.{Event}
-use Rattle.md_pattern.specs.declared.facts.Fact.{Fact}
-use Rattle.md_pattern.specs.Partners.{index_after}
-use Rattle.md_pattern.specs.Facts.{facts_at, facts_of, fact_at, partner_alone, tables_with}
-use Rattle.md_pattern.specs.Facts.{tables_after}
-use Rattle.md_pattern.proofs.Passing.{facts-flatten}
-use Rattle.md_pattern.specs.Standing.{standing_of}
-use Rattle.md_base.specs.Tree.{Forest, Empty, Node, flatten, entering, exiting}
-use Rattle.md_base.proofs.Lies.{lie}
-use Rattle.md_tree.specs.declared.mention.Referral.{Referral}
-use Rattle.md_tree.specs.declared.mention.Referral.TheVariants.{Missing, Resource, Label}
-use Rattle.md_tree.specs.declared.mention.Mention.{Mention}
-use Rattle.md_tree.specs.declared.mention.Mention.TheVariants.{Nothing, Reference}
-use Rattle.md_tree.specs.Rules.{reading_of, target_of}
-use Rattle.md_tree.specs.Found.{position_from, partner_event, position_there, position_at}
-use Rattle.md_tree.specs.Found.{position_ended}
-use Rattle.md_tree.specs.Mentions.{mention_of, mentions_of}
-use Rattle.md_tree.specs.Numbers.{number_of, with_number, number_for, facts_with, place_of}
-use Rattle.md_tree.specs.Numbers.{definition_for, is_of_definitions}
 
 -- ---- what doesn't change by numbers
 partner_with : (number : ℕ) (fact : Fact) → Fact.partner (with_number number fact) ≡ fact.partner

@@ -1,15 +1,10 @@
 -- Numbers written one by one are those of the list.
 use Rattle.std.proofs.Common.{◌≡◌, ℕ, suc, ◌≤◌, List, [], ◌∷◌, ◌++◌, length, refl, sym, ap, ◌∙◌}
 use Rattle.std.proofs.Common.{append_assoc, append-nil, arith}
-use Rattle.std.specs.Prelude.{map}
-use Rattle.md_pattern.specs.declared.facts.Fact.{Fact}
-use Rattle.md_tree.specs.declared.mention.Mention.{Mention}
-use Rattle.md_tree.specs.declared.mention.Mention.TheVariants.{Nothing, Reference, Call, Definition}
-use Rattle.md_tree.specs.declared.mention.Mention.TheVariants.{FootnoteDefinition}
-use Rattle.md_tree.specs.Mentions.{mentions_among, identifier_at}
-use Rattle.md_tree.specs.Numbers.{which, number_of, with_number, put_number, numbered}
-use Rattle.md_tree.specs.Numbers.{number_for}
-use Rattle.md_tree.specs.Numbers.{facts_with}
+use Rattle.md_tree.proofs.Common.{map, Fact, Mention, Nothing, Reference, Call, Definition}
+use Rattle.md_tree.proofs.Common.{FootnoteDefinition, mentions_among, identifier_at, which}
+use Rattle.md_tree.proofs.Common.{number_of, with_number, put_number, numbered, number_for}
+use Rattle.md_tree.proofs.Common.{facts_with}
 use Rattle.md_tree.proofs.Listing.{listed, defined_listed}
 use Rattle.md_tree.proofs.Numbering.{put-none, put-past}
 

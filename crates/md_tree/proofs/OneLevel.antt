@@ -2,27 +2,15 @@
 use denote.Enum.Bare.{sameb}
 use Rattle.std.proofs.Common.{◌≡◌, Bool, true, false, ◌||◌, cond, Option, List, [], ◌∷◌, ◌++◌, refl}
 use Rattle.std.proofs.Common.{sym, ap, ◌∙◌, subst}
-use Rattle.std.specs.List.{list_all}
-use Rattle.std.proofs.lemmas.List.Folds.{list_all-append}
-use Rattle.md_pattern.specs.contracts.kinds.Symbol.{the_type}
-use Rattle.md_base.specs.declared.event.AlignKind.{AlignKind}
-use Rattle.md_base.specs.declared.event.Name.{Name}
-use Rattle.md_base.specs.declared.event.Name.TheVariants.{GfmTableHead, GfmTableDelimiterCellValue}
-use Rattle.md_pattern.specs.declared.kinds.Symbol.{Symbol}
+use Rattle.md_tree.proofs.Common.{list_all, list_all-append, the_type, AlignKind, Name}
+use Rattle.md_tree.proofs.Common.{GfmTableHead, GfmTableDelimiterCellValue, Symbol, Role, Standing}
+use Rattle.md_tree.proofs.Common.{Through, Space, Solid, Mdx, Forest, Empty, Node, is_transparent}
+use Rattle.md_tree.proofs.Common.{is_table_head, is_delimiter_row, standing_of, spine, shown}
+use Rattle.md_tree.proofs.Common.{EachNode, IsShapedNode, IsStanding, inner_role, inner_before}
+use Rattle.md_tree.proofs.Common.{last_symbol, alignment_of, alignments, in_each}
 use Rattle.md_pattern.specs.declared.kinds.Symbol.TheVariants as symbol
-use Rattle.md_pattern.specs.declared.kinds.Role.{Role}
-use Rattle.md_pattern.specs.declared.kinds.Standing.{Standing}
-use Rattle.md_pattern.specs.declared.kinds.Standing.TheVariants.{Through, Space, Solid, Mdx}
-use Rattle.md_base.specs.Tree.{Forest, Empty, Node}
-use Rattle.md_base.specs.NameTests.{is_transparent, is_table_head, is_delimiter_row}
 use Rattle.md_base.specs.NameTests.{leads_to_values}
 use Rattle.md_base.specs.Is.{is as is_named}
-use Rattle.md_pattern.specs.Standing.{standing_of}
-use Rattle.md_pattern.specs.Spine.{spine, shown}
-use Rattle.md_pattern.specs.Shape.{EachNode, IsShapedNode, IsStanding, inner_role, inner_before}
-use Rattle.md_pattern.specs.Shape.{last_symbol}
-use Rattle.md_pattern.specs.Alignments.{alignment_of, alignments}
-use Rattle.md_tree.specs.Tables.{in_each}
 use Rattle.md_tree.proofs.SettledPatterns.{and_left, and_right}
 
 -- ---- names by their symbols

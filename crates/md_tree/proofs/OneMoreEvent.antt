@@ -1,20 +1,11 @@
 -- One more event is read: the walk, the pass and the first line ending match all events so far, or
 -- the event stops the walk and is refused.
 use Rattle.std.proofs.Common.{◌≡◌, ℕ, suc, add-one, List, Some, sym, ap, ◌∙◌, subst, take}
-use Rattle.std.specs.Prelude.{slice_get}
-use Rattle.std.proofs.lemmas.Option.{slice_get_within, get_or_from_slice_get}
-use Rattle.md_base.specs.declared.event.Event.{Event}
-use Rattle.md_pattern.specs.Ending.{first_index, ending_after}
-use Rattle.md_pattern.specs.Facts.{passed, passed_over, pass_beginning}
-use Rattle.md_pattern.proofs.FirstIndex.{first_index-more}
-use Rattle.md_pattern.proofs.Passing.{passed_more}
+use Rattle.md_tree.proofs.Common.{slice_get, slice_get_within, get_or_from_slice_get, Event}
+use Rattle.md_tree.proofs.Common.{first_index, ending_after, passed, passed_over, pass_beginning}
+use Rattle.md_tree.proofs.Common.{first_index-more, passed_more, CompileError, Handed, Course, Runs}
+use Rattle.md_tree.proofs.Common.{Steps, beginning, HasRead, IsRefusal, course_of, Unbroken, IsStop}
 use Rattle.md_tree.specs.declared.reader.Reader.{Reader}
-use Rattle.md_tree.specs.declared.rule.CompileError.{CompileError}
-use Rattle.md_tree.specs.Grammar.{Handed}
-use Rattle.md_tree.specs.Machine.{Course, Runs, Steps, beginning}
-use Rattle.md_tree.specs.Reader.{HasRead}
-use Rattle.md_tree.specs.Refusal.{IsRefusal}
-use Rattle.md_tree.specs.Walk.{course_of, Unbroken, IsStop}
 use Rattle.md_tree.proofs.Checking.{Runs-more}
 use Rattle.md_tree.proofs.Stopped.{IsRefusal-stopped}
 

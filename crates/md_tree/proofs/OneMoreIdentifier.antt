@@ -1,7 +1,7 @@
 -- Identifiers that are the same, and a set of them with one more.
-use Rattle.std.proofs.Common.{◌≡◌, ℕ, suc, Bool, true, false, cond, Option, Some, None}
-use Rattle.std.proofs.Common.{List, ◌∷◌, refl, ap, ◌∙◌}
-use Rattle.std.specs.Prelude.{option_map, is_some, ◌||◌, string_bytes, String, if◌then◌else◌}
+use Rattle.std.proofs.Common.{◌≡◌, ℕ, suc, Bool, true, false, cond, Option, Some, None, List, ◌∷◌}
+use Rattle.std.proofs.Common.{refl, ap, ◌∙◌}
+use Rattle.std.specs.Prelude.{◌||◌, string_bytes, String}
 use Rattle.std.specs.Option.{option_cmp}
 use Rattle.std.specs.String.{string_cmp}
 use Rattle.std.specs.Ordering.{is_eq}
@@ -11,7 +11,8 @@ use Rattle.std.specs.BTreeMap.{BTreeMap}
 use Rattle.std.specs.BTreeSet.{BTreeSet, contains, Updates}
 use Rattle.std.proofs.lemmas.Map.Text.{is_eq-slice_cmp}
 use Rattle.std.proofs.lemmas.Slice.Eq.{bytes_eq-Decides}
-use Rattle.md_tree.specs.Numbers.{is_same, which, IdentifiersBefore}
+use Rattle.md_tree.proofs.Common.{option_map, is_some, if◌then◌else◌, is_same, which}
+use Rattle.md_tree.proofs.Common.{IdentifiersBefore}
 
 abbrev pub Text : Type 0
 Text = Option (String Global)

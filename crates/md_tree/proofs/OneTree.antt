@@ -1,9 +1,7 @@
 -- A list of events is the flattening of at most one document.
 use Rattle.std.proofs.Common.{◌≡◌, List, [], ◌∷◌, ◌++◌, refl, sym, ap, ◌∙◌, append_assoc}
-use Rattle.md_base.specs.declared.event.Point.{Point}
-use Rattle.md_base.specs.declared.event.Name.{Name}
-use Rattle.md_base.specs.declared.event.Event.{Event}
-use Rattle.md_base.specs.Tree.{Forest, Empty, Node, flatten, entering, exiting}
+use Rattle.md_tree.proofs.Common.{Point, Name, Event, Forest, Empty, Node, flatten, entering}
+use Rattle.md_tree.proofs.Common.{exiting}
 
 event_parts : (one other : Event) → one ≡ other → (one.kind ≡ other.kind) × (one.name ≡ other.name)
     × (one.point ≡ other.point)

@@ -1,25 +1,13 @@
 -- The open nodes of a course are those of a path: where a course stands after some events.
 use Rattle.std.proofs.Common.{◌≡◌, Bool, true, false, cond, Option, Some, None, List, [], ◌∷◌, ◌++◌}
 use Rattle.std.proofs.Common.{refl, sym, ap, ◌∙◌, subst, append_assoc}
-use Rattle.md_base.specs.declared.event.Event.{Event}
-use Rattle.md_pattern.specs.declared.kinds.Symbol.{Symbol}
-use Rattle.md_pattern.specs.declared.kinds.Role.{Role}
-use Rattle.md_pattern.specs.declared.kinds.Role.TheVariants.{Flow, Childless}
-use Rattle.md_pattern.specs.declared.kinds.Reading.TheVariants.{Free}
-use Rattle.md_pattern.specs.declared.kinds.Standing.{Standing}
-use Rattle.md_pattern.specs.declared.kinds.Standing.TheVariants.{Through, Space, Solid, Mdx}
-use Rattle.md_tree.specs.declared.mention.Referral.{Referral}
-use Rattle.md_tree.specs.declared.mention.Referral.TheVariants.{Missing}
-use Rattle.md_pattern.specs.declared.state.State.{State}
-use Rattle.md_tree.specs.Machine.{Entry, Open, Outer}
-use Rattle.md_base.specs.Tree.{Forest, Empty, Node, flatten, entering, exiting}
-use Rattle.md_pattern.specs.Standing.{standing_of}
-use Rattle.md_pattern.specs.Spine.{spine, shown}
-use Rattle.md_pattern.specs.Shape.{Claim, EachNode, inner_role, inner_before, last_symbol, role_for}
-use Rattle.md_tree.specs.Rules.{place, target_after, target_of}
-use Rattle.md_tree.specs.Refusal.{Level, opening, role_in, before_in, symbol_after}
-use Rattle.md_pattern.specs.Steps.{may_hold, start_of, advance}
-use Rattle.md_tree.specs.Machine.{Reads, Course, entered, entered_on, beginning}
+use Rattle.md_tree.proofs.Common.{Event, Symbol, Role, Flow, Childless, Free, Standing, Through}
+use Rattle.md_tree.proofs.Common.{Space, Solid, Mdx, Referral, Missing, State, Entry, Open, Outer}
+use Rattle.md_tree.proofs.Common.{Forest, Empty, Node, flatten, entering, exiting, standing_of}
+use Rattle.md_tree.proofs.Common.{spine, shown, Claim, EachNode, inner_role, inner_before}
+use Rattle.md_tree.proofs.Common.{last_symbol, role_for, place, target_after, target_of, Level}
+use Rattle.md_tree.proofs.Common.{opening, role_in, before_in, symbol_after, may_hold, start_of}
+use Rattle.md_tree.proofs.Common.{advance, Reads, Course, entered, entered_on, beginning}
 use Rattle.md_tree.proofs.Spots.{Feeds, option_map-some}
 use Rattle.md_tree.proofs.NodesRead.{IsFine}
 use Rattle.md_tree.proofs.Trees.{Feeds-context}

@@ -1,21 +1,11 @@
 -- What has been read is whole nodes and open ones.
 use Rattle.std.proofs.Common.{◌≡◌, true, Option, Some, None, List, [], ◌∷◌, ◌++◌, refl, sym, ap}
 use Rattle.std.proofs.Common.{◌∙◌, subst, append_assoc, append-nil}
-use Rattle.md_base.specs.declared.event.Point.{Point}
-use Rattle.md_base.specs.declared.event.Name.{Name}
-use Rattle.md_base.specs.declared.event.Event.{Event}
-use Rattle.md_tree.specs.declared.mention.Referral.{Referral}
-use Rattle.md_pattern.specs.declared.state.State.{State}
-use Rattle.md_tree.specs.Machine.{Entry, Open, Outer}
-use Rattle.md_base.specs.Tree.{Forest, Empty, Node, flatten, entering, exiting}
-use Rattle.md_pattern.specs.Standing.{standing_of}
-use Rattle.md_pattern.specs.Spine.{spine, shown}
-use Rattle.md_pattern.specs.Shape.{EachNode, inner_role, inner_before}
-use Rattle.md_tree.specs.Rules.{target_of}
-use Rattle.md_tree.specs.Refusal.{Level, opening, role_in, before_in}
-use Rattle.md_pattern.specs.Steps.{may_hold}
-use Rattle.md_tree.specs.Machine.{Reads, Course, Exits, ExitsWhere, after_entry, entered}
-use Rattle.md_tree.specs.Machine.{entered_on}
+use Rattle.md_tree.proofs.Common.{Point, Name, Event, Referral, State, Entry, Open, Outer, Forest}
+use Rattle.md_tree.proofs.Common.{Empty, Node, flatten, entering, exiting, standing_of, spine}
+use Rattle.md_tree.proofs.Common.{shown, EachNode, inner_role, inner_before, target_of, Level}
+use Rattle.md_tree.proofs.Common.{opening, role_in, before_in, may_hold, Reads, Course, Exits}
+use Rattle.md_tree.proofs.Common.{ExitsWhere, after_entry, entered, entered_on}
 use Rattle.md_tree.proofs.Spots.{Feeds, Feeds-append}
 use Rattle.md_tree.proofs.NodesRead.{IsFine}
 use Rattle.md_tree.proofs.Trees.{Feeds-context}

@@ -2,24 +2,13 @@
 -- finds the position in the tree: `reads` of `Checked` depends on it.
 use Rattle.std.proofs.Common.{◌≡◌, ℕ, suc, ◌+◌, Some, List, [], ◌∷◌, ◌++◌, length, get_or, refl}
 use Rattle.std.proofs.Common.{sym, ap, ◌∙◌, subst, append_assoc, append-nil, arith}
-use Rattle.std.specs.Prelude.{slice_get}
-use Rattle.std.specs.List.{All}
-use Rattle.std.proofs.lemmas.List.Elements.{All-cons, All-append, All-nil}
-use Rattle.md_base.specs.declared.event.Name.{Name}
-use Rattle.md_base.specs.declared.event.Point.{Point}
-use Rattle.md_base.specs.declared.event.Event.{Event}
-use Rattle.md_pattern.specs.declared.facts.Fact.{Fact}
-use Rattle.md_base.specs.Tree.{Forest, Empty, Node, flatten, entering, exiting}
-use Rattle.md_tree.specs.Rules.{place}
-use Rattle.md_tree.specs.Grammar.{Handed}
-use Rattle.md_tree.specs.Texts.{EntersAt}
-use Rattle.md_tree.specs.Entered.{IsEnteredAt}
-use Rattle.md_pattern.specs.Partners.{index_after}
-use Rattle.md_pattern.specs.Facts.{partner_alone, tables_with, tables_after, fact_at, facts_of}
-use Rattle.md_pattern.specs.Facts.{facts_at}
-use Rattle.md_tree.specs.Found.{position_from, partner_event, position_there, position_at}
-use Rattle.md_pattern.proofs.CountedFacts.{length_one, length_facts, regrouped}
-use Rattle.md_pattern.proofs.Passing.{facts-flatten}
+use Rattle.md_tree.proofs.Common.{slice_get, All, All-cons, All-append, All-nil, Name, Point, Event}
+use Rattle.md_tree.proofs.Common.{Fact, Forest, Empty, Node, flatten, entering, exiting, place}
+use Rattle.md_tree.proofs.Common.{Handed, EntersAt, IsEnteredAt, index_after, partner_alone}
+use Rattle.md_tree.proofs.Common.{tables_with, tables_after, fact_at, facts_of, facts_at}
+use Rattle.md_tree.proofs.Common.{position_from, partner_event, position_there, position_at}
+use Rattle.md_tree.proofs.Common.{length_one, facts-flatten}
+use Rattle.md_pattern.proofs.CountedFacts.{length_facts, regrouped}
 use Rattle.md_tree.proofs.EventRows.{Row, entry_row, exit_row, rows_of, numbered_rows, numbered_get}
 use Rattle.md_tree.proofs.Entering.{get_at, past_row, inside_rows, children_there}
 use Rattle.md_tree.proofs.Searching.{AllAt}

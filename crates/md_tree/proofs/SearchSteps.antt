@@ -1,25 +1,17 @@
 -- One step of a search: from the state before a node to the state after it.
 use Rattle.std.proofs.Common.{◌≡◌, ℕ, Bool, true, false, cond, Option, Some, None, refl, ap, ◌∙◌}
-use Rattle.std.specs.Prelude.{unwrap_or}
-use Rattle.md_base.specs.declared.event.Name.{Name}
+use Rattle.md_tree.proofs.Common.{unwrap_or, Name, Point, Position, Wanted, Sought, Forest}
+use Rattle.md_tree.proofs.Common.{is_heading_mark, is_item, is_item_prefix, is_item_value, is_label}
+use Rattle.md_tree.proofs.Common.{is_label_text, is_reference, is_definition_label}
+use Rattle.md_tree.proofs.Common.{is_footnote_prefix, is_footnote_label, or_else, first_on_spine}
+use Rattle.md_tree.proofs.Common.{place, first_place, number_in}
 use Rattle.md_base.specs.declared.event.Name.TheVariants as name_variants
 use name_variants.{Label, ReferenceString}
-use Rattle.md_base.specs.declared.event.Point.{Point}
-use Rattle.md_base.specs.declared.event.Position.{Position}
-use Rattle.md_pattern.specs.declared.seeking.Wanted.{Wanted}
 use Rattle.md_pattern.specs.declared.seeking.Wanted.TheVariants as want
 use Rattle.md_pattern.specs.declared.seeking.Found.{Found}
 use Rattle.md_pattern.specs.declared.seeking.Found.TheVariants as so_far
 use Rattle.md_pattern.specs.declared.seeking.Sight.TheVariants as looks
-use Rattle.md_pattern.specs.declared.seeking.Sought.{Sought}
-use Rattle.md_base.specs.Tree.{Forest}
-use Rattle.md_base.specs.NameTests.{is_heading_mark, is_item, is_item_prefix, is_item_value}
-use Rattle.md_base.specs.NameTests.{is_label, is_label_text, is_reference, is_definition_label}
-use Rattle.md_base.specs.NameTests.{is_footnote_prefix, is_footnote_label}
-use Rattle.md_base.specs.Children.{or_else, first_on_spine}
-use Rattle.md_tree.specs.Rules.{place}
 use Rattle.md_pattern.specs.Seeking.{sight, first_where, refer_where, seen_as}
-use Rattle.md_tree.specs.Reads.{first_place, number_in}
 
 -- which node a search stops at, and what it finds there
 abbrev pub seeks : Wanted → Name → Bool

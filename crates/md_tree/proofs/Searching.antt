@@ -1,24 +1,17 @@
 -- The search over a spine finds the place that a name reads.
 use Rattle.std.proofs.Common.{◌≡◌, ℕ, suc, Bool, true, false, cond, Some, None, refl, ap, sym, ◌∙◌}
 use Rattle.std.proofs.Common.{subst}
-use Rattle.std.specs.Prelude.{unwrap_or}
-use Rattle.md_base.specs.declared.event.Name.{Name}
+use Rattle.md_tree.proofs.Common.{unwrap_or, Name, Point, Wanted, Sought, Forest, Empty, Node}
+use Rattle.md_tree.proofs.Common.{is_transparent, is_heading_mark, is_item, is_item_prefix}
+use Rattle.md_tree.proofs.Common.{is_item_value, is_label, is_label_text, is_reference}
+use Rattle.md_tree.proofs.Common.{is_definition_label, is_footnote_prefix, is_footnote_label, lie}
+use Rattle.md_tree.proofs.Common.{place, index_after, wanted_by, search_of, sought_over, reads}
+use Rattle.md_tree.proofs.Common.{is_reader}
 use Rattle.md_base.specs.declared.event.Name.TheVariants as name_variants
 use name_variants.{BlockQuotePrefix, SpaceOrTab, Other}
-use Rattle.md_base.specs.declared.event.Point.{Point}
-use Rattle.md_pattern.specs.declared.seeking.Wanted.{Wanted}
 use Rattle.md_pattern.specs.declared.seeking.Wanted.TheVariants as want
-use Rattle.md_pattern.specs.declared.seeking.Sought.{Sought}
-use Rattle.md_base.specs.Tree.{Forest, Empty, Node}
-use Rattle.md_base.specs.NameTests.{is_transparent, is_heading_mark, is_item, is_item_prefix}
-use Rattle.md_base.specs.NameTests.{is_item_value, is_label, is_label_text, is_reference}
-use Rattle.md_base.specs.NameTests.{is_definition_label, is_footnote_prefix, is_footnote_label}
-use Rattle.md_base.proofs.Lies.{lie}
-use Rattle.md_tree.specs.Rules.{place}
-use Rattle.md_pattern.specs.Partners.{index_after}
-use Rattle.md_pattern.specs.Seeking.{wanted_by, search_of, seen}
-use Rattle.md_pattern.specs.Facts.{sought_inside, sought_after, sought_over}
-use Rattle.md_tree.specs.Reads.{reads, is_reader}
+use Rattle.md_pattern.specs.Seeking.{seen}
+use Rattle.md_pattern.specs.Facts.{sought_inside, sought_after}
 use Rattle.md_tree.proofs.SearchSteps.{seeks, refers, At, spot, reference, Searched, finds}
 use Rattle.md_tree.proofs.SearchSteps.{solid_step, joined, nothing}
 use Rattle.md_tree.proofs.FoundPlaces.{found_in, held, reader_finds}

@@ -1,18 +1,9 @@
 -- Settled patterns: after an item that may be left out, each later item that takes one of its
 -- symbols may be there any number of times.
-use denote.Enum.Bare.{sameb}
+use denote.Enum.Bare.{sameb, same_true}
 use Rattle.std.proofs.Common.{◌≡◌, Bool, true, false, not, ◌&&◌, ◌||◌, List, [], ◌∷◌, refl, subst}
-use Rattle.std.specs.List.{list_all, list_any}
-use denote.Enum.Bare.{same_true}
-use Rattle.md_pattern.specs.contracts.kinds.Symbol.{the_type}
-use Rattle.md_pattern.specs.declared.kinds.Symbol.{Symbol}
-use Rattle.md_pattern.specs.declared.kinds.Role.{Role}
-use Rattle.md_pattern.specs.declared.kinds.Role.TheVariants.{Flow}
-use Rattle.md_pattern.specs.declared.kinds.Class.{Class}
-use Rattle.md_pattern.specs.declared.kinds.Item.{Item}
-use Rattle.md_pattern.specs.declared.kinds.Item.TheVariants.{Many}
-use Rattle.md_pattern.specs.Pattern.{members, class_of, takes, pattern_of}
-use Rattle.md_pattern.specs.Steps.{is_optional}
+use Rattle.md_tree.proofs.Common.{list_all, list_any, the_type, Symbol, Role, Flow, Class, Item}
+use Rattle.md_tree.proofs.Common.{Many, members, class_of, takes, pattern_of, is_optional}
 
 pub and_left : (a b : Bool) → (a && b) ≡ true → a ≡ true
 and_left true b e = refl

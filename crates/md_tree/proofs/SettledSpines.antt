@@ -1,22 +1,10 @@
 -- Open nodes wait for spines on which nodes may stand, and no event leaves this.
 use Rattle.std.proofs.Common.{◌≡◌, Bool, true, false, cond, Option, Some, None, MatchOption, List}
 use Rattle.std.proofs.Common.{[], ◌∷◌, refl, sym, ◌∙◌, subst}
-use Rattle.md_base.specs.declared.event.Point.{Point}
-use Rattle.md_base.specs.declared.event.Name.{Name}
-use Rattle.md_base.specs.declared.event.Kind.{Kind}
-use Rattle.md_base.specs.declared.event.Kind.TheVariants.{Enter, Exit}
-use Rattle.md_base.specs.declared.event.Event.{Event}
-use Rattle.md_pattern.specs.declared.kinds.Symbol.{Symbol}
-use Rattle.md_pattern.specs.declared.kinds.Standing.{Standing}
-use Rattle.md_pattern.specs.declared.kinds.Standing.TheVariants.{Through, Space, Solid, Mdx}
-use Rattle.md_pattern.specs.declared.state.State.{State}
-use Rattle.md_pattern.specs.Standing.{standing_of}
-use Rattle.md_pattern.specs.Shape.{role_for}
-use Rattle.md_pattern.specs.Steps.{advance, start_of, may_hold}
-use Rattle.md_tree.specs.declared.mention.Referral.{Referral}
-use Rattle.md_tree.specs.declared.mention.Referral.TheVariants.{Missing}
-use Rattle.md_tree.specs.Machine.{Reads, Outer, Open, Entry, Course, Runs, StepsBy, Exits}
-use Rattle.md_tree.specs.Machine.{ExitsWhere, after_entry, entered_on}
+use Rattle.md_tree.proofs.Common.{Point, Name, Kind, Enter, Exit, Event, Symbol, Standing, Through}
+use Rattle.md_tree.proofs.Common.{Space, Solid, Mdx, State, standing_of, role_for, advance}
+use Rattle.md_tree.proofs.Common.{start_of, may_hold, Referral, Missing, Reads, Outer, Open, Entry}
+use Rattle.md_tree.proofs.Common.{Course, Runs, StepsBy, Exits, ExitsWhere, after_entry, entered_on}
 use Rattle.md_tree.proofs.Spots.{advance_role, option_map-some}
 use Rattle.md_tree.proofs.OpenPaths.{some_entry}
 use Rattle.md_tree.proofs.ClosedNodes.{not_childless}

@@ -1,18 +1,11 @@
 -- Which symbols a spine may have that matches a pattern.
-use denote.Enum.Bare.{sameb}
+use denote.Enum.Bare.{sameb, same_true}
 use Rattle.std.proofs.Common.{◌≡◌, Bool, true, false, ◌&&◌, ◌||◌, List, [], ◌∷◌, ◌++◌, refl, ap}
 use Rattle.std.proofs.Common.{◌∙◌, subst}
-use Rattle.std.specs.List.{list_all, list_any}
-use Rattle.std.proofs.lemmas.List.Folds.{list_all-append}
-use denote.Enum.Bare.{same_true}
-use Rattle.md_pattern.specs.contracts.kinds.Symbol.{the_type}
-use Rattle.md_pattern.specs.declared.kinds.Symbol.{Symbol}
+use Rattle.md_tree.proofs.Common.{list_all, list_any, list_all-append, the_type, Symbol, Role, Item}
+use Rattle.md_tree.proofs.Common.{members, class_of, takes, pattern_of, Fits, spine, IsTail}
+use Rattle.md_tree.proofs.Common.{IsGrouped, Matches, begun_by, is_whole}
 use Rattle.md_pattern.specs.declared.kinds.Symbol.TheVariants as symbol
-use Rattle.md_pattern.specs.declared.kinds.Role.{Role}
-use Rattle.md_pattern.specs.declared.kinds.Item.{Item}
-use Rattle.md_pattern.specs.Pattern.{members, class_of, takes, pattern_of, Fits}
-use Rattle.md_pattern.specs.Spine.{spine, IsTail, IsGrouped, Matches}
-use Rattle.md_pattern.specs.Steps.{begun_by, is_whole}
 use Rattle.md_tree.proofs.SettledPatterns.{and_left, and_right, and_both}
 
 taken_step : (p : Symbol → Bool) (symbols : List Symbol) (member seen : Symbol) →

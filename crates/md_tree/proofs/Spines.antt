@@ -1,17 +1,10 @@
 -- The spine of shaped nodes is the same by names and by symbols.
-use Rattle.std.proofs.Common.{◌≡◌, Bool, cond, Option, List, [], ◌∷◌, ◌++◌, refl, sym}
-use Rattle.std.proofs.Common.{ap, ◌∙◌, append_assoc}
-use Rattle.md_base.specs.declared.event.Name.{Name}
+use Rattle.std.proofs.Common.{◌≡◌, Bool, cond, Option, List, [], ◌∷◌, ◌++◌, refl, sym, ap, ◌∙◌}
+use Rattle.std.proofs.Common.{append_assoc}
+use Rattle.md_tree.proofs.Common.{Name, Symbol, Role, Standing, Through, Space, Solid, Mdx, Forest}
+use Rattle.md_tree.proofs.Common.{Empty, Node, standing_of, spine, shown, IsStanding, AreShaped}
+use Rattle.md_tree.proofs.Common.{is_transparent}
 use Rattle.md_base.specs.declared.event.Name.TheVariants.{BlockQuotePrefix, SpaceOrTab, Other}
-use Rattle.md_pattern.specs.declared.kinds.Symbol.{Symbol}
-use Rattle.md_pattern.specs.declared.kinds.Role.{Role}
-use Rattle.md_pattern.specs.declared.kinds.Standing.{Standing}
-use Rattle.md_pattern.specs.declared.kinds.Standing.TheVariants.{Through, Space, Solid, Mdx}
-use Rattle.md_base.specs.Tree.{Forest, Empty, Node}
-use Rattle.md_pattern.specs.Standing.{standing_of}
-use Rattle.md_pattern.specs.Spine.{spine, shown}
-use Rattle.md_pattern.specs.Shape.{IsStanding, AreShaped}
-use Rattle.md_base.specs.NameTests.{is_transparent}
 use Rattle.md_base.specs.Children.{spine_names}
 use Rattle.md_tree.specs.Laws.{symbols_of}
 use Rattle.md_tree.proofs.OneLevel.{is_through}

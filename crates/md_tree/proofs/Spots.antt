@@ -3,21 +3,13 @@
 use Rattle.std.proofs.Common.{◌≡◌, inl, inr, ℕ, zero, suc, ◌+◌, Bool, true, false, cond, Option}
 use Rattle.std.proofs.Common.{Some, None, List, [], ◌∷◌, ◌++◌, drop, replicate, refl, sym, ap, ◌∙◌}
 use Rattle.std.proofs.Common.{subst, add-one}
-use Rattle.std.specs.List.{list_all}
-use Rattle.std.specs.Prelude.{option_map}
-use Rattle.md_pattern.specs.declared.kinds.Symbol.{Symbol}
+use Rattle.md_tree.proofs.Common.{list_all, option_map, Symbol, Item, Once, Maybe, Many, Stage}
+use Rattle.md_tree.proofs.Common.{Whole, Marker, Numeric, Hexadecimal, Setext, State, class_of}
+use Rattle.md_tree.proofs.Common.{takes, pattern_of, Fits, IsTail, IsGrouped, begun_by, next_stage}
+use Rattle.md_tree.proofs.Common.{is_optional, items_of, advance}
 use Rattle.md_pattern.specs.declared.kinds.Symbol.TheVariants as symbol_variants
 use symbol_variants.{ReferenceMarker, SetextText, SetextUnderline, LineEnding}
-use Rattle.md_pattern.specs.declared.kinds.Item.{Item}
-use Rattle.md_pattern.specs.declared.kinds.Item.TheVariants.{Once, Maybe, Many}
-use Rattle.md_pattern.specs.declared.state.Stage.{Stage}
-use Rattle.md_pattern.specs.declared.state.Stage.TheVariants.{Whole, Marker, Numeric, Hexadecimal}
-use Rattle.md_pattern.specs.declared.state.Stage.TheVariants.{Setext}
-use Rattle.md_pattern.specs.declared.state.State.{State}
-use Rattle.md_pattern.specs.Pattern.{class_of, takes, pattern_of, Fits}
-use Rattle.md_pattern.specs.Spine.{IsTail, IsGrouped}
-use Rattle.md_pattern.specs.Steps.{begun_by, next_stage, is_optional, next_position, seek, moved}
-use Rattle.md_pattern.specs.Steps.{items_of, advance}
+use Rattle.md_pattern.specs.Steps.{next_position, seek, moved}
 use Rattle.md_tree.proofs.SettledPatterns.{settled}
 use Rattle.md_tree.proofs.TakenFits.{kept, left_after}
 use Rattle.md_tree.proofs.Greedy.{fits_on, nothing_fits}

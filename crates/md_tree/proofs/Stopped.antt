@@ -1,28 +1,17 @@
 -- An event that stops a walk is refused for what it breaks.
 use Rattle.std.proofs.Common.{◌≡◌, ℕ, suc, ◌<◌, Option, Some, None, List, [], ◌∷◌, ◌++◌, length}
 use Rattle.std.proofs.Common.{take, drop, get_or, refl, sym, ap, ◌∙◌, subst, arith}
-use Rattle.std.specs.Prelude.{slice_get}
-use Rattle.std.proofs.Math.Seq.{take-suc, drop-cons}
-use Rattle.std.proofs.lemmas.List.{take-append-drop}
-use Rattle.std.proofs.lemmas.Option.{slice_get-get_or}
-use Rattle.md_base.specs.declared.event.Point.{Point}
-use Rattle.md_base.specs.declared.event.Name.{Name}
-use Rattle.md_base.specs.declared.event.Kind.{Kind}
-use Rattle.md_base.specs.declared.event.Kind.TheVariants.{Enter, Exit}
-use Rattle.md_base.specs.declared.event.Event.{Event}
-use Rattle.md_tree.specs.declared.rule.Rule.{Rule}
+use Rattle.std.proofs.Math.Seq.{drop-cons}
+use Rattle.md_tree.proofs.Common.{slice_get, take-suc, take-append-drop, slice_get-get_or, Point}
+use Rattle.md_tree.proofs.Common.{Name, Kind, Enter, Exit, Event, Rule, CompileError, Open, Outer}
+use Rattle.md_tree.proofs.Common.{standing_of, Handed, BeginNoTree, EndsBroken, IsRefusal, Course}
+use Rattle.md_tree.proofs.Common.{Runs, StepsBy, beginning, Anything, Unbroken, BreaksWhere}
+use Rattle.md_tree.proofs.Common.{BreaksAtExit, StopsBy, IsStop}
 use Rattle.md_tree.specs.declared.rule.Rule.TheVariants as rule
-use Rattle.md_tree.specs.declared.rule.CompileError.{CompileError}
 use Rattle.md_tree.specs.declared.rule.CompileError.TheVariants as error
-use Rattle.md_tree.specs.Machine.{Open, Outer}
 use Rattle.md_pattern.specs.declared.kinds.Standing.TheVariants as standing
-use Rattle.md_pattern.specs.Standing.{standing_of}
-use Rattle.md_tree.specs.Grammar.{Handed}
-use Rattle.md_tree.specs.Refusal.{BeginNoTree, EndsBroken, IsOrder, IsMdx, IsBroken, IsLost}
-use Rattle.md_tree.specs.Refusal.{IsRefusal}
+use Rattle.md_tree.specs.Refusal.{IsOrder, IsMdx, IsBroken, IsLost}
 use Rattle.md_tree.specs.Refusal as refusal
-use Rattle.md_tree.specs.Machine.{Course, Runs, StepsBy, beginning}
-use Rattle.md_tree.specs.Walk.{Anything, Unbroken, BreaksWhere, BreaksAtExit, StopsBy, IsStop}
 use Rattle.md_tree.proofs.Breaks.{IsOfNode, of_node}
 use Rattle.md_tree.proofs.Verdicts.{Reached-runs, BeginNoTree-stuck, outside-stopped}
 use Rattle.md_tree.proofs.Endings.{EndsBroken-exit}

@@ -2,23 +2,15 @@
 use denote.Enum.Bare.{sameb}
 use Rattle.std.proofs.Common.{◌≡◌, Bool, true, false, not, ◌&&◌, ◌||◌, cond, None, List, [], ◌∷◌}
 use Rattle.std.proofs.Common.{◌++◌, refl, sym, ap, ◌∙◌}
-use Rattle.std.specs.Prelude.{map}
-use Rattle.std.proofs.lemmas.List.{map-append}
-use Rattle.md_pattern.specs.contracts.kinds.Symbol.{the_type}
-use Rattle.md_base.specs.declared.event.AlignKind.{AlignKind}
-use Rattle.md_base.specs.declared.event.Name.{Name}
-use Rattle.md_base.specs.declared.event.Name.TheVariants.{GfmTableHead, GfmTableDelimiterRow}
-use Rattle.md_base.specs.declared.event.Name.TheVariants.{GfmTableDelimiterCellValue}
-use Rattle.md_pattern.specs.declared.kinds.Symbol.{Symbol}
+use Rattle.md_tree.proofs.Common.{map, map-append, the_type, AlignKind, Name, GfmTableHead}
+use Rattle.md_tree.proofs.Common.{GfmTableDelimiterCellValue, Symbol, Forest, Empty, Node}
+use Rattle.md_tree.proofs.Common.{is_transparent, is_table_head, is_delimiter_row, spine, Matches}
+use Rattle.md_tree.proofs.Common.{AreShaped, alignment_of, alignments, in_each, IsTable}
+use Rattle.md_base.specs.declared.event.Name.TheVariants.{GfmTableDelimiterRow}
 use Rattle.md_pattern.specs.declared.kinds.Symbol.TheVariants as symbol
 use Rattle.md_pattern.specs.declared.kinds.Role.TheVariants as role
-use Rattle.md_base.specs.Tree.{Forest, Empty, Node}
-use Rattle.md_base.specs.NameTests.{is_transparent, is_table_head, is_delimiter_row}
 use Rattle.md_base.specs.Is.{is as is_named}
-use Rattle.md_pattern.specs.Spine.{spine, Matches}
-use Rattle.md_pattern.specs.Shape.{AreShaped}
-use Rattle.md_pattern.specs.Alignments.{alignment_of, alignments}
-use Rattle.md_tree.specs.Tables.{in_each, values_of_row, values_of_head, values_of_table, IsTable}
+use Rattle.md_tree.specs.Tables.{values_of_row, values_of_head, values_of_table}
 use Rattle.md_tree.proofs.SettledPatterns.{and_left, and_right}
 use Rattle.md_tree.proofs.SpineSymbols.{matches_pass}
 use Rattle.md_tree.proofs.OneLevel.{named, level}

@@ -3,9 +3,9 @@ use Rattle.std.proofs.Common.{rules, ◌≡◌, ℕ, ◌+◌, ◌-◌, ◌≤◌
 use Rattle.std.proofs.Common.{Some, List, ◌++◌, length, take, drop, take-add, refl, sym, ap, ◌∙◌}
 use Rattle.std.proofs.Common.{arith}
 use Rattle.std.specs.Prelude.{slice_range, IfSome}
-use Rattle.std.specs.Str.{IsUtf8}
 use Rattle.std.proofs.lemmas.Str.{IsUtf8-append, is_utf8-from_IsUtf8}
 use Rattle.std.proofs.lemmas.List.{take-take, drop-drop, drop-take}
+use Rattle.md_tree.proofs.Common.{IsUtf8}
 use Rattle.md_base.specs.Place.{text_when}
 
 -- the part of a run

@@ -1,23 +1,12 @@
 -- A tree with the shape of the grammar is read from its first event to its last.
 use Rattle.std.proofs.Common.{◌≡◌, suc, true, Option, None, List, [], ◌∷◌, ◌++◌, refl, sym, ap, ◌∙◌}
 use Rattle.std.proofs.Common.{subst}
-use Rattle.md_base.specs.declared.event.Point.{Point}
-use Rattle.md_base.specs.declared.event.Name.{Name}
-use Rattle.md_base.specs.declared.event.Event.{Event}
-use Rattle.md_pattern.specs.declared.kinds.Symbol.{Symbol}
-use Rattle.md_pattern.specs.declared.kinds.Role.{Role}
-use Rattle.md_pattern.specs.declared.kinds.Role.TheVariants.{Flow}
-use Rattle.md_tree.specs.declared.mention.Referral.TheVariants.{Missing}
-use Rattle.md_pattern.specs.declared.state.State.{State}
-use Rattle.md_base.specs.Tree.{Forest, Empty, Node, flatten, exiting}
-use Rattle.md_pattern.specs.Standing.{standing_of}
-use Rattle.md_pattern.specs.Spine.{spine, shown, Matches}
-use Rattle.md_pattern.specs.Shape.{Claim, EachNode, inner_role, inner_before, last_symbol}
-use Rattle.md_tree.specs.Rules.{reading_of, place, target_after, target_of}
-use Rattle.md_tree.specs.Mentions.{mention_of, mentions_with}
-use Rattle.md_pattern.specs.Partners.{index_after}
-use Rattle.md_pattern.specs.Steps.{is_complete}
-use Rattle.md_tree.specs.Machine.{Reads, Course, Runs, beginning}
+use Rattle.md_tree.proofs.Common.{Point, Name, Event, Symbol, Role, Flow, Missing, State, Forest}
+use Rattle.md_tree.proofs.Common.{Empty, Node, flatten, exiting, standing_of, spine, shown, Matches}
+use Rattle.md_tree.proofs.Common.{Claim, EachNode, inner_role, inner_before, last_symbol}
+use Rattle.md_tree.proofs.Common.{reading_of, place, target_after, target_of, mention_of}
+use Rattle.md_tree.proofs.Common.{mentions_with, index_after, is_complete, Reads, Course, Runs}
+use Rattle.md_tree.proofs.Common.{beginning}
 use Rattle.md_tree.proofs.Spots.{Feeds, Feeds-split, advance_role}
 use Rattle.md_tree.proofs.Groups.{Feeds-matches}
 use Rattle.md_tree.proofs.NodesRead.{IsFine, AllowsFree, mentions_over, after_nodes, node_runs}

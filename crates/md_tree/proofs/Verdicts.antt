@@ -1,30 +1,15 @@
 -- Facts about a list of events, from how a walk over it continues, stops or ends.
 use Rattle.std.proofs.Common.{◌≡◌, ℕ, Bool, true, false, cond, Option, Some, None, MatchOption}
 use Rattle.std.proofs.Common.{List, [], ◌∷◌, ◌++◌, refl, sym, ◌∙◌, subst, append_assoc, append-nil}
-use Rattle.md_base.specs.declared.event.Point.{Point}
-use Rattle.md_base.specs.declared.event.Name.{Name}
-use Rattle.md_base.specs.declared.event.Kind.{Kind}
-use Rattle.md_base.specs.declared.event.Kind.TheVariants.{Enter, Exit}
-use Rattle.md_base.specs.declared.event.Event.{Event}
-use Rattle.md_pattern.specs.declared.kinds.Role.TheVariants.{Flow}
-use Rattle.md_pattern.specs.declared.kinds.Standing.{Standing}
-use Rattle.md_pattern.specs.declared.kinds.Standing.TheVariants.{Mdx}
-use Rattle.md_tree.specs.declared.mention.Referral.{Referral}
-use Rattle.md_tree.specs.declared.rule.Rule.{Rule}
+use Rattle.md_tree.proofs.Common.{Point, Name, Kind, Enter, Exit, Event, Flow, Standing, Mdx}
+use Rattle.md_tree.proofs.Common.{Referral, Rule, State, Entry, Open, Outer, Forest, flatten}
+use Rattle.md_tree.proofs.Common.{entering, standing_of, IsShaped, broken_rule, MeetRules, Handed}
+use Rattle.md_tree.proofs.Common.{IsGrammatical, IsReadAs, IsChecked, BeginNoTree, may_hold}
+use Rattle.md_tree.proofs.Common.{is_complete, Reads, Course, Runs, Steps, StepsBy, Enters, Exits}
+use Rattle.md_tree.proofs.Common.{ExitsWhere, after_entry, entered, entered_on, beginning, Anything}
+use Rattle.md_tree.proofs.Common.{Unbroken, BreaksWhere, BreaksAtExit, StopsAtExit, StopsBy}
 use Rattle.md_tree.specs.declared.rule.Rule.TheVariants as rule
-use Rattle.md_pattern.specs.declared.state.State.{State}
-use Rattle.md_tree.specs.Machine.{Entry, Open, Outer}
-use Rattle.md_base.specs.Tree.{Forest, flatten, entering}
-use Rattle.md_pattern.specs.Standing.{standing_of}
-use Rattle.md_pattern.specs.Shape.{IsShaped}
-use Rattle.md_tree.specs.Rules.{broken_rule, MeetRules}
-use Rattle.md_tree.specs.Grammar.{Handed, IsGrammatical, IsReadAs, IsChecked}
-use Rattle.md_tree.specs.Refusal.{BeginNoTree}
-use Rattle.md_pattern.specs.Steps.{may_hold, is_complete}
-use Rattle.md_tree.specs.Machine.{Reads, Course, Runs, Steps, StepsBy, Enters, Exits, ExitsWhere}
-use Rattle.md_tree.specs.Machine.{after_entry, entered, entered_on, beginning}
-use Rattle.md_tree.specs.Walk.{Anything, Unbroken, BreaksWhere, BreaksAtExit, StopsAtEntry}
-use Rattle.md_tree.specs.Walk.{StopsAtExit, StopsBy}
+use Rattle.md_tree.specs.Walk.{StopsAtEntry}
 use Rattle.md_tree.proofs.Trees.{Runs-split, Runs-document}
 use Rattle.md_tree.proofs.NodesRead.{after_nodes}
 use Rattle.md_tree.proofs.OpenPaths.{Reached, Reached-beginning}

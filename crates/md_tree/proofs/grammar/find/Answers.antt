@@ -1,18 +1,11 @@
 -- The result of `find` if the walk isn't done, if a mention is unresolved, and if all is well. The
 -- search can't derive facts about the events from the end of a walk: `Checking` does.
 use Rattle.std.proofs.Common.{◌≡◌, [], ◌∷◌, refl, sym, ap, ◌∙◌, subst, length, List}
-use Rattle.std.specs.Prelude.{reverse}
-use Rattle.md_base.specs.declared.event.Event.{Event}
-use Rattle.std.specs.List.{All}
 use Rattle.std.proofs.lemmas.List.{reverse-reverse}
-use Rattle.std.proofs.lemmas.Result.{err_from_is_err_and}
-use Rattle.md_tree.specs.declared.open_nodes.Aim.{Aim}
+use Rattle.md_tree.proofs.Common.{reverse, Event, All, err_from_is_err_and, Aim, mentions_among}
+use Rattle.md_tree.proofs.Common.{IsResolved, IsUnresolved, numbered, number_for, handed, opens_at}
+use Rattle.md_tree.proofs.Common.{opens_seen, course_of}
 use Rattle.md_tree.specs.declared.open_nodes.Open.{Open}
-use Rattle.md_tree.specs.Mentions.{mentions_among, IsResolved}
-use Rattle.md_tree.specs.Resolve.{IsUnresolved}
-use Rattle.md_tree.specs.Numbers.{numbered, number_for}
-use Rattle.md_tree.specs.Grammar.{handed}
-use Rattle.md_tree.specs.Walk.{opens_at, opens_seen, course_of}
 use Rattle.md_tree.proofs.Endings.{IsWalked, IsWalked-done}
 use Rattle.md_tree.proofs.Checking.{IsRefusal-undone, IsRefusal-lost, IsChecked-walked}
 use Rattle.md_tree.proofs.Checking.{AreNumbered-walked}

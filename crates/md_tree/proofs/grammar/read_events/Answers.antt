@@ -2,13 +2,9 @@
 -- is known before it sees it.
 use Rattle.std.proofs.Common.{◌≡◌, ℕ, ◌≤◌, List, length, take, ap, ◌∙◌, subst, arith}
 use Rattle.std.proofs.lemmas.List.{take_all}
-use Rattle.md_base.specs.Reference.{name_table}
-use Rattle.md_base.specs.declared.event.Event.{Event}
+use Rattle.md_tree.proofs.Common.{name_table, Event, first_index, PassState, passed_over}
+use Rattle.md_tree.proofs.Common.{pass_beginning, Runs, beginning, course_of, Unbroken}
 use Rattle.md_pattern.specs.Columns.{Collected}
-use Rattle.md_pattern.specs.Ending.{first_index}
-use Rattle.md_pattern.specs.Facts.{PassState, passed_over, pass_beginning}
-use Rattle.md_tree.specs.Machine.{Runs, beginning}
-use Rattle.md_tree.specs.Walk.{course_of, Unbroken}
 use Rattle.md_tree.proofs.grammar.read_events.Goals as goal
 
 -- this many events are all

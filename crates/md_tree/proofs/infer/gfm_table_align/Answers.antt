@@ -2,7 +2,8 @@
 -- its delimiter row. The search doesn't go into the answer, nor know that the table has
 -- a table's shape.
 use Rattle.std.proofs.Common.{◌∙◌}
-use Rattle.std.specs.Prelude.{Result, Ok, Err, IfOk}
+use Rattle.std.specs.Prelude.{Result, IfOk}
+use Rattle.md_tree.proofs.Common.{Ok, Err}
 use Rattle.md_tree.proofs.Tables.{alignments-values_of_table}
 use Rattle.md_tree.proofs.EnteredTables.{IsTable-entered}
 use Rattle.md_tree.proofs.infer.gfm_table_align.Goals as goal

@@ -1,8 +1,7 @@
 -- The fact about the item is the one that is defined for its children. The pass receives it child
 -- by child, so `Summaries` proves it by induction.
 use Rattle.std.proofs.Common.{ap, ◌∙◌}
-use Rattle.md_base.specs.declared.event.Name.TheVariants.{ListItem}
-use Rattle.md_pattern.specs.declared.facts.Fact.{Fact}
+use Rattle.md_tree.proofs.Common.{ListItem, Fact}
 use Rattle.md_pattern.proofs.Summaries.{of_item-summary}
 use Rattle.md_tree.proofs.infer.list_item_loose.Goals as goal
 

@@ -1,6 +1,6 @@
 -- The first of the events begin the tree that all of them begin.
 use Rattle.std.proofs.Common.{◌++◌, take, drop, sym, ap, ◌∙◌, append_assoc}
-use Rattle.std.proofs.lemmas.List.{take-append-drop}
+use Rattle.md_tree.proofs.Common.{take-append-drop}
 use Rattle.md_tree.proofs.laws.open_events_are_in_order.Goals as goal
 
 pub returns : goal.returns

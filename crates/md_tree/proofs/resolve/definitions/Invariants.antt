@@ -1,9 +1,7 @@
 -- In each iteration, the number says how many definitions remain, and the map has the numbers of
 -- the others.
 use Rattle.std.proofs.Common.{◌≡◌, ◌++◌, List, length}
-use Rattle.md_tree.specs.declared.mention.Mentioned.{Mentioned}
-use Rattle.md_tree.specs.Mentions.{defined, mentions_among}
-use Rattle.md_tree.specs.Numbers.{NumbersFrom}
+use Rattle.md_tree.proofs.Common.{Mentioned, defined, mentions_among, NumbersFrom}
 use Rattle.md_tree.proofs.resolve.definitions.Given as goal
 
 abbrev pub invariant-loop-mentioned : goal.invariant-loop-mentioned

@@ -1,7 +1,7 @@
 -- A mention with a number has a definition, and one without is unresolved. The search does no
 -- induction over the identifiers.
+use Rattle.md_tree.proofs.Common.{defined, footnoted}
 use Rattle.md_tree.proofs.MentionsResolved.{resolved-reference, resolved-call, lost-call}
-use Rattle.md_tree.specs.Mentions.{defined, footnoted}
 use Rattle.md_tree.proofs.resolve.referred_number.Goals as goal
 
 pub returns-in_ok-number-in-Reference : goal.returns-in_ok-number-in-Reference

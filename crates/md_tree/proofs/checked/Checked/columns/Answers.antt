@@ -1,9 +1,7 @@
 -- The index is one of a fact, the fact's place is one of a table, and the alignments there are
 -- those of the node. The search doesn't know what a `Checked` keeps: `Kept` says it.
 use Rattle.std.proofs.Common.{◌≡◌, ◌<◌, Option, Some, List, length, sym, ap, ◌∙◌, subst}
-use Rattle.std.specs.Prelude.{map, slice_get}
-use Rattle.md_base.specs.declared.event.AlignKind.{AlignKind}
-use Rattle.md_base.specs.declared.event.Name.TheVariants.{GfmTable}
+use Rattle.md_tree.proofs.Common.{map, slice_get, AlignKind, GfmTable}
 use Rattle.md_tree.proofs.Kept.{facts-inside, node-entered, columns-kept, columns-inside}
 use Rattle.md_tree.proofs.checked.Checked.columns.Goals as goal
 

@@ -2,12 +2,9 @@
 -- defined one. It holds as a label with no text would break a rule: `Indexed` shows it, and the
 -- search doesn't find it.
 use Rattle.std.proofs.Common.{◌≡◌, ℕ, sym, ap, ◌∙◌}
-use Rattle.std.specs.Prelude.{option_copied}
-use Rattle.md_base.specs.Place.{label_between}
-use Rattle.md_tree.specs.declared.checked.Checked.TheInside.{Inside}
-use Rattle.md_tree.specs.Grammar.{Handed}
-use Rattle.md_tree.specs.Checked.{handed_of, IsKept}
-use Rattle.md_tree.specs.Texts.{is_identifier, ExitsIdentifier}
+use Rattle.md_tree.proofs.Common.{option_copied, label_between, Inside, Handed, handed_of, IsKept}
+use Rattle.md_tree.proofs.Common.{is_identifier}
+use Rattle.md_tree.specs.Texts.{ExitsIdentifier}
 use Rattle.md_tree.proofs.Indexed.{EndedAt, EndedAt-text, EndedAt-read, identifier_names}
 use Rattle.md_tree.proofs.Indexed.{place_some, copied_some}
 use Rattle.md_tree.proofs.Kept.{ended-kept, ended-place}

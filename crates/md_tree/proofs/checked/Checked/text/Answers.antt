@@ -2,12 +2,9 @@
 -- defined one. It holds as a node with no text there would break a rule: `Indexed` shows it, and
 -- the search doesn't find it.
 use Rattle.std.proofs.Common.{◌≡◌, ℕ, sym, ap, ◌∙◌}
-use Rattle.std.specs.Prelude.{option_copied}
-use Rattle.md_base.specs.Place.{text_between}
-use Rattle.md_tree.specs.declared.checked.Checked.TheInside.{Inside}
-use Rattle.md_tree.specs.Grammar.{Handed}
-use Rattle.md_tree.specs.Checked.{handed_of, IsKept}
-use Rattle.md_tree.specs.Texts.{is_text, ExitsText}
+use Rattle.md_tree.proofs.Common.{option_copied, text_between, Inside, Handed, handed_of, IsKept}
+use Rattle.md_tree.proofs.Common.{is_text}
+use Rattle.md_tree.specs.Texts.{ExitsText}
 use Rattle.md_tree.proofs.Indexed.{EndedAt, EndedAt-text, EndedAt-read, text_names, place_some}
 use Rattle.md_tree.proofs.Indexed.{copied_some}
 use Rattle.md_tree.proofs.Kept.{ended-kept, ended-place}

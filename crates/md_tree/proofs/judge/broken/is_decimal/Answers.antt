@@ -4,9 +4,9 @@ use Rattle.std.proofs.Common.{◌≡◌, ◌≢◌, ℕ, Bool, true, false, not,
 use Rattle.std.proofs.Common.{List, [], ◌∷◌, length, get_or, Some, None, Result, Ok, Err, is_ok}
 use Rattle.std.proofs.Common.{sym, ◌∙◌, subst, refl, lit<, arith}
 use Rattle.std.specs.Char.{digit_value}
-use Rattle.std.specs.List.{list_all}
 use Rattle.std.specs.Str.Parse.{ParsesUnsigned, digits_value}
 use Rattle.std.proofs.lemmas.Bool.{eqb-false, eqb-true}
+use Rattle.md_tree.proofs.Common.{list_all}
 use Rattle.md_base.specs.Reference.{is_number, character_of}
 use Rattle.md_base.proofs.ReferenceLemmas.{numbered_ok, numbered_none}
 use Rattle.md_tree.proofs.judge.broken.is_decimal.Goals as goal

@@ -2,17 +2,13 @@
 -- the stack, and the search can't go from that walk back to the one before.
 use Rattle.std.proofs.Common.{◌≡◌, Bool, false, if◌then◌else◌, ◌&&◌, List, [], ◌∷◌, ◌++◌, Some}
 use Rattle.std.proofs.Common.{None, Result, Ok, Err, refl, sym, ap, ◌∙◌, subst}
-use Rattle.std.specs.Prelude.{reverse, IfErr}
-use Rattle.std.proofs.lemmas.List.{reverse-append}
-use Rattle.md_base.specs.Reference.{name_table}
-use Rattle.md_base.specs.declared.event.Event.{Event}
-use Rattle.md_base.specs.declared.event.Name.{Name}
-use Rattle.md_base.specs.declared.event.Point.{Point}
-use Rattle.md_tree.specs.declared.open_nodes.Aim.{Aim}
+use Rattle.std.specs.Prelude.{IfErr}
+use Rattle.md_tree.proofs.Common.{reverse, reverse-append, name_table, Event, Name, Point, Aim}
+use Rattle.md_tree.proofs.Common.{Reads, Course, Open, Outer, Exits, ExitsWhere, after_through}
+use Rattle.md_tree.proofs.Common.{point_at, place_at, target_seen, outer_of, opens_at, opens_seen}
+use Rattle.md_tree.proofs.Common.{course_of}
 use Rattle.md_tree.specs.declared.open_nodes.Open.{Open as KeptOpen}
-use Rattle.md_tree.specs.Machine.{Reads, Course, Open, Outer, Exits, ExitsWhere, after_through}
-use Rattle.md_tree.specs.Walk.{point_at, place_at, target_seen, outer_of, open_seen, opens_at}
-use Rattle.md_tree.specs.Walk.{opens_seen, targets_around, is_aimed, course_of}
+use Rattle.md_tree.specs.Walk.{open_seen, targets_around, is_aimed}
 use Rattle.md_tree.proofs.Breaks.{IsStop-inside, IsStopInside-same}
 use Rattle.md_tree.proofs.walk.Walk.exit.Goals as goal
 
