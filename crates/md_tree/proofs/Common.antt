@@ -1,10 +1,10 @@
 -- The names that most proofs here cite, passed on from one place. Declares nothing.
-pub use Rattle.std.specs.Prelude.{map, slice_get, unwrap_or, option_map, option_copied, is_some}
-pub use Rattle.std.specs.Prelude.{if◌then◌else◌, Ok, Err, reverse}
-pub use Rattle.std.specs.List.{All, list_all, Contains, list_any}
+pub use Rattle.std.specs.Prelude.{map, slice_get, unwrap_or, option_map, is_some, if◌then◌else◌, Ok}
+pub use Rattle.std.specs.Prelude.{Err, reverse}
+pub use Rattle.std.specs.List.{All, list_all, Contains}
 pub use Rattle.std.proofs.Math.Seq.{take-suc}
-pub use Rattle.std.proofs.lemmas.Option.{slice_get_cases, get_or_from_slice_get, slice_get-get_or}
-pub use Rattle.std.proofs.lemmas.Option.{slice_get-map, slice_get_within}
+pub use Rattle.std.proofs.lemmas.Option.{slice_get_within, get_or_from_slice_get, slice_get-get_or}
+pub use Rattle.std.proofs.lemmas.Option.{slice_get-map}
 pub use Rattle.std.proofs.lemmas.List.Elements.{All-cons, All-append, All-nil, All-head, All-tail}
 pub use Rattle.std.proofs.lemmas.List.{get_or-map, map-append, length-map, take-append-drop}
 pub use Rattle.std.proofs.lemmas.List.{reverse-append}
@@ -22,9 +22,8 @@ pub use Rattle.md_base.specs.declared.event.Event.{Event}
 pub use Rattle.md_base.specs.Tree.{Forest, flatten, Empty, Node, exiting, entering}
 pub use Rattle.md_base.specs.Children.{or_else, first_on_spine}
 pub use Rattle.md_base.specs.declared.event.AlignKind.{AlignKind}
-pub use Rattle.md_base.specs.NameTests.{is_table, is_transparent, is_heading_mark, is_item}
-pub use Rattle.md_base.specs.NameTests.{is_item_prefix, is_item_value, is_label, is_label_text}
-pub use Rattle.md_base.specs.NameTests.{is_reference, is_definition_label, is_footnote_prefix}
+pub use Rattle.md_base.specs.NameTests.{is_table, is_transparent, is_heading_mark, is_item_value}
+pub use Rattle.md_base.specs.NameTests.{is_label_text, is_reference, is_definition_label}
 pub use Rattle.md_base.specs.NameTests.{is_footnote_label, is_table_head, is_delimiter_row}
 pub use Rattle.md_base.proofs.Lies.{lie}
 pub use Rattle.md_base.specs.declared.event.Kind.{Kind}
@@ -32,16 +31,16 @@ pub use Rattle.md_base.specs.Reference.{name_table}
 pub use Rattle.md_pattern.specs.declared.kinds.Symbol.{Symbol}
 pub use Rattle.md_pattern.specs.declared.kinds.Role.{Role}
 pub use Rattle.md_pattern.specs.declared.kinds.Reading.{Reading}
-pub use Rattle.md_pattern.specs.declared.state.State.{State}
-pub use Rattle.md_pattern.specs.Steps.{is_complete, may_hold, start_of, advance, items_of, is_whole}
-pub use Rattle.md_pattern.specs.Steps.{is_optional, begun_by, next_stage}
-pub use Rattle.md_pattern.specs.Facts.{facts_at, contributing_over, tables_with, tables_after}
-pub use Rattle.md_pattern.specs.Facts.{partner_alone, fact_at, facts_of, tables_at, PassState}
+pub use Rattle.md_pattern.specs.Steps.{is_complete, may_hold, start_of, is_whole, is_optional}
+pub use Rattle.md_pattern.specs.Steps.{items_of, advance, begun_by, next_stage}
+pub use Rattle.md_pattern.specs.Facts.{facts_at, contributing_over, partner_alone, tables_with}
+pub use Rattle.md_pattern.specs.Facts.{tables_after, fact_at, facts_of, tables_at, PassState}
 pub use Rattle.md_pattern.specs.Facts.{pass_beginning, passed, passed_over, sought_over}
 pub use Rattle.md_pattern.specs.declared.kinds.Role.TheVariants.{Childless, Flow}
 pub use Rattle.md_pattern.specs.declared.kinds.Reading.TheVariants.{Free}
 pub use Rattle.md_pattern.specs.declared.kinds.Standing.{Standing}
 pub use Rattle.md_pattern.specs.declared.kinds.Standing.TheVariants.{Through, Space, Solid, Mdx}
+pub use Rattle.md_pattern.specs.declared.state.State.{State}
 pub use Rattle.md_pattern.specs.Spine.{spine, shown, Matches, IsTail, IsGrouped}
 pub use Rattle.md_pattern.specs.Shape.{EachNode, IsStanding, role_for, AreShaped, IsShaped}
 pub use Rattle.md_pattern.specs.Shape.{inner_role, inner_before, IsShapedNode, last_symbol, Claim}
@@ -64,11 +63,11 @@ pub use Rattle.md_pattern.proofs.FirstIndex.{first_index-more}
 pub use Rattle.md_pattern.specs.contracts.kinds.Symbol.{the_type}
 pub use Rattle.md_pattern.specs.declared.seeking.Sought.{Sought}
 pub use Rattle.md_pattern.specs.declared.kinds.Class.{Class}
+pub use Rattle.md_pattern.specs.Places.{state_of}
 pub use Rattle.md_tree.specs.declared.mention.Referral.{Referral}
 pub use Rattle.md_tree.specs.declared.mention.Referral.TheVariants.{Missing, Resource, Label}
 pub use Rattle.md_tree.specs.declared.rule.Rule.{Rule}
 pub use Rattle.md_tree.specs.declared.rule.CompileError.{CompileError}
-pub use Rattle.md_tree.specs.declared.mention.Mentioned.{Mentioned}
 pub use Rattle.md_tree.specs.Machine.{Open, Outer, Course, Exits, ExitsWhere, Reads, Runs, Steps}
 pub use Rattle.md_tree.specs.Machine.{beginning, Entry, entered_on, after_exit, after_through}
 pub use Rattle.md_tree.specs.Machine.{StepsBy, Enters, entered, after_entry}
@@ -76,17 +75,15 @@ pub use Rattle.md_tree.specs.Rules.{place, broken_by, broken_rule, target_at, ta
 pub use Rattle.md_tree.specs.Rules.{target_of, reading_of, MeetRules}
 pub use Rattle.md_tree.specs.Walk.{Anything, BreaksWhere, BreaksAtExit, StopsAtExit, IsStop}
 pub use Rattle.md_tree.specs.Walk.{IsStopInside, Unbroken, point_at, Passes, IsStopAtLeaf}
-pub use Rattle.md_tree.specs.Walk.{course_of, StopsBy, opens_at, opens_seen, place_at, target_seen}
-pub use Rattle.md_tree.specs.Walk.{outer_of}
+pub use Rattle.md_tree.specs.Walk.{course_of, StopsBy, opens_at, opens_seen, place_at, outer_of}
 pub use Rattle.md_tree.specs.declared.mention.Mention.{Mention}
-pub use Rattle.md_tree.specs.declared.mention.Mention.TheVariants.{Reference, Call, Nothing}
-pub use Rattle.md_tree.specs.declared.mention.Mention.TheVariants.{Definition, FootnoteDefinition}
+pub use Rattle.md_tree.specs.declared.mention.Mentioned.{Mentioned}
 pub use Rattle.md_tree.specs.Mentions.{mentions_of, mentions_among, IsResolved, mention_of}
 pub use Rattle.md_tree.specs.Mentions.{identifier_at, defined, footnoted, mentions_with, defined_by}
 pub use Rattle.md_tree.specs.Mentions.{footnoted_by}
 pub use Rattle.md_tree.specs.Grammar.{Handed, IsGrammatical, IsReadAs, IsChecked, handed}
-pub use Rattle.md_tree.specs.Refusal.{IsRefusal, opening, Level, role_in, before_in, symbol_after}
-pub use Rattle.md_tree.specs.Refusal.{EndsInGroup, EndsBroken, BeginNoTree}
+pub use Rattle.md_tree.specs.Refusal.{IsRefusal, opening, Level, role_in, symbol_after, EndsInGroup}
+pub use Rattle.md_tree.specs.Refusal.{EndsBroken, before_in, BeginNoTree}
 pub use Rattle.md_tree.specs.Resolve.{IsUnresolvedBy, IsUnresolved}
 pub use Rattle.md_tree.specs.Numbers.{numbered, number_for, facts_with, with_number}
 pub use Rattle.md_tree.specs.Numbers.{is_of_definitions, definition_for, place_of, is_same, which}
@@ -97,9 +94,11 @@ pub use Rattle.md_tree.specs.Texts.{EntersAt, positions_of, ExitsAt, has_reading
 pub use Rattle.md_tree.specs.Texts.{is_identifier}
 pub use Rattle.md_tree.specs.Entered.{children_of, IsEnteredAt, EntersNode}
 pub use Rattle.md_tree.specs.Tables.{IsTable, in_each}
-pub use Rattle.md_tree.specs.Reads.{first_place, number_in, reads, is_reader}
+pub use Rattle.md_tree.specs.Reads.{first_place, reads, is_reader}
 pub use Rattle.md_tree.specs.declared.checked.Checked.TheInside.{Inside}
 pub use Rattle.md_tree.specs.Checked.{handed_of, IsKept}
 pub use Rattle.md_tree.specs.Indices.{AreDefinitions}
+pub use Rattle.md_tree.specs.declared.mention.Mention.TheVariants.{Nothing, Reference, Call}
+pub use Rattle.md_tree.specs.declared.mention.Mention.TheVariants.{Definition, FootnoteDefinition}
 pub use Rattle.md_tree.specs.Reader.{HasRead}
 pub use Rattle.md_tree.specs.declared.open_nodes.Aim.{Aim}

@@ -48,8 +48,8 @@ completion_shaped state settled = by_role (childless_or state.role)
 
 completion_fed : (state : State) → IsFed state (spine (completion state))
 completion_fed state =
-    subst (λ symbols. IsFed state symbols) (sym (nodes_spine (missing state) (completes state).1))
-    (fed state (missing state) (completes state).0)
+    subst (λ symbols. IsFed state symbols) (sym (nodes_spine _ (completes state).1))
+    (fed state _ (completes state).0)
 
 -- the same as events
 pub record Completed (from : Course) : Type 0 where

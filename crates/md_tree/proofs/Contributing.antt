@@ -17,8 +17,8 @@ contributing-over : (forest : Forest) (index before : ℕ) →
     contributing_over index forest before ≡ unwrap_or (last_contributing_at index forest) before
 contributing-over Empty index before = refl
 contributing-over (Node name start end children rest) index before =
-    let later = suc (index_after (suc index) children) in
-    contributing-over rest later (cond (contributes name) index before)
+    let later = suc (index_after _ children) in
+    contributing-over rest later (cond _ index before)
     ∙ one_more (last_contributing_at later rest) (contributes name) index before
 
 there_with : (later : Option ℕ) (here : Bool) (index : ℕ) → index_if (unwrap_or later 0) ≡ later →
@@ -34,10 +34,10 @@ there : (forest : Forest) (index : ℕ) →
     ≡ last_contributing_at (suc index) forest
 there Empty index = refl
 there (Node name start end children rest) index =
-    there_with (last_contributing_at (suc (index_after (suc (suc index)) children)) rest)
-    (contributes name) index (there rest (index_after (suc (suc index)) children))
+    there_with (last_contributing_at _ rest)
+    _ index (there rest _)
 
 pub contributing-found : (children : Forest) (index : ℕ) →
     index_if (contributing_over (suc index) children 0) ≡ last_contributing_at (suc index) children
 contributing-found children index =
-    ap index_if (contributing-over children (suc index) 0) ∙ there children index
+    ap index_if (contributing-over children _ 0) ∙ there children index

@@ -42,14 +42,13 @@ all_definitions events (Node name start end children rest) index seen later e sa
     (own ++ definition_entries (suc exit) rest)
     (all_definitions events children (suc index) (seen ++ first ∷ []) (last
     ∷ (flatten rest ++ later)) one (in_node events seen inner (flatten rest) later first last same))
-    (All-append holds own (definition_entries (suc exit) rest)
+    (All-append holds own (definition_entries _ rest)
     (own_definition events index name start there)
-    (all_definitions events rest (suc exit) (((seen ++ first ∷ []) ++ inner) ++ last
-    ∷ []) later (length_one ((seen ++ first ∷ []) ++ inner) last
-    ∙ ap suc inside) (after_node events seen inner (flatten rest) later first last same)))
+    (all_definitions events rest (suc exit) _ later (length_one _ last
+    ∙ ap suc inside) (after_node events seen inner _ later first last same)))
 
 -- those of a document
 pub definitions-entered : (events : List Event) (forest : Forest) → flatten forest ≡ events →
     All (λ i. EntersAt events i Definition) (definition_entries 0 forest)
 definitions-entered events forest flattened =
-    all_definitions events forest 0 [] [] refl (sym flattened ∙ sym (append-nil (flatten forest)))
+    all_definitions events forest 0 [] [] refl (sym flattened ∙ sym (append-nil _))

@@ -28,11 +28,11 @@ pub fed : (state : State) (symbols : List Symbol) →
     ends_after state symbols ≡ true → IsFed state symbols
 fed state [] e = (state, refl, e)
 fed state (one ∷ symbols) e =
-    fed_on state one symbols (advance state one) refl (λ next ends. fed next symbols ends) e
+    fed_on state one symbols _ refl (λ next ends. fed next symbols ends) e
 
 pub matches_after : (inner : Role) (symbols : List Symbol) →
     ends_after (start_of inner) symbols ≡ true →
     Matches inner symbols
 matches_after inner symbols e =
-    let whole = fed (start_of inner) symbols e in
+    let whole = fed _ symbols e in
     matches_feeds inner symbols whole.0 whole.1 whole.2

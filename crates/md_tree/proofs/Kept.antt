@@ -18,7 +18,7 @@ use Rattle.md_tree.proofs.Numbers.{recorded-at, got-with, ended-with, length-wit
 use Rattle.md_tree.proofs.Numbers.{number-definition}
 use Rattle.md_tree.proofs.Defining.{definitions-entered}
 use Rattle.md_pattern.proofs.Passing.{definitions-flatten}
-use Rattle.md_tree.proofs.Indexed.{HaveText, EndedAt, EndedAt-checked}
+use Rattle.md_tree.proofs.Indexed.{HaveText, EndedAt-checked, ReadAt, ReadAt-ended}
 use Rattle.md_tree.proofs.Entering.{got_inside, EntersNode-entered, found-entered, facts_at-inside}
 
 module _ (inside : Inside) (given : Handed) (index : ℕ) (kept : IsKept inside)
@@ -41,7 +41,7 @@ module _ (inside : Inside) (given : Handed) (index : ℕ) (kept : IsKept inside)
       let here = recorded-at kept.0.0 given.events index enters.0 flattened enters.1 in
       let kept_here =
       got-with (number_for given.bytes (mentions_of kept.0.0)) (mentions_of kept.0.0)
-      (facts_at given.events) index here.0 here.1 here.2 here.3 in
+      _ index here.0 here.1 here.2 here.3 in
       here.2
       ∙ ap (λ m. Some (with_number (number_for given.bytes (mentions_of kept.0.0) m) here.0))
       (sym (here.4.0 enters.2))
@@ -61,26 +61,22 @@ module _ (inside : Inside) (given : Handed) (index : ℕ) (kept : IsKept inside)
       (sym (definitions-kept kept.0.0 flattened))
       (definitions-entered given.events kept.0.0 flattened)
 
-  -- an exit
+  -- an exit, whose place is looked up
   pub ended-kept : (is : Reading → Bool) (text : Point → Point → Option (List ℕ)) (name : Name) →
       HaveText given.bytes given.names is text → ExitsAt given.events index name →
-      has_reading is (standing_of name) ≡ true → EndedAt text given index
-  ended-kept is text name have exits reads =
-      EndedAt-checked is text given index name have (subst IsChecked same kept.0) exits reads
-
-  -- the place that is looked up
-  pub ended-place : (found : Option Position) →
-      found ≡ position_ended inside.events.now inside.facts index →
-      found ≡ position_ended given.events (facts_at given.events) index
-  ended-place found is =
-      is ∙ ap (λ (g : Handed). position_ended g.events inside.facts index) same
+      has_reading is (standing_of name) ≡ true → (place : Option Position) →
+      place ≡ position_ended inside.events.now inside.facts index → ReadAt text given index place
+  ended-kept is text name have exits reads place place_is =
+      ReadAt-ended text given index place (EndedAt-checked is text given index name have
+      (subst IsChecked same kept.0) exits reads)
+      (place_is ∙ ap (λ (g : Handed). position_ended g.events inside.facts index) same
       ∙ ap (λ fs. position_ended given.events fs index) facts_are
-      ∙ ended-with given.events numbers (facts_at given.events) index
+      ∙ ended-with given.events numbers _ index)
 
   pub facts-inside : EntersSome given.events index → index < length inside.facts
   facts-inside enters =
       subst (λ xs. index < length xs) (sym facts_are)
-      (subst (λ n. index < n) (sym (length-with numbers (facts_at given.events)))
+      (subst (λ n. index < n) (sym (length-with numbers _))
       (facts_at-inside given index enters.0 enters.1 kept.0.0 flattened))
 
   pub node-entered : EntersSome given.events index → EntersNode given index
@@ -119,10 +115,10 @@ module _ (inside : Inside) (given : Handed) (index : ℕ) (kept : IsKept inside)
   exit-inside is exits =
       let here = recorded-at kept.0.0 given.events index exits.1.0 flattened exits.1.1 in
       got_inside inside.facts index
-      (with_number (number_for given.bytes (mentions_of kept.0.0) here.1) here.0)
+      _
       (ap (λ xs. slice_get xs index) facts_are
-      ∙ got-with (number_for given.bytes (mentions_of kept.0.0)) (mentions_of kept.0.0)
-      (facts_at given.events) index here.0 here.1 here.2 here.3)
+      ∙ got-with _ _
+      _ index here.0 here.1 here.2 here.3)
 
   number-kept : (event : Event) → slice_get given.events index ≡ Some event →
       event.kind ≡ Exit → (fact : Fact) →
@@ -135,13 +131,13 @@ module _ (inside : Inside) (given : Handed) (index : ℕ) (kept : IsKept inside)
       let number = number_for given.bytes (mentions_of forest) in
       let one : recorded.1 ≡ mention = one_some recorded.1 mention (sym recorded.3 ∙ here) in
       let two : with_number (number recorded.1) recorded.0 ≡ fact =
-      one_some (with_number (number recorded.1) recorded.0) fact
-      (sym (got-with number (mentions_of forest)
-      (facts_at given.events) index recorded.0 recorded.1 recorded.2 recorded.3) ∙ ap
+      one_some (with_number _ recorded.0) fact
+      (sym (got-with number _
+      _ index recorded.0 recorded.1 recorded.2 recorded.3) ∙ ap
       (λ xs. slice_get xs index)
       (sym (subst (λ g. AreNumbered g inside.facts) same kept.1 forest flattens)) ∙ got) in
       let at_exit = recorded.4.1 exits in (
-        ap (λ (f : Fact). f.read_at) (sym two) ∙ kept-number (number recorded.1) recorded.0
+        ap (λ (f : Fact). f.read_at) (sym two) ∙ kept-number _ recorded.0
             at_exit.0
             ∙ ap number one,
         (at_exit.1.0, sym one ∙ at_exit.1.1),

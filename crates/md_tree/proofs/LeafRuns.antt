@@ -26,7 +26,7 @@ module _ (given : Handed) (index : ℕ) (entry exit : Event) (leaf : IsLeaf entr
   entry_is = get_or_from_slice_get given.events index entry entry here
 
   exit_is : get_or given.events (suc index) exit ≡ exit
-  exit_is = get_or_from_slice_get given.events (suc index) exit exit after
+  exit_is = get_or_from_slice_get given.events _ exit exit after
 
   -- a claim of the entry, by its parts
   of_entry : (P : Kind → Name → Point → Type 0) → P Enter entry.name (point_at given.events index) →
@@ -96,11 +96,11 @@ module _ (given : Handed) (index : ℕ) (entry exit : Event) (leaf : IsLeaf entr
       let entered_suc :
       passed_entry entry.name pass ≡ passed_over (take (suc index) given.events) pass_beginning =
       entered ∙ ap (λ n. passed_over (take n given.events) pass_beginning) (add-one index) in
-      passed_more given.events (suc index) exit (passed_entry entry.name pass) pass_beginning next
-      (slice_get_within given.events (suc index) exit after) entered_suc
+      passed_more given.events _ exit _ pass_beginning next
+      (slice_get_within given.events _ exit after) entered_suc
       (step ∙ of_exit (λ kind name point. passed_exit entry.name (passed_entry entry.name pass)
       ≡ passed kind name (passed_entry entry.name pass)) refl)
-      ∙ ap (λ n. passed_over (take n given.events) pass_beginning) (add-one (suc index))
+      ∙ ap (λ n. passed_over (take n given.events) pass_beginning) (add-one _)
 
   pub first_index-leaf : (found : Option ℕ) → found ≡ first_index (take index given.events) →
       ending_after found (suc index) exit ≡ first_index (take (suc (suc index)) given.events)
@@ -111,7 +111,7 @@ module _ (given : Handed) (index : ℕ) (entry exit : Event) (leaf : IsLeaf entr
       let kept : found ≡ first_index (take (suc index) given.events) = sym
       (ap (ending_after found index) entry_is ∙ ending-entry found index entry (IsLeaf.enters leaf))
       ∙ entered ∙ ap (λ n. first_index (take n given.events)) (add-one index) in
-      sym (ap (ending_after found (suc index)) exit_is)
+      sym (ap (ending_after found _) exit_is)
       ∙ first_index-more given.events (suc index) exit found
-      (slice_get_within given.events (suc index) exit after) kept
-      ∙ ap (λ n. first_index (take n given.events)) (add-one (suc index))
+      (slice_get_within given.events _ exit after) kept
+      ∙ ap (λ n. first_index (take n given.events)) (add-one _)

@@ -97,11 +97,9 @@ module _ (name : Name) (start end : Point) (from : Course) (entry : Entry)
         enters,
         IsStop-inside bytes names (suc index) refusal from.open_nodes
             (record { name = name; start = start; outer = entry.outer }) outer name end
-            (after_entry entry name start from) refl refl outer_is
-            (IsStopInside-same bytes names (suc index) refusal outer (place start end) entry.state
-            entry.target from.open_nodes
-            (record { name = name; start = start; outer = entry.outer } ∷ from.open_nodes)
-            (suc from.count) from.mentions stops),
+            _ refl refl outer_is
+            (IsStopInside-same bytes names _ refusal outer _ (inside entry from)
+            (record { name = name; start = start; outer = entry.outer } ∷ from.open_nodes) stops),
       )
 
 -- a node without children that stands on no spine
@@ -157,7 +155,7 @@ module _ (name : Name) (symbol : Symbol) (usual : Role) (reading : Reading)
   Passes-solid bytes names target complete sound target_is =
       Passes-exit name start end from begins
       (entered-solid name from.state from.target holds symbol usual reading next stands moves)
-      (Unbroken bytes names) outer _ refl (
+      _ outer _ refl (
         complete,
         sound,
         ap (λ t. record after { target = t }) target_is ∙ exits-so,
@@ -176,7 +174,7 @@ module _ (name : Name) (symbol : Symbol) (usual : Role) (reading : Reading)
       is_complete inner ≡ false →
       IsStopAtLeaf bytes names index name start end from (error.Event (suc index) rule.Order)
   IsStopAtLeaf-open bytes names index unfinished =
-      stops-so bytes names index (error.Event (suc index) rule.Order) (refl, unfinished)
+      stops-so bytes names index (error.Event _ rule.Order) (refl, unfinished)
 
   pub IsStopAtLeaf-broken :
       (bytes : List ℕ) (names : List (List ℕ × List ℕ)) (index : ℕ) (broken : Rule) →
@@ -184,9 +182,9 @@ module _ (name : Name) (symbol : Symbol) (usual : Role) (reading : Reading)
       broken_rule bytes names reading next.role from.state.before start end Missing ≡ Some broken →
       IsStopAtLeaf bytes names index name start end from (error.Event (suc index) broken)
   IsStopAtLeaf-broken bytes names index broken complete breaks =
-      stops-so bytes names index (error.Event (suc index) broken) (
+      stops-so bytes names index (error.Event _ broken) (
         refl,
-        StopsInside-broken bytes names broken outer start end (inside begins from) complete breaks,
+        StopsInside-broken bytes names broken outer start end _ complete breaks,
       )
 
 -- ---- a table has children

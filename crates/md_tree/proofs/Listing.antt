@@ -20,20 +20,7 @@ with_listed : (mention : Mention) (index : ℕ) (before : List Mentioned) (later
     mentions_with index mention before ++ listed (suc index) later
     ≡ before ++ listed index (mention ∷ later)
 with_listed Nothing index before later = refl
-with_listed (Reference label) index before later = append_assoc before (record {
-  index = index;
-  mention = Reference label;
-} ∷ []) (listed (suc index) later)
-with_listed (Call label) index before later =
-    append_assoc before (record { index = index; mention = Call label }
-    ∷ []) (listed (suc index) later)
-with_listed (Definition label) index before later = append_assoc before (record {
-  index = index;
-  mention = Definition label;
-} ∷ []) (listed (suc index) later)
-with_listed (FootnoteDefinition label) index before later =
-    append_assoc before (record { index = index; mention = FootnoteDefinition label } ∷ [])
-    (listed (suc index) later)
+with_listed _ index before later = append_assoc before _ _
 
 over_listed : (forest : Forest) (index : ℕ) (before : List Mentioned) (later : List Mention) →
     mentions_over index forest before ++ listed (index_after index forest) later ≡ before
@@ -46,7 +33,7 @@ over_listed (Node name start end children rest) index before later =
     let after_it = mentions_of rest ++ later in
     over_listed rest (suc exit) (mentions_with exit mention inner) later
     ∙ with_listed mention exit inner after_it
-    ∙ over_listed children (suc index) before (mention ∷ after_it)
+    ∙ over_listed children _ before (mention ∷ after_it)
     ∙ ap (λ ms. before ++ listed (suc index) ms)
     (sym (append_assoc (mentions_of children) (mention ∷ mentions_of rest) later))
 
@@ -62,24 +49,15 @@ pub defined_listed : (bytes : List ℕ) (mentions : List Mention) (index : ℕ) 
     defined bytes (mentions_among (listed index mentions)) ≡ defined bytes mentions
 defined_listed bytes [] index = refl
 defined_listed bytes (Definition label ∷ mentions) index =
-    ap (λ others. identifier_at bytes label ∷ others) (defined_listed bytes mentions (suc index))
-defined_listed bytes (Nothing ∷ mentions) index = defined_listed bytes mentions (suc index)
-defined_listed bytes (Reference label ∷ mentions) index = defined_listed bytes mentions (suc index)
-defined_listed bytes (Call label ∷ mentions) index = defined_listed bytes mentions (suc index)
-defined_listed bytes (FootnoteDefinition label ∷ mentions) index =
-    defined_listed bytes mentions (suc index)
+    ap (λ others. identifier_at bytes label ∷ others) (defined_listed bytes mentions _)
+defined_listed bytes (_ ∷ mentions) index = defined_listed bytes mentions (suc index)
 
 pub footnoted_listed : (bytes : List ℕ) (mentions : List Mention) (index : ℕ) →
     footnoted bytes (mentions_among (listed index mentions)) ≡ footnoted bytes mentions
 footnoted_listed bytes [] index = refl
 footnoted_listed bytes (FootnoteDefinition label ∷ mentions) index =
-    ap (λ others. identifier_at bytes label ∷ others) (footnoted_listed bytes mentions (suc index))
-footnoted_listed bytes (Nothing ∷ mentions) index = footnoted_listed bytes mentions (suc index)
-footnoted_listed bytes (Reference label ∷ mentions) index =
-    footnoted_listed bytes mentions (suc index)
-footnoted_listed bytes (Call label ∷ mentions) index = footnoted_listed bytes mentions (suc index)
-footnoted_listed bytes (Definition label ∷ mentions) index =
-    footnoted_listed bytes mentions (suc index)
+    ap (λ others. identifier_at bytes label ∷ others) (footnoted_listed bytes mentions _)
+footnoted_listed bytes (_ ∷ mentions) index = footnoted_listed bytes mentions (suc index)
 
 resolved_same : (bytes : List ℕ) (some others : List Mention) (mention : Mention) →
     defined bytes some ≡ defined bytes others → footnoted bytes some ≡ footnoted bytes others →
@@ -103,22 +81,10 @@ all_listed : (P : Mention → Type 0) → P Nothing → (mentions : List Mention
 all_listed P none [] index all = All-nil P
 all_listed P none (Nothing ∷ mentions) index all = All-cons P Nothing mentions none
     (all_listed P none mentions (suc index) all)
-all_listed P none (Reference label ∷ mentions) index all =
+all_listed P none (mention ∷ mentions) index all =
     let later = mentions_among (listed (suc index) mentions) in
-    All-cons P (Reference label) mentions (All-head P (Reference label) later all)
-    (all_listed P none mentions (suc index) (All-tail P (Reference label) later all))
-all_listed P none (Call label ∷ mentions) index all =
-    let later = mentions_among (listed (suc index) mentions) in
-    All-cons P (Call label) mentions (All-head P (Call label) later all)
-    (all_listed P none mentions (suc index) (All-tail P (Call label) later all))
-all_listed P none (Definition label ∷ mentions) index all =
-    let later = mentions_among (listed (suc index) mentions) in
-    All-cons P (Definition label) mentions (All-head P (Definition label) later all)
-    (all_listed P none mentions (suc index) (All-tail P (Definition label) later all))
-all_listed P none (FootnoteDefinition label ∷ mentions) index all =
-    let later = mentions_among (listed (suc index) mentions) in
-    All-cons P (FootnoteDefinition label) mentions (All-head P (FootnoteDefinition label) later all)
-    (all_listed P none mentions (suc index) (All-tail P (FootnoteDefinition label) later all))
+    All-cons P mention mentions (All-head P mention later all)
+    (all_listed P none mentions (suc index) (All-tail P mention later all))
 
 pub all-resolved : (bytes : List ℕ) (mentions : List Mention) →
     All (IsResolved bytes (mentions_among (listed 0 mentions)))
@@ -170,17 +136,8 @@ got_listed : (mentions : List Mention) (index at : ℕ) (one : Mentioned) →
     slice_get (listed index mentions) at ≡ Some one → GotListed mentions index one
 got_listed [] index at one e = cc
 got_listed (Nothing ∷ mentions) index at one e = got_later Nothing mentions index one
-    (got_listed mentions (suc index) at one e)
-got_listed (Reference label ∷ mentions) index at one e =
-    got_cons (Reference label) mentions index at one
-    (λ k f. got_listed mentions (suc index) k one f) e
-got_listed (Call label ∷ mentions) index at one e = got_cons (Call label) mentions index at one
-    (λ k f. got_listed mentions (suc index) k one f) e
-got_listed (Definition label ∷ mentions) index at one e =
-    got_cons (Definition label) mentions index at one
-    (λ k f. got_listed mentions (suc index) k one f) e
-got_listed (FootnoteDefinition label ∷ mentions) index at one e =
-    got_cons (FootnoteDefinition label) mentions index at one
+    (got_listed mentions _ at one e)
+got_listed (mention ∷ mentions) index at one e = got_cons mention mentions index at one
     (λ k f. got_listed mentions (suc index) k one f) e
 
 pub got-listed : (mentions : List Mention) (at : ℕ) (one : Mentioned) →

@@ -4,13 +4,12 @@ use Rattle.std.proofs.Common.{[], ◌∷◌, length, get_or, inl, inr, true≢fa
 use Rattle.std.proofs.Common.{subst}
 use Rattle.std.specs.Prelude.{Bool}
 use Rattle.std.specs.Option.{ok_or}
-use Rattle.std.proofs.lemmas.List.Elements.{Contains-append_right, Contains-append_cases}
-use Rattle.std.proofs.lemmas.List.Elements.{Contains-push_cases}
-use Rattle.md_tree.proofs.Common.{option_map, is_some, if◌then◌else◌, slice_get, Ok, Err, Contains}
-use Rattle.md_tree.proofs.Common.{get_or-map, slice_get-get_or, Position, Mention, Reference, Call}
-use Rattle.md_tree.proofs.Common.{Mentioned, Rule, identifier_at, defined, footnoted}
-use Rattle.md_tree.proofs.Common.{mentions_among, IsResolved, is_same, which, number_of}
-use Rattle.md_tree.proofs.Common.{IsUnresolvedBy}
+use Rattle.std.proofs.lemmas.List.Elements.{Contains-append_cases, Contains-push_cases}
+use Rattle.md_tree.proofs.Common.{slice_get_within, get_or_from_slice_get, option_map, is_some}
+use Rattle.md_tree.proofs.Common.{if◌then◌else◌, slice_get, Ok, Err, Contains, get_or-map}
+use Rattle.md_tree.proofs.Common.{slice_get-get_or, Position, Mention, Reference, Call, Mentioned}
+use Rattle.md_tree.proofs.Common.{Rule, identifier_at, defined, footnoted, mentions_among}
+use Rattle.md_tree.proofs.Common.{IsResolved, is_same, which, number_of, IsUnresolvedBy}
 use Rattle.md_tree.specs.declared.rule.Rule.TheVariants as rule
 use Rattle.md_tree.specs.Numbers.{IsNowhere, RefersTo}
 use Rattle.md_tree.proofs.OneMoreIdentifier.{Identifier, same-is, same-self}
@@ -33,21 +32,32 @@ none_mapped : (o : Option ℕ) → option_map (λ place. suc place) o ≡ None �
 none_mapped None e = refl
 none_mapped (Some place) e = cc
 
-which_there : (xs : List Identifier) (y : Identifier) (place : ℕ) →
-    which xs y ≡ Some place → Contains xs y
-which_there [] y place e = cc
-which_there (x ∷ xs) y place e = elim (is_same x y) as (λ b. is_same x y ≡ b → (if b then Some 0
-    else option_map (λ p. suc p) (which xs y)) ≡ Some place → Contains (x ∷ xs) y) [
-      | true ↦ λ t h. first_is x y xs (same-is x y t)
-      | false ↦ λ t h.
-          Contains-append_right (x ∷ []) xs y (later (which xs y) h (λ p f. which_there xs y p f))
+which_got : (xs : List Identifier) (y : Identifier) (place : ℕ) → which xs y ≡ Some place →
+    slice_get xs place ≡ Some y
+which_got [] y place e = cc
+which_got (x ∷ xs) y place e = elim (is_same x y) as (λ b. is_same x y ≡ b → (if b then Some 0
+    else option_map (λ p. suc p) (which xs y)) ≡ Some place → slice_get (x ∷ xs) place ≡ Some y) [
+      | true ↦ λ t h. first (same-is x y t) h
+      | false ↦ λ t h. later _ h (λ p f. which_got xs y p f)
     ] refl e
   where
+    first : x ≡ y → Some 0 ≡ Some place → slice_get (x ∷ xs) place ≡ Some y
+    first same h =
+        let none : 0 ≡ place = cc in
+        subst (λ n. slice_get (x ∷ xs) n ≡ Some y) none (ap Some same)
+
     later : (o : Option ℕ) → option_map (λ p. suc p) o ≡ Some place →
-        ((p : ℕ) → o ≡ Some p → Contains xs y) →
-        Contains xs y
+        ((p : ℕ) → o ≡ Some p → slice_get xs p ≡ Some y) → slice_get (x ∷ xs) place ≡ Some y
     later None h there = cc
-    later (Some p) h there = there p refl
+    later (Some p) h there =
+        let one : suc p ≡ place = cc in
+        subst (λ n. slice_get (x ∷ xs) n ≡ Some y) one (there p refl)
+
+which_there : (xs : List Identifier) (y : Identifier) (place : ℕ) →
+    which xs y ≡ Some place → Contains xs y
+which_there xs y place e =
+    let got = which_got xs y place e in
+    (place, slice_get_within xs place y got, get_or_from_slice_get xs place y y got)
 
 which_lost : (xs : List Identifier) (y : Identifier) → which xs y ≡ None → Contains xs y → ⊥
 which_lost [] y e h = none_is y h
@@ -56,7 +66,7 @@ which_lost (x ∷ xs) y e h = elim (is_same x y) as (λ b. is_same x y ≡ b →
       | true ↦ λ t f. cc
       | false ↦ λ t f. elim (first_or_later x y xs h) [
         | inl a ↦ true≢false (sym (same-self x) ∙ ap (λ z. is_same x z) a ∙ t)
-        | inr b ↦ which_lost xs y (none_mapped (which xs y) f) b
+        | inr b ↦ which_lost xs y (none_mapped _ f) b
       ]
     ] refl e
 
@@ -71,17 +81,17 @@ resolved-reference bytes mentions label number is =
     (λ o. which (defined bytes mentions) (identifier_at bytes label) ≡ o → RefersTo bytes mentions
     (Reference label) (ok_or (option_map (λ place. suc place) o) rule.Definition)) [
       | Some place ↦ λ t. (
-        which_there (defined bytes mentions) (identifier_at bytes label) place t,
+        which_there (defined bytes mentions) _ place t,
         sym (ap number_of t),
       )
-      | None ↦ λ t. (refl, which_lost (defined bytes mentions) (identifier_at bytes label) t)
+      | None ↦ λ t. (refl, which_lost _ _ t)
     ] refl)
 
 module _ (bytes : List ℕ) (mentions : List Mention) (label : Position) (known : Bool)
     (is : known ≡ is_some (which (footnoted bytes mentions) (identifier_at bytes label))) where
   pub resolved-call : known ≡ true → RefersTo bytes mentions (Call label) (Ok 0)
   resolved-call there = (
-    there_is (which (footnoted bytes mentions) (identifier_at bytes label))
+    there_is _
         (λ place e. which_there (footnoted bytes mentions) (identifier_at bytes label) place e)
         (sym is ∙ there),
     refl,
@@ -95,8 +105,8 @@ module _ (bytes : List ℕ) (mentions : List Mention) (label : Position) (known 
   pub lost-call : known ≡ false → RefersTo bytes mentions (Call label) (Err rule.Footnote)
   lost-call lost = (
     refl,
-    which_lost (footnoted bytes mentions) (identifier_at bytes label)
-        (none_is_there (which (footnoted bytes mentions) (identifier_at bytes label))
+    which_lost (footnoted bytes mentions) _
+        (none_is_there _
         (sym is ∙ lost)),
   )
     where
@@ -135,27 +145,6 @@ IsResolved-at bytes mentioned index n x inside is =
     (sym (get_or-map (λ (m : Mentioned). m.mention) mentioned index n x inside)) is
 
 -- ---- one identifier for each place
-which_got : (xs : List Identifier) (y : Identifier) (place : ℕ) → which xs y ≡ Some place →
-    slice_get xs place ≡ Some y
-which_got [] y place e = cc
-which_got (x ∷ xs) y place e = elim (is_same x y) as (λ b. is_same x y ≡ b → (if b then Some 0
-    else option_map (λ p. suc p) (which xs y)) ≡ Some place → slice_get (x ∷ xs) place ≡ Some y) [
-      | true ↦ λ t h. first (same-is x y t) h
-      | false ↦ λ t h. later (which xs y) h (λ p f. which_got xs y p f)
-    ] refl e
-  where
-    first : x ≡ y → Some 0 ≡ Some place → slice_get (x ∷ xs) place ≡ Some y
-    first same h =
-        let none : 0 ≡ place = cc in
-        subst (λ n. slice_get (x ∷ xs) n ≡ Some y) none (ap Some same)
-
-    later : (o : Option ℕ) → option_map (λ p. suc p) o ≡ Some place →
-        ((p : ℕ) → o ≡ Some p → slice_get xs p ≡ Some y) → slice_get (x ∷ xs) place ≡ Some y
-    later None h there = cc
-    later (Some p) h there =
-        let one : suc p ≡ place = cc in
-        subst (λ n. slice_get (x ∷ xs) n ≡ Some y) one (there p refl)
-
 pub which-one : (xs : List Identifier) (one other : Identifier) (place : ℕ) →
     which xs one ≡ Some place →
     which xs other ≡ Some place → one ≡ other

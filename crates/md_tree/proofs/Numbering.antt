@@ -7,10 +7,9 @@ use Rattle.std.specs.Prelude.{set}
 use Rattle.std.specs.BTreeMap.{UpdatesBy}
 use Rattle.std.proofs.lemmas.List.{at_drop_more}
 use Rattle.md_tree.proofs.Common.{option_map, if◌then◌else◌, slice_get, Position, Fact, Mention}
-use Rattle.md_tree.proofs.Common.{Nothing, Reference, Call, Definition, FootnoteDefinition}
-use Rattle.md_tree.proofs.Common.{Mentioned, defined, defined_by, footnoted_by, mentions_among}
-use Rattle.md_tree.proofs.Common.{is_same, which, with_number, put_number, numbered, NumbersFrom}
-use Rattle.md_tree.proofs.Common.{IdentifiersBefore}
+use Rattle.md_tree.proofs.Common.{Definition, FootnoteDefinition, Mentioned, defined, defined_by}
+use Rattle.md_tree.proofs.Common.{footnoted_by, mentions_among, is_same, which, with_number}
+use Rattle.md_tree.proofs.Common.{put_number, numbered, NumbersFrom, IdentifiersBefore}
 use Rattle.md_tree.specs.Numbers.{found_in}
 use Rattle.md_tree.proofs.OneMoreIdentifier.{Text, Identifier, identifier_of, text_cmp, Numbered}
 use Rattle.md_tree.proofs.OneMoreIdentifier.{Known, compared}
@@ -40,7 +39,7 @@ NumbersFrom-put old new text before later from updates wanted =
     Some 0
     else option_map (λ place. suc place) (which later (identifier_of wanted)))) [
       | true ↦ ap Some (at_first before)
-      | false ↦ from wanted ∙ counted_on before (which later (identifier_of wanted))
+      | false ↦ from wanted ∙ counted_on before _
     ]
 
 none_before : (places : Option ℕ) →
@@ -58,14 +57,14 @@ none_more n = omega arith
 pub defined-last : (bytes : List ℕ) (before : List Mentioned) (last : Mentioned) →
     length (defined bytes (mentions_among (before ++ last ∷ [])))
     ≡ length (defined bytes (mentions_among before)) + length (defined_by bytes last.mention [])
-defined-last bytes [] last = none_more (length (defined_by bytes last.mention []))
+defined-last bytes [] last = none_more _
 defined-last bytes (one ∷ before) last =
-    more one.mention (defined bytes (mentions_among (before ++ last ∷ [])))
+    more one.mention _
     ∙ ap (λ n. length (defined_by bytes one.mention []) + n) (defined-last bytes before last)
-    ∙ sums (length (defined_by bytes one.mention []))
-    (length (defined bytes (mentions_among before))) (length (defined_by bytes last.mention []))
+    ∙ sums (length _)
+    (length _) (length _)
     ∙ ap (λ n. n + length (defined_by bytes last.mention []))
-    (sym (more one.mention (defined bytes (mentions_among before))))
+    (sym (more one.mention _))
   where
     more : (mention : Mention) (later : List Identifier) →
         length (defined_by bytes mention later)
@@ -74,10 +73,7 @@ defined-last bytes (one ∷ before) last =
       where
         plus_one : (n : ℕ) → suc n ≡ 1 + n
         plus_one n = omega arith
-    more Nothing later = none_more (length later)
-    more (Reference label) later = none_more (length later)
-    more (Call label) later = none_more (length later)
-    more (FootnoteDefinition label) later = none_more (length later)
+    more _ later = none_more (length later)
 
     sums : (a b c : ℕ) → a + (b + c) ≡ (a + b) + c
     sums a b c = omega arith

@@ -6,10 +6,10 @@ use Rattle.md_tree.proofs.Common.{map, slice_get, option_map, Name, Enter, Exit,
 use Rattle.md_tree.proofs.Common.{index_after, facts_at, facts_of, fact_at, partner_alone}
 use Rattle.md_tree.proofs.Common.{tables_with, tables_after, facts-flatten, standing_of, Forest}
 use Rattle.md_tree.proofs.Common.{Empty, Node, flatten, entering, exiting, lie, Referral, Missing}
-use Rattle.md_tree.proofs.Common.{Resource, Label, Mention, Nothing, Reference, reading_of}
-use Rattle.md_tree.proofs.Common.{target_of, position_from, partner_event, position_there}
-use Rattle.md_tree.proofs.Common.{position_at, position_ended, mention_of, mentions_of, number_of}
-use Rattle.md_tree.proofs.Common.{with_number, number_for, facts_with, place_of, definition_for}
+use Rattle.md_tree.proofs.Common.{Resource, Label, Mention, Nothing, reading_of, target_of}
+use Rattle.md_tree.proofs.Common.{position_from, partner_event, position_there, position_at}
+use Rattle.md_tree.proofs.Common.{position_ended, mention_of, mentions_of, number_of, with_number}
+use Rattle.md_tree.proofs.Common.{number_for, facts_with, place_of, definition_for}
 use Rattle.md_tree.proofs.Common.{is_of_definitions}
 use Rattle.md_base.specs.declared.event.Name.TheVariants.{Link, Image}
 
@@ -39,20 +39,20 @@ pub ended-with : (events : List Event) (numbers : List ℕ) (facts : List Fact) 
     position_ended events (facts_with numbers facts) index ≡ position_ended events facts index
 ended-with events numbers facts index =
     ap (λ o. position_from o (slice_get events index))
-    (by_partner events (slice_get (facts_with numbers facts) index)
-    (slice_get facts index) (partner-with numbers facts index))
+    (by_partner events (slice_get _ index)
+    _ (partner-with numbers facts index))
 
 pub there-with : (events : List Event) (numbers : List ℕ) (facts : List Fact) (index : ℕ) →
     position_there events (facts_with numbers facts) index ≡ position_there events facts index
 there-with events numbers facts index =
     ap (λ o. position_from (slice_get events index) o) (by_partner events
-    (slice_get (facts_with numbers facts) index) (slice_get facts index)
+    (slice_get _ index) _
     (partner-with numbers facts index))
 
 pub at-with : (events : List Event) (numbers : List ℕ) (facts : List Fact) (index : ℕ) →
     position_at events (facts_with numbers facts) index ≡ position_at events facts index
 at-with events numbers facts zero = refl
-at-with events numbers facts (suc index) = there-with events numbers facts (suc index)
+at-with events numbers facts (suc index) = there-with events numbers facts _
 
 pub length-with : (numbers : List ℕ) (facts : List Fact) →
     length (facts_with numbers facts) ≡ length facts
@@ -82,10 +82,7 @@ recorded_append : (xs ys : List Event) (fs gs : List Fact) (ms ns : List Mention
 recorded_append [] ys [] gs [] ns one two = two
 recorded_append (x ∷ xs) ys (f ∷ fs) gs (m ∷ ms) ns one two =
     (one.0, recorded_append xs ys fs gs ms ns one.1 two)
-recorded_append [] ys [] gs (m ∷ ms) ns one two = absurd one
-recorded_append [] ys (f ∷ fs) gs ms ns one two = absurd one
-recorded_append (x ∷ xs) ys [] gs ms ns one two = absurd one
-recorded_append (x ∷ xs) ys (f ∷ fs) gs [] ns one two = absurd one
+recorded_append _ ys _ gs _ ns one two = absurd one
 
 recorded : (forest : Forest) (index tables : ℕ) →
     AreRecorded (flatten forest) (facts_of index tables forest) (mentions_of forest)
@@ -101,11 +98,10 @@ recorded (Node name start end children rest) index tables =
     (λ e. cc, λ e. (refl, (target_of children Missing, refl))) in (
       entry_recorded,
       recorded_append (flatten children) (exiting name end ∷ flatten rest)
-          (facts_of (suc index) tables children)
-          (partner_alone index ∷ facts_of (suc exit) more rest) (mentions_of children)
-          (mention_of (reading_of (standing_of name)) (target_of children Missing)
-          ∷ mentions_of rest)
-          (recorded children (suc index) tables) (exit_recorded, recorded rest (suc exit) more),
+          (facts_of _ tables children)
+          _ _
+          _
+          (recorded children _ tables) (exit_recorded, recorded rest _ more),
     )
 
 -- the three at an index
@@ -172,9 +168,9 @@ pub number-definition :
 number-definition bytes mentions Link Missing is = refl
 number-definition bytes mentions Link Resource is = refl
 number-definition bytes mentions Link (Label label) is =
-    place-number (definition_for bytes mentions (Reference label))
+    place-number _
 number-definition bytes mentions Image Missing is = refl
 number-definition bytes mentions Image Resource is = refl
 number-definition bytes mentions Image (Label label) is =
-    place-number (definition_for bytes mentions (Reference label))
+    place-number _
 number-definition bytes mentions _ target is = absurd (lie is)

@@ -7,7 +7,7 @@ use Rattle.md_tree.proofs.Common.{GfmTableHead, GfmTableDelimiterCellValue, Symb
 use Rattle.md_tree.proofs.Common.{Through, Space, Solid, Mdx, Forest, Empty, Node, is_transparent}
 use Rattle.md_tree.proofs.Common.{is_table_head, is_delimiter_row, standing_of, spine, shown}
 use Rattle.md_tree.proofs.Common.{EachNode, IsShapedNode, IsStanding, inner_role, inner_before}
-use Rattle.md_tree.proofs.Common.{last_symbol, alignment_of, alignments, in_each}
+use Rattle.md_tree.proofs.Common.{alignment_of, alignments, in_each}
 use Rattle.md_pattern.specs.declared.kinds.Symbol.TheVariants as symbol
 use Rattle.md_base.specs.NameTests.{leads_to_values}
 use Rattle.md_base.specs.Is.{is as is_named}
@@ -80,6 +80,22 @@ module _ (test : Name → Bool) (only : Name) (one : Symbol) (p : Symbol → Boo
       (around : Role) (before : Option Symbol) → EachNode IsShapedNode forest around before →
       list_all p (spine forest) ≡ true → alignments forest ≡ in_each test found forest
 
+  -- a transparent name
+  seen_through : (name : Name) (children : Forest) → Named name →
+      is_through (standing_of name) ≡ true → alignments children ≡ in_each test found children →
+      at_node name children ≡ cond (is_transparent name) (in_each test found children) []
+  seen_through name children names through same =
+      node_through (is_named GfmTableDelimiterCellValue name) (leads_to_values name)
+      (is_transparent name) (alignment_of children ∷ []) (alignments children) _
+      (names.value ∙ no_value (standing_of name) through)
+      (names.leads ∙ ap (λ b. b || (is_table_head name || is_delimiter_row name)) through)
+      (names.transparent ∙ through) same
+    where
+      no_value : (standing : Standing) → is_through standing ≡ true →
+          has_symbol symbol.TableDelimiterValue standing ≡ false
+      no_value (Solid seen usual reading) e = cc
+      no_value _ e = refl
+
   -- a name that doesn't pass the test
   other_node : (name : Name) (children : Forest) (around : Role) (before : Option Symbol) →
       Named name →
@@ -90,31 +106,20 @@ module _ (test : Name → Bool) (only : Name) (one : Symbol) (p : Symbol → Boo
       (inner_before standing before) → list_all p (shown standing (spine children)) ≡ true →
       at_node name children ≡ cond (is_transparent name) (in_each test found children) []
   other_node name children around before names again Through is none stands shaped all =
-      node_through (is_named GfmTableDelimiterCellValue name) (leads_to_values name)
-      (is_transparent name) (alignment_of children
-      ∷ []) (alignments children) (in_each test found children) (names.value
-      ∙ ap (has_symbol symbol.TableDelimiterValue) is) (names.leads
-      ∙ ap (λ s. is_through s || (is_table_head name || is_delimiter_row name)) is)
-      (names.transparent ∙ ap is_through is) (again around before shaped all)
+      seen_through name children names (ap is_through is) (again around before shaped all)
   other_node name children around before names again Space is none stands shaped all =
-      node_through (is_named GfmTableDelimiterCellValue name) (leads_to_values name)
-      (is_transparent name) (alignment_of children
-      ∷ []) (alignments children) (in_each test found children) (names.value
-      ∙ ap (has_symbol symbol.TableDelimiterValue) is) (names.leads
-      ∙ ap (λ s. is_through s || (is_table_head name || is_delimiter_row name)) is)
-      (names.transparent
-      ∙ ap is_through is) (ap alignments stands ∙ ap (in_each test found) (sym stands))
+      seen_through name children names (ap is_through is)
+      (ap alignments stands ∙ ap (in_each test found) (sym stands))
   other_node name children around before names again (Solid seen usual reading) is
       none stands shaped all =
-      let apart = others seen (and_left (p seen) true all) none in
+      let apart = others seen (and_left _ _ all) none in
       let leads =
       names.leads ∙ ap (λ s. is_through s || (is_table_head name || is_delimiter_row name)) is
       ∙ ap (λ b. b || is_delimiter_row name) (names.head ∙ ap (has_symbol symbol.TableHead) is)
       ∙ ap (λ b. sameb the_type symbol.TableHead seen || b) (names.row
       ∙ ap (has_symbol symbol.TableDelimiterRow) is) ∙ apart.1 in
-      node_apart (is_named GfmTableDelimiterCellValue name) (leads_to_values name)
-      (is_transparent name) (alignment_of children
-      ∷ []) (alignments children) (in_each test found children) (names.value
+      node_apart _ _
+      _ _ _ _ (names.value
       ∙ ap (has_symbol symbol.TableDelimiterValue) is ∙ apart.0) leads
       (names.transparent ∙ ap is_through is)
   other_node name children around before names again Mdx is none stands shaped all = absurd stands
@@ -135,7 +140,7 @@ module _ (test : Name → Bool) (only : Name) (one : Symbol) (p : Symbol → Boo
       (subst (λ n. EachNode IsShapedNode children (inner_role (standing_of n) around before)
       (inner_before (standing_of n) before)) same shaped)
   any_node name children around before again stands shaped all false is =
-      other_node name children around before (named name) again (standing_of name) refl
+      other_node name children around before (named name) again _ refl
       (sym (test_symbol name)
       ∙ is) stands shaped all
 
@@ -143,11 +148,11 @@ module _ (test : Name → Bool) (only : Name) (one : Symbol) (p : Symbol → Boo
   level Empty around before shaped all = refl
   level (Node name start end children rest) around before shaped all =
       let st = standing_of name in
-      let both = sym (list_all-append p (shown st (spine children)) (spine rest)) ∙ all in
+      let both = sym (list_all-append p _ _) ∙ all in
       let here = any_node name children around before (level children) shaped.0.1 shaped.1
-      (and_left (list_all p (shown st (spine children))) (list_all p (spine rest)) both)
-      (test name) refl in
-      let after = level rest around (last_symbol before (shown st (spine children))) shaped.2
-      (and_right (list_all p (shown st (spine children))) (list_all p (spine rest)) both) in
+      (and_left _ _ both)
+      _ refl in
+      let after = level rest around _ shaped.2
+      (and_right _ _ both) in
       ap (λ xs. xs ++ alignments rest) here ∙ ap (λ ys. cond (test name) (found children)
       (cond (is_transparent name) (in_each test found children) []) ++ ys) after

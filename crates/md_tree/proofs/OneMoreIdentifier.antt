@@ -62,7 +62,7 @@ module _ (old new : Known) (text : Text) (left all : List Identifier)
       (updates.0 wanted
       ∙ ap (λ b. cond b true (contains text_cmp old wanted)) (compared text wanted))
       ∙ moved (is_same (identifier_of text) (identifier_of wanted)) (contains text_cmp old wanted)
-      (which left (identifier_of wanted))
+      (which left _)
       ∙ before wanted
     where
       moved : (b known : Bool) (o : Option ℕ) → cond b true known || is_some o
@@ -71,4 +71,4 @@ module _ (old new : Known) (text : Text) (left all : List Identifier)
       moved true false o = refl
       moved false true o = refl
       moved false false None = refl
-      moved false false (Some place) = refl
+      moved false false _ = refl

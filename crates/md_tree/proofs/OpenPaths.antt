@@ -1,13 +1,12 @@
 -- The open nodes of a course are those of a path: where a course stands after some events.
 use Rattle.std.proofs.Common.{◌≡◌, Bool, true, false, cond, Option, Some, None, List, [], ◌∷◌, ◌++◌}
 use Rattle.std.proofs.Common.{refl, sym, ap, ◌∙◌, subst, append_assoc}
-use Rattle.md_tree.proofs.Common.{Event, Symbol, Role, Flow, Childless, Free, Standing, Through}
-use Rattle.md_tree.proofs.Common.{Space, Solid, Mdx, Referral, Missing, State, Entry, Open, Outer}
-use Rattle.md_tree.proofs.Common.{Forest, Empty, Node, flatten, entering, exiting, standing_of}
-use Rattle.md_tree.proofs.Common.{spine, shown, Claim, EachNode, inner_role, inner_before}
-use Rattle.md_tree.proofs.Common.{last_symbol, role_for, place, target_after, target_of, Level}
-use Rattle.md_tree.proofs.Common.{opening, role_in, before_in, symbol_after, may_hold, start_of}
-use Rattle.md_tree.proofs.Common.{advance, Reads, Course, entered, entered_on, beginning}
+use Rattle.md_tree.proofs.Common.{Event, Symbol, Role, Flow, Standing, Through, Space, Solid, Mdx}
+use Rattle.md_tree.proofs.Common.{Referral, Missing, State, Entry, Open, Outer, Forest, Empty, Node}
+use Rattle.md_tree.proofs.Common.{flatten, entering, exiting, standing_of, spine, shown, Claim}
+use Rattle.md_tree.proofs.Common.{EachNode, inner_role, inner_before, last_symbol, role_for}
+use Rattle.md_tree.proofs.Common.{target_of, Level, opening, role_in, before_in, symbol_after}
+use Rattle.md_tree.proofs.Common.{start_of, Reads, Course, entered, entered_on, beginning}
 use Rattle.md_tree.proofs.Spots.{Feeds, option_map-some}
 use Rattle.md_tree.proofs.NodesRead.{IsFine}
 use Rattle.md_tree.proofs.Trees.{Feeds-context}
@@ -39,13 +38,13 @@ pub target_of-joined : (forest others : Forest) (found : Referral) →
 target_of-joined Empty others found = refl
 target_of-joined (Node name start end children rest) others found =
     target_of-joined rest others
-    (target_after (standing_of name) found (target_of children) (place start end))
+    _
 
 last_symbol-append : (before : Option Symbol) (symbols others : List Symbol) →
     last_symbol before (symbols ++ others) ≡ last_symbol (last_symbol before symbols) others
 last_symbol-append before [] others = refl
 last_symbol-append before (symbol ∷ symbols) others =
-    last_symbol-append (Some symbol) symbols others
+    last_symbol-append _ symbols others
 
 pub EachNode-joined :
     (P : Claim) (forest others : Forest) (around : Role) (before : Option Symbol) →
@@ -121,15 +120,10 @@ pub entered_context : (standing : Standing) (state : State) (target : Referral) 
     (entry.state.role ≡ inner_role standing state.role state.before)
     × (entry.state.before ≡ inner_before standing state.before)
 entered_context Through state target entry e =
-    let same = some_entry (record { state = state; target = target; outer = None }) entry e in
+    let same = some_entry _ entry e in
     (ap (λ (n : Entry). n.state.role) (sym same), ap (λ (n : Entry). n.state.before) (sym same))
 entered_context Space state target entry e =
-    let same = some_entry (record {
-      state = start_of Childless;
-      target = Missing;
-      outer =
-          Some (record { state = state; before = state.before; target = target; reading = Free });
-    }) entry e in
+    let same = some_entry _ entry e in
     (ap (λ (n : Entry). n.state.role) (sym same), ap (λ (n : Entry). n.state.before) (sym same))
 entered_context (Solid symbol usual reading) state target entry e =
     let m = option_map-some (λ (next : State). record {
@@ -141,7 +135,7 @@ entered_context (Solid symbol usual reading) state target entry e =
         target = target;
         reading = reading;
       });
-    }) (advance state symbol) entry e in
+    }) _ entry e in
     (ap (λ (n : Entry). n.state.role) (sym m.2), ap (λ (n : Entry). n.state.before) (sym m.2))
 entered_context Mdx state target entry e = cc
 
@@ -154,14 +148,10 @@ level_context :
     (state.role ≡ role_in (level ∷ path)) × (state.before ≡ before_in (level ∷ path))
 level_context path level around here state found target outer r b feeds e =
     let st = standing_of level.name in
-    let on = may_hold_true (may_hold here.role) (entered_on st here found) (record {
-      state = state;
-      target = target;
-      outer = outer;
-    }) e in
+    let on = may_hold_true _ _ _ e in
     let inner =
-    entered_context st here found (record { state = state; target = target; outer = outer }) on.1 in
-    let context = Feeds-context around here (spine level.before) feeds in
+    entered_context st here found _ on.1 in
+    let context = Feeds-context around here _ feeds in
     let role_here : here.role ≡ role_in path = context.0 ∙ r in
     let before_here : here.before ≡ symbol_after (before_in path) level.before = context.1
     ∙ ap (λ b. last_symbol b (spine level.before)) b in (
@@ -178,7 +168,7 @@ Stands-context [] (open_node ∷ others) state target stands = absurd stands
 Stands-context (level ∷ path) [] state target stands = absurd stands
 Stands-context (level ∷ path) (open_node ∷ others) state target stands =
     let outer = Stands-context path others stands.0 stands.1 stands.3 in
-    level_context path level stands.0 stands.2 state (target_of level.before stands.1) target
+    level_context path level stands.0 stands.2 state _ target
     open_node.outer outer.0
     outer.1 stands.4 stands.7
 

@@ -3,9 +3,9 @@ use Rattle.std.proofs.Common.{◌≡◌, true, Option, Some, None, List, [], ◌
 use Rattle.std.proofs.Common.{◌∙◌, subst, append_assoc, append-nil}
 use Rattle.md_tree.proofs.Common.{Point, Name, Event, Referral, State, Entry, Open, Outer, Forest}
 use Rattle.md_tree.proofs.Common.{Empty, Node, flatten, entering, exiting, standing_of, spine}
-use Rattle.md_tree.proofs.Common.{shown, EachNode, inner_role, inner_before, target_of, Level}
-use Rattle.md_tree.proofs.Common.{opening, role_in, before_in, may_hold, Reads, Course, Exits}
-use Rattle.md_tree.proofs.Common.{ExitsWhere, after_entry, entered, entered_on}
+use Rattle.md_tree.proofs.Common.{EachNode, inner_role, inner_before, target_of, Level, opening}
+use Rattle.md_tree.proofs.Common.{role_in, before_in, may_hold, Reads, Course, Exits, ExitsWhere}
+use Rattle.md_tree.proofs.Common.{after_entry, entered, entered_on}
 use Rattle.md_tree.proofs.Spots.{Feeds, Feeds-append}
 use Rattle.md_tree.proofs.NodesRead.{IsFine}
 use Rattle.md_tree.proofs.Trees.{Feeds-context}
@@ -42,8 +42,7 @@ Reached-enter holds events from name start entry reached e =
       feeds = refl;
       target_is = refl;
       events_are = ap (λ es. es ++ entering name start ∷ []) reached.events_are
-          ∙ sym (append-nil ((opening reached.path ++ flatten reached.nodes)
-          ++ entering name start ∷ []));
+          ∙ sym (append-nil _);
       path_fine = (
         subst (λ b. EachNode (IsFine holds) reached.nodes (role_in reached.path) b) context.1
             (subst (λ r. EachNode (IsFine holds) reached.nodes r reached.base.before) context.0
@@ -100,9 +99,8 @@ left_from holds ending events name point from to (level ∷ path)
 left_from holds ending events name point from to (level ∷ path) (open_node
     ∷ others) nodes base found opens_are stands feeds target events_are path_fine fine exits =
     let here = stands.2 in
-    let on = may_hold_true (may_hold (State.role here)) (entered_on (standing_of level.name) here
-    (target_of level.before stands.1))
-    (record { state = base; target = found; outer = open_node.outer }) stands.7 in
+    let on = may_hold_true _ _
+    _ stands.7 in
     record {
       path = path;
       level = level;
@@ -145,10 +143,9 @@ pub Left-closed : (holds ending : Reads) (events : List Event) (name : Name) (po
     Closed ending (standing_of left.level.name) left.level.name left.level.start point left.nodes
     left.here to.state (target_of left.level.before left.found) to.target
 Left-closed holds ending events name point from to left =
-    closed holds ending (standing_of left.level.name) left.level.name left.level.start point
-    left.nodes left.here
-    left.base (target_of left.level.before left.found) left.inner left.open_node.outer left.others
-    from to left.may left.entered_is left.nodes_fine left.inside left.target_is left.exits
+    closed holds ending left.level.name left.level.start point left.nodes left.here left.base _
+    left.inner left.open_node.outer left.others from to left.may left.nodes_fine left.inside
+    left.target_is left.exits _ left.entered_is
 
 exits_open : (ending : Reads) (waiting : Option Outer) (start point : Point) (others : List Open)
     (from to : Course) →
@@ -160,8 +157,8 @@ exits_open ending (Some outer) start point others from to exits =
 events_joined : (a b c : List Event) (x y : Event) → ((((a ++ b) ++ x ∷ []) ++ c) ++ y ∷ []) ≡ a
     ++ (b ++ (x ∷ c ++ y ∷ []))
 events_joined a b c x y =
-    append_assoc ((a ++ b) ++ x ∷ []) c (y ∷ []) ∙ append_assoc (a ++ b) (x ∷ []) (c ++ y ∷ [])
-    ∙ append_assoc a b (x ∷ c ++ y ∷ [])
+    append_assoc _ c (y ∷ []) ∙ append_assoc (a ++ b) (x ∷ []) _
+    ∙ append_assoc a b _
 
 -- the inner context of a node that is left, by the spine around it
 pub Left-inner : (holds ending : Reads) (events : List Event) (name : Name) (point : Point)
@@ -172,8 +169,8 @@ pub Left-inner : (holds ending : Reads) (events : List Event) (name : Name) (poi
     (inner_before (standing_of left.level.name) left.here.before)
 Left-inner holds ending events name point from to left =
     let context =
-    entered_context (standing_of left.level.name) left.here (target_of left.level.before left.found)
-    (record { state = left.base; target = left.inner; outer = left.open_node.outer })
+    entered_context _ left.here _
+    _
     left.entered_is in
     subst (λ b. EachNode (IsFine holds) left.nodes (inner_role
     (standing_of left.level.name) left.here.role left.here.before) b) context.1
@@ -203,7 +200,7 @@ left_reached holds events point from to path level nodes around here found stand
     let before_fine = subst (λ b. EachNode (IsFine holds) level.before around.role b) (sym outer.1)
     (subst (λ r. EachNode (IsFine holds) level.before r (before_in path))
     (sym outer.0) path_fine.0) in
-    let more = subst (λ s. Feeds here s to.state) (sym (append-nil (shown st (spine nodes))))
+    let more = subst (λ s. Feeds here s to.state) (sym (append-nil _))
     closed_here.feeds in
     record {
       path = path;
@@ -212,14 +209,14 @@ left_reached holds events point from to path level nodes around here found stand
       found = found;
       stands = stands;
       feeds = subst (λ s. Feeds around s to.state) (sym (spine-joined level.before node))
-          (Feeds-append around here to.state (spine level.before) (spine node) feeds more);
+          (Feeds-append around here to.state _ _ feeds more);
       target_is = closed_here.target_is ∙ sym (target_of-joined level.before node found);
       events_are = ap (λ es. es ++ exiting level.name point ∷ []) events_are
           ∙ events_joined (opening path) (flatten level.before)
           (flatten nodes) (entering level.name level.start) (exiting level.name point)
           ∙ ap (λ es. opening path ++ es) (sym (flatten-joined level.before node));
       path_fine = path_fine.1;
-      nodes_fine = EachNode-joined (IsFine holds) level.before node around.role around.before
+      nodes_fine = EachNode-joined _ level.before node around.role around.before
           before_fine node_there;
     }
 

@@ -20,7 +20,7 @@ symbols-append : (names others : List Name) →
 symbols-append [] others = refl
 symbols-append (name ∷ names) others =
     ap (λ symbols. shown (standing_of name) [] ++ symbols) (symbols-append names others)
-    ∙ sym (append_assoc (shown (standing_of name) []) (symbols_of names) (symbols_of others))
+    ∙ sym (append_assoc (shown _ []) (symbols_of names) (symbols_of others))
 
 -- what one node shows
 node_shows :

@@ -4,9 +4,8 @@ use Rattle.std.proofs.Common.{◌≡◌, inl, inr, ℕ, zero, suc, ◌+◌, Bool
 use Rattle.std.proofs.Common.{Some, None, List, [], ◌∷◌, ◌++◌, drop, replicate, refl, sym, ap, ◌∙◌}
 use Rattle.std.proofs.Common.{subst, add-one}
 use Rattle.md_tree.proofs.Common.{list_all, option_map, Symbol, Item, Once, Maybe, Many, Stage}
-use Rattle.md_tree.proofs.Common.{Whole, Marker, Numeric, Hexadecimal, Setext, State, class_of}
-use Rattle.md_tree.proofs.Common.{takes, pattern_of, Fits, IsTail, IsGrouped, begun_by, next_stage}
-use Rattle.md_tree.proofs.Common.{is_optional, items_of, advance}
+use Rattle.md_tree.proofs.Common.{Whole, Marker, Numeric, Hexadecimal, Setext, State, Fits, IsTail}
+use Rattle.md_tree.proofs.Common.{IsGrouped, begun_by, next_stage, is_optional, items_of, advance}
 use Rattle.md_pattern.specs.declared.kinds.Symbol.TheVariants as symbol_variants
 use symbol_variants.{ReferenceMarker, SetextText, SetextUnderline, LineEnding}
 use Rattle.md_pattern.specs.Steps.{next_position, seek, moved}
@@ -77,8 +76,8 @@ sought_here : (all : List Item) (item : Item) (items : List Item) (k : ℕ) →
     item ∷ items ≡ drop k all →
     drop (next_position item k) all ≡ kept item items
 sought_here all (Many class) items k e = sym e
-sought_here all (Maybe class) items k e = rw add-one (sym (tail_of all k (Maybe class) items e))
-sought_here all (Once class) items k e = rw add-one (sym (tail_of all k (Once class) items e))
+sought_here all (Maybe class) items k e = rw add-one (sym (tail_of all k _ items e))
+sought_here all (Once class) items k e = rw add-one (sym (tail_of all k _ items e))
 
 seek_step : (all : List Item) (item : Item) (items : List Item) (k : ℕ) (symbol : Symbol) →
     drop (next_position item k) all ≡ kept item items →
@@ -97,29 +96,29 @@ seek_leaves all [] k symbol e = refl
 seek_leaves all (item ∷ items) k symbol e =
     seek_step all item items k symbol (sought_here all item items k e)
     (seek_leaves all items (k + 1) symbol (rw add-one (tail_of all k item items e)))
-    (takes (class_of item) symbol) (is_optional item)
+    _ _
 
 moved_spot : (all : List Item) (stage : Stage) (k : ℕ) (symbol : Symbol) →
     option_map (λ (n : ℕ × Stage). At (drop n.0 all) n.1) (moved stage k (drop k all) symbol)
     ≡ spot_after (drop k all) stage symbol
 moved_spot all Whole k symbol =
     option_map-option_map (λ n. (n, begun_by symbol)) (λ (n : ℕ × Stage). At (drop n.0 all) n.1)
-    (seek k (drop k all) symbol)
+    (seek k _ symbol)
     ∙ sym (option_map-option_map (λ n. drop n all) (λ left. At left (begun_by symbol))
-    (seek k (drop k all) symbol)) ∙ ap (option_map (λ left. At left (begun_by symbol)))
-    (seek_leaves all (drop k all) k symbol refl)
+    _) ∙ ap (option_map (λ left. At left (begun_by symbol)))
+    (seek_leaves all _ k symbol refl)
 moved_spot all Marker k symbol =
     option_map-option_map (λ n. (k, n)) (λ (n : ℕ × Stage). At (drop n.0 all) n.1)
-    (next_stage Marker symbol)
+    _
 moved_spot all Numeric k symbol =
     option_map-option_map (λ n. (k, n)) (λ (n : ℕ × Stage). At (drop n.0 all) n.1)
-    (next_stage Numeric symbol)
+    _
 moved_spot all Hexadecimal k symbol =
     option_map-option_map (λ n. (k, n)) (λ (n : ℕ × Stage). At (drop n.0 all) n.1)
-    (next_stage Hexadecimal symbol)
+    _
 moved_spot all Setext k symbol =
     option_map-option_map (λ n. (k, n)) (λ (n : ℕ × Stage). At (drop n.0 all) n.1)
-    (next_stage Setext symbol)
+    _
 
 advance_spot : (state : State) (symbol : Symbol) → option_map spot_of (advance state symbol)
     ≡ spot_after (items_of state) state.stage symbol
@@ -129,8 +128,8 @@ advance_spot state symbol =
       before = Some symbol;
       position = n.0;
       stage = n.1;
-    }) spot_of (moved state.stage state.position (items_of state) symbol)
-    ∙ moved_spot (pattern_of state.role) state.stage state.position symbol
+    }) spot_of _
+    ∙ moved_spot _ state.stage state.position symbol
 
 -- what a symbol leaves alone
 pub advance_role : (state next : State) (symbol : Symbol) → advance state symbol ≡ Some next →
@@ -141,7 +140,7 @@ advance_role state next symbol e =
       before = Some symbol;
       position = n.0;
       stage = n.1;
-    }) (moved state.stage state.position (items_of state) symbol) next e in
+    }) _ next e in
     (ap (λ (s : State). s.role) (sym m.2), ap (λ (s : State). s.before) (sym m.2))
 
 pub at_items : (items left : List Item) (stage next : Stage) → At items stage ≡ At left next →
@@ -155,9 +154,9 @@ pub Feeds-from_goes : (from : State) (symbols : List Symbol) (to : Spot) →
 Feeds-from_goes from [] to g = (from, refl, g)
 Feeds-from_goes from (symbol ∷ symbols) to g =
     let step =
-    option_map-some spot_of (advance from symbol) (At g.0 g.1) (advance_spot from symbol ∙ g.2) in
+    option_map-some spot_of _ _ (advance_spot from symbol ∙ g.2) in
     let next = step.0 in
-    let same = at_items (items_of next) g.0 next.stage g.1 step.2 in
+    let same = at_items _ g.0 next.stage g.1 step.2 in
     let rest =
     Feeds-from_goes next symbols to (subst (λ st. Goes (items_of next) st symbols to) (sym same.1)
     (subst (λ is. Goes is g.1 symbols to) (sym same.0) g.3)) in
@@ -231,7 +230,7 @@ goes_whole items (first ∷ firsts) spine ok grouped fit =
         on.left,
         begun_by first,
         ap (option_map (λ left. At left (begun_by first))) on.is_left,
-        Goes-append on.left on.left (begun_by first) Whole grouped.0 grouped.1 (At rest.0 Whole)
+        Goes-append on.left on.left (begun_by first) Whole grouped.0 grouped.1 _
             (goes_tail on.left first grouped.0 grouped.3) rest.1,
       ),
       rest.2,

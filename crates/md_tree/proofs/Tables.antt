@@ -44,13 +44,13 @@ neither_first : (one other seen : Symbol) → neither one other seen ≡ true �
     sameb the_type one seen ≡ false
 neither_first one other seen e =
     not_true (sameb the_type one seen)
-    (and_left (not (sameb the_type one seen)) (not (sameb the_type other seen)) e)
+    (and_left _ _ e)
 
 neither_second : (one other seen : Symbol) → neither one other seen ≡ true →
     sameb the_type other seen ≡ false
 neither_second one other seen e =
     not_true (sameb the_type other seen)
-    (and_right (not (sameb the_type one seen)) (not (sameb the_type other seen)) e)
+    (and_right _ _ e)
 
 -- the alignments of a row's, a head's and a table's children
 abbrev of_value : Forest → List AlignKind
@@ -77,7 +77,7 @@ row_level children shaped matches =
           (neither_second symbol.TableHead symbol.TableDelimiterRow seen e),
     ))
     children role.TableDelimiterRow None shaped (matches_pass p role.TableDelimiterRow
-    (spine children) refl refl matches)
+    _ refl refl matches)
 
 head_level : (children : Forest) → AreShaped children role.TableHead None →
     Matches role.TableHead (spine children) →
@@ -93,7 +93,7 @@ head_level children shaped matches =
           (neither_second symbol.TableDelimiterValue symbol.TableHead seen e) none,
     ))
     children role.TableHead None shaped
-    (matches_pass p role.TableHead (spine children) refl refl matches)
+    (matches_pass p role.TableHead _ refl refl matches)
 
 table_level : (children : Forest) → IsTable children →
     alignments children ≡ in_each is_table_head of_head children
@@ -107,7 +107,7 @@ table_level children table =
           (sameb the_type symbol.TableDelimiterRow seen) none
           (neither_second symbol.TableDelimiterValue symbol.TableDelimiterRow seen e),
     ))
-    children role.Table None table.0 (matches_pass p role.Table (spine children) refl refl table.1)
+    children role.Table None table.0 (matches_pass p role.Table _ refl refl table.1)
 
 -- ---- each of them
 map_cond : {A B : Type 0} (f : A → B) (passed transparent : Bool) (own inner : List A) →

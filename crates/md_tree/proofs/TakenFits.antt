@@ -24,14 +24,14 @@ one_more (Many class) items symbol symbols taken fit = (
   symbol ∷ fit.0,
   fit.1,
   ap (λ s. symbol ∷ s) fit.2,
-  and_both (takes class symbol) (list_all (takes class) fit.0) taken fit.3,
+  and_both _ _ taken fit.3,
   tt,
   fit.5,
 )
 one_more (Once class) items symbol symbols taken fit =
-    (symbol ∷ [], symbols, refl, and_both (takes class symbol) true taken refl, refl, fit)
+    (symbol ∷ [], symbols, refl, and_both _ _ taken refl, refl, fit)
 one_more (Maybe class) items symbol symbols taken fit =
-    (symbol ∷ [], symbols, refl, and_both (takes class symbol) true taken refl, omega arith, fit)
+    (symbol ∷ [], symbols, refl, and_both _ _ taken refl, omega arith, fit)
 
 none_optional : (item : Item) → is_optional item ≡ true → IsCount item 0
 none_optional (Once class) optional = cc
@@ -47,8 +47,8 @@ left_out item items symbols optional fit =
 pub fits_nothing : (items : List Item) → list_all is_optional items ≡ true → Fits items []
 fits_nothing [] e = refl
 fits_nothing (item ∷ items) e =
-    left_out item items [] (and_left (is_optional item) (list_all is_optional items) e)
-    (fits_nothing items (and_right (is_optional item) (list_all is_optional items) e))
+    left_out item items [] (and_left _ _ e)
+    (fits_nothing items (and_right _ _ e))
 
 fits_back_optional :
     (item : Item) (items left : List Item) (symbol : Symbol) (symbols : List Symbol) →
@@ -70,9 +70,9 @@ fits_back_taken : (item : Item) (items left : List Item) (symbol : Symbol) (symb
     Fits (item ∷ items) (symbol ∷ symbols)
 fits_back_taken item items left symbol symbols fit again true t e =
     one_more item items symbol symbols t
-    (subst (λ l. Fits l symbols) (sym (some_one (kept item items) left e)) fit)
+    (subst (λ l. Fits l symbols) (sym (some_one _ left e)) fit)
 fits_back_taken item items left symbol symbols fit again false t e =
-    fits_back_optional item items left symbol symbols again (is_optional item) refl e
+    fits_back_optional item items left symbol symbols again _ refl e
 
 -- what a reading takes fits
 pub fits_back : (items left : List Item) (symbol : Symbol) (symbols : List Symbol) →
@@ -80,4 +80,4 @@ pub fits_back : (items left : List Item) (symbol : Symbol) (symbols : List Symbo
 fits_back [] left symbol symbols e fit = cc
 fits_back (item ∷ items) left symbol symbols e fit =
     fits_back_taken item items left symbol symbols fit
-    (λ f. fits_back items left symbol symbols f fit) (takes (class_of item) symbol) refl e
+    (λ f. fits_back items left symbol symbols f fit) _ refl e

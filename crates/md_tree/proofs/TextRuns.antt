@@ -22,8 +22,8 @@ slice_range-run bytes text s start end is low ordered high =
     let rest : drop from text ≡ take left (drop start bytes) =
     ap (drop from) (sym is ∙ ap (λ n. take n (drop s bytes)) (sym all)) ∙ drop-take from left
     (drop s bytes) ∙ ap (take left) (drop-drop from s bytes ∙ ap (λ n. drop n bytes) there) in
-    ap (λ n. take n (drop from text)) count ∙ ap (take (end - start)) rest
-    ∙ take-take (end - start) left (drop start bytes) (omega arith)
+    ap (λ n. take n (drop from text)) count ∙ ap (take _) rest
+    ∙ take-take _ left _ (omega arith)
 
 -- bytes that may be read and are UTF-8 are a text
 pub text_when-some : (readable : Bool) (bytes part : List ℕ) → readable ≡ true →
@@ -47,7 +47,7 @@ pub run-part : (bytes text part : List ℕ) (s start end : ℕ) → s + length t
 run-part bytes text part s start end within is low low_end ordered high same utf8 =
     let in_order : start ≤ end = omega (arith, ordered, low, low_end) in
     text_when-some _ _ _
-    (readable-ordered start end (length bytes) in_order (omega (arith, within, high, low_end)))
+    (readable-ordered start end _ in_order (omega (arith, within, high, low_end)))
     (same ∙ slice_range-run bytes text s start end is low in_order high) utf8
 
 -- what holds of an answer, where there is one

@@ -5,8 +5,7 @@ use Rattle.std.proofs.Common.{None, Result, Ok, Err, refl, sym, ap, ◌∙◌, s
 use Rattle.std.specs.Prelude.{IfErr}
 use Rattle.md_tree.proofs.Common.{reverse, reverse-append, name_table, Event, Name, Point, Aim}
 use Rattle.md_tree.proofs.Common.{Reads, Course, Open, Outer, Exits, ExitsWhere, after_through}
-use Rattle.md_tree.proofs.Common.{point_at, place_at, target_seen, outer_of, opens_at, opens_seen}
-use Rattle.md_tree.proofs.Common.{course_of}
+use Rattle.md_tree.proofs.Common.{point_at, place_at, outer_of, opens_at, opens_seen, course_of}
 use Rattle.md_tree.specs.declared.open_nodes.Open.{Open as KeptOpen}
 use Rattle.md_tree.specs.Walk.{open_seen, targets_around, is_aimed}
 use Rattle.md_tree.proofs.Breaks.{IsStop-inside, IsStopInside-same}
@@ -63,9 +62,9 @@ returns-then-open_node-clause-refused c =
     (c.is_same_name.ensures.0 c.if-not-is_same_name.false)
     (ap (λ stands. if stands then Some outer else None) c.if-open_node.true)
     (IsStopInside-same bytes names c.args.index refusal outer
-    (place_at events open_node.entry c.args.index) (course_of events c.args.index self).state
-    (target_seen events self.target) (opens_seen events targets left)
-    (opens_seen events targets self.open_nodes.items) c.args.index self.mentions.items inside))
+    (place_at events open_node.entry c.args.index)
+    (record (course_of events c.args.index self) { open_nodes = opens_seen events targets left })
+    (opens_seen events targets self.open_nodes.items) inside))
     c.leave.result c.leave.ensures.refused
 
 pub returns-else-open_node-clause-ok : goal.returns-else-open_node-clause-ok

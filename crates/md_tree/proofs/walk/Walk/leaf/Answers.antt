@@ -3,10 +3,10 @@
 -- computes.
 use Rattle.std.proofs.Common.{◌≡◌, ◌⊎◌, Option, Some, None, sym, ap, ◌∙◌, subst, add-one, suc}
 use Rattle.md_tree.proofs.Common.{option_map, Symbol, advance, name_table, Through, Space, Missing}
-use Rattle.md_tree.proofs.Common.{target_at, broken_rule, point_at, place_at, target_seen}
-use Rattle.md_tree.proofs.Common.{course_of, IsStopAtLeaf}
+use Rattle.md_tree.proofs.Common.{target_at, broken_rule, point_at, place_at, course_of}
+use Rattle.md_tree.proofs.Common.{IsStopAtLeaf, state_of}
+use Rattle.md_tree.specs.Walk.{target_seen}
 use Rattle.md_pattern.specs.declared.spine_state.SpineState.{SpineState}
-use Rattle.md_pattern.specs.Places.{state_of}
 use Rattle.md_tree.specs.declared.rule.Rule.TheVariants as rule
 use Rattle.md_tree.specs.declared.rule.CompileError.TheVariants as error
 use Rattle.md_tree.proofs.Leaves.{passes-over, Passes-solid, IsStopAtLeaf-open, IsStopAtLeaf-broken}
