@@ -1,6 +1,6 @@
 -- Which rules a node can break, and how a walk stops at its exit.
-use Rattle.std.proofs.Common.{◌≡◌, ℕ, Bool, true, false, cond, Option, Some, None, List, ◌∷◌, sym}
-use Rattle.std.proofs.Common.{subst}
+use Rattle.std.proofs.Common.{true≢false, ◌∙◌, ◌≡◌, ℕ, Bool, true, false, cond, Option, Some, None}
+use Rattle.std.proofs.Common.{List, ◌∷◌, sym, subst}
 use Rattle.md_tree.proofs.Common.{Point, Name, Exit, text_between, Symbol, Role, Reading, Referral}
 use Rattle.md_tree.proofs.Common.{Missing, Resource, Label, Rule, CompileError, Position, Open}
 use Rattle.md_tree.proofs.Common.{Outer, place, broken_by, broken_rule, is_complete, Course, Exits}
@@ -39,8 +39,7 @@ of_none : (broken : Rule) → None ≡ Some broken → IsOfNode broken
 of_none broken e = cc
 
 of_mark : (b c : Bool) (broken : Rule) →
-    cond b (unless c rule.HeadingMark) (Some rule.Place) ≡ Some broken →
-    IsOfNode broken
+    cond b (unless c rule.HeadingMark) (Some rule.Place) ≡ Some broken → IsOfNode broken
 of_mark true c broken e = of_unless c rule.HeadingMark broken tt e
 of_mark false c broken e = subst IsOfNode (some_rule rule.Place broken e) tt
 
@@ -78,9 +77,8 @@ module _ (bytes : List ℕ) (names : List (List ℕ × List ℕ)) where
   of_node _ around before start end target broken e = of_none broken e
 
   -- the innermost open node may not end, or breaks a rule
-  breaks_inside : (broken : Rule) (outer : Outer)
-      (start end : Point) (course : Course) → IsOfNode broken →
-      BreaksWhere bytes names broken (Some outer) start end course →
+  breaks_inside : (broken : Rule) (outer : Outer) (start end : Point) (course : Course) →
+      IsOfNode broken → BreaksWhere bytes names broken (Some outer) start end course →
       StopsInside bytes names broken outer (place start end) course
   breaks_inside rule.Order outer start end course of breaks = absurd of
   breaks_inside _ outer start end course of breaks = breaks
@@ -88,23 +86,17 @@ module _ (bytes : List ℕ) (names : List (List ℕ × List ℕ)) where
   pub StopsInside-broken : (broken : Rule) (outer : Outer)
       (start end : Point) (course : Course) → is_complete course.state ≡ true →
       broken_rule bytes names outer.reading outer.state.role outer.before start end course.target
-      ≡ Some broken →
-      StopsInside bytes names broken outer (place start end) course
+      ≡ Some broken → StopsInside bytes names broken outer (place start end) course
   StopsInside-broken broken outer start end course complete e =
       breaks_inside broken outer start end course (of_node outer.reading
       outer.state.role outer.before start end course.target broken e) (complete, e)
 
-  clash_complete : (b : Bool) → b ≡ false → b ≡ true → ⊥
-  clash_complete b e f = cc
-
   exit_breaks : (broken : Rule) (opens others : List Open)
       (open_node : Open) (outer : Outer) (name : Name) (point : Point) (course : Course) →
-      opens ≡ open_node ∷ others →
-      open_node.name ≡ name → open_node.outer ≡ Some outer →
+      opens ≡ open_node ∷ others → open_node.name ≡ name → open_node.outer ≡ Some outer →
       BreaksWhere bytes names broken (Some outer) open_node.start point course →
       BreaksAtExit bytes names broken opens name point course
-  exit_breaks broken opens others open_node outer name point course opens_are
-      same outer_is breaks =
+  exit_breaks broken opens others open_node outer name point course opens_are same outer_is breaks =
       subst (λ os. BreaksAtExit bytes names broken os name point course) (sym opens_are) (
         same,
         subst (λ o. BreaksWhere bytes names broken o open_node.start point course)
@@ -115,40 +107,36 @@ module _ (bytes : List ℕ) (names : List (List ℕ × List ℕ)) where
       (opens others : List Open) (open_node : Open) (outer : Outer) (name : Name) (point : Point)
       (course next : Course) → opens ≡ open_node ∷ others → open_node.outer ≡ Some outer →
       is_complete course.state ≡ false → Exits Anything opens name point course next → ⊥
-  exit_order opens others open_node outer name point course next opens_are outer_is incomplete exits =
+  exit_order opens others open_node outer name point course next opens_are outer_is undone exits =
       let here = subst (λ os. Exits Anything os name point course next) opens_are exits in
       let inside =
       subst (λ o. ExitsWhere Anything o open_node.start point others course next) outer_is here.1 in
-      clash_complete _ incomplete inside.0
+      true≢false (sym inside.0 ∙ undone)
 
-  exit_stops : (broken : Rule) (others : List Open)
-      (open_node : Open) (outer : Outer) (name : Name) (point : Point) (course : Course) →
-      course.open_nodes ≡ open_node ∷ others →
+  exit_stops : (broken : Rule) (others : List Open) (open_node : Open) (outer : Outer) (name : Name)
+      (point : Point) (course : Course) → course.open_nodes ≡ open_node ∷ others →
       open_node.name ≡ name → open_node.outer ≡ Some outer →
       StopsInside bytes names broken outer (place open_node.start point) course →
       StopsAtExit bytes names broken name point course
-  exit_stops rule.Order others open_node outer name point course opens_are
-      same outer_is stops =
+  exit_stops rule.Order others open_node outer name point course opens_are same outer_is stops =
       λ next exits. exit_order course.open_nodes others open_node outer name point course next
       opens_are outer_is stops exits
-  exit_stops rule.Mdx others open_node outer name point course opens_are
-      same outer_is stops =
+  exit_stops rule.Mdx others open_node outer name point course opens_are same outer_is stops =
       of_node outer.reading outer.state.role outer.before open_node.start point
       course.target rule.Mdx stops.1
   exit_stops rule.Definition others open_node outer name point course opens_are
       same outer_is stops =
       absurd (of_node outer.reading outer.state.role outer.before open_node.start point
       course.target rule.Definition stops.1)
-  exit_stops broken others open_node outer name point course opens_are
-      same outer_is stops =
+  exit_stops broken others open_node outer name point course opens_are same outer_is stops =
       exit_breaks broken course.open_nodes others open_node outer name point course
       opens_are same outer_is stops
 
   -- the same, as a refusal
-  pub IsStop-inside : (index : ℕ) (refusal : CompileError)
-      (others : List Open) (open_node : Open) (outer : Outer) (name : Name)
-      (point : Point) (course : Course) →
-      course.open_nodes ≡ open_node ∷ others → open_node.name ≡ name → open_node.outer ≡ Some outer →
+  pub IsStop-inside : (index : ℕ) (refusal : CompileError) (others : List Open) (open_node : Open)
+      (outer : Outer) (name : Name) (point : Point) (course : Course) →
+      course.open_nodes ≡ open_node ∷ others → open_node.name ≡ name →
+      open_node.outer ≡ Some outer →
       IsStopInside bytes names index outer (place open_node.start point) course refusal →
       IsStop bytes names index Exit name point course refusal
   IsStop-inside index error.Memory others open_node outer name point course opens_are
@@ -156,8 +144,7 @@ module _ (bytes : List ℕ) (names : List (List ℕ × List ℕ)) where
   IsStop-inside index (error.Event named broken) others open_node outer name point course
       opens_are same outer_is stops = (
         stops.0,
-        exit_stops broken others open_node outer name point course opens_are
-            same outer_is stops.1,
+        exit_stops broken others open_node outer name point course opens_are same outer_is stops.1,
       )
 
   -- the open nodes don't matter inside

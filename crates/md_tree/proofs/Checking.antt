@@ -26,8 +26,7 @@ pub Runs-more : (holds : Reads) (events : List Event) (index : ℕ) (d : Event) 
     Steps holds (get_or events index d) from to → Runs holds (take (suc index) events) beginning to
 Runs-more holds events index d from to inside runs step =
     subst (λ es. Runs holds es beginning to) (sym (take-suc events index d inside))
-    (Runs-append holds _ _ beginning from to
-    runs (to, step, refl))
+    (Runs-append holds _ _ beginning from to runs (to, step, refl))
 
 -- ---- the end
 pub IsRefusal-undone : (given : Handed) (course : Course) →
@@ -64,8 +63,7 @@ module _ (given : Handed) (mentioned : List Mentioned) (index : ℕ) (mention : 
 
   lost_got : slice_get all index ≡ Some mention
   lost_got =
-      got-listed all lost.0 _
-      (ap (λ ms. slice_get ms lost.0) (sym walked.mentions_are) ∙ lost.1)
+      got-listed all lost.0 _ (ap (λ ms. slice_get ms lost.0) (sym walked.mentions_are) ∙ lost.1)
 
   lost_unresolved : IsResolved given.bytes all mention → ⊥
   lost_unresolved is =

@@ -43,7 +43,8 @@ module _ (holds ending : Reads) (name : Name) (start end : Point) (children : Fo
     (here base : State) (found inner : Referral) (outer : Option Outer) (others : List Open)
     (last to : Course) (may : may_hold here.role ≡ true)
     (fine : EachNode (IsFine holds) children base.role base.before)
-    (feeds : Feeds base (spine children) last.state) (target : last.target ≡ target_of children inner)
+    (feeds : Feeds base (spine children) last.state)
+    (target : last.target ≡ target_of children inner)
     (exits : ExitsWhere ending outer start end others last to) where
   abbrev Enters : Standing → Type 0
   Enters standing = entered_on standing here found

@@ -3,8 +3,8 @@ pub use Rattle.std.specs.Prelude.{map, slice_get, unwrap_or, option_map, is_some
 pub use Rattle.std.specs.Prelude.{Err, reverse}
 pub use Rattle.std.specs.List.{All, list_all, Contains}
 pub use Rattle.std.proofs.Math.Seq.{take-suc}
-pub use Rattle.std.proofs.lemmas.Option.{slice_get_within, get_or_from_slice_get, slice_get-get_or}
-pub use Rattle.std.proofs.lemmas.Option.{slice_get-map}
+pub use Rattle.std.proofs.lemmas.Option.{slice_get_within, get_or_from_slice_get, none-some}
+pub use Rattle.std.proofs.lemmas.Option.{slice_get-get_or, slice_get-map}
 pub use Rattle.std.proofs.lemmas.List.Elements.{All-cons, All-append, All-nil, All-head, All-tail}
 pub use Rattle.std.proofs.lemmas.List.{get_or-map, map-append, length-map, take-append-drop}
 pub use Rattle.std.proofs.lemmas.List.{reverse-append}

@@ -82,14 +82,12 @@ closing (open_node ∷ others) from opens settled waits =
     record {
       more = flatten _ ++ exiting open_node.name somewhere ∷ rest.more;
       to = rest.to;
-      runs = Runs-append Anything _
-          _
-          from last rest.to inside.runs (
-            left.to,
-            subst (λ os. Exits Anything os open_node.name somewhere last left.to)
-                (sym opens) left.exits,
-            rest.runs,
-          );
+      runs = Runs-append Anything _ _ from last rest.to inside.runs (
+        left.to,
+        subst (λ os. Exits Anything os open_node.name somewhere last left.to)
+            (sym opens) left.exits,
+        rest.runs,
+      );
       none_open = rest.none_open;
       complete = rest.complete;
     }
@@ -125,8 +123,7 @@ IsDone-runs holds events course runs none complete =
 
 -- events that are read without an error begin a document with the shape of the grammar
 pub BeginTree-runs : (holds : Reads) (events : List Event) (course : Course) →
-    Runs holds events beginning course →
-    BeginTree events
+    Runs holds events beginning course → BeginTree events
 BeginTree-runs holds events course runs =
     let settled = settled_runs holds events beginning course ((λ _. refl), tt) runs in
     let on = closing course.open_nodes course refl settled.0 settled.1 in

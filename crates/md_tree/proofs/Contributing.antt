@@ -6,9 +6,8 @@ use Rattle.md_tree.proofs.Common.{contributing_over, index_if}
 use Rattle.md_base.specs.NameTests.{contributes}
 use Rattle.md_pattern.specs.Partners.{last_contributing_at}
 
-one_more : (later : Option ℕ) (here : Bool) (index before : ℕ) →
-    unwrap_or later (cond here index before)
-    ≡ unwrap_or (or_else later (cond here (Some index) None)) before
+one_more : (later : Option ℕ) (here : Bool) (index before : ℕ) → unwrap_or later
+    (cond here index before) ≡ unwrap_or (or_else later (cond here (Some index) None)) before
 one_more None true index before = refl
 one_more None false index before = refl
 one_more (Some last) here index before = refl
@@ -34,8 +33,7 @@ there : (forest : Forest) (index : ℕ) →
     ≡ last_contributing_at (suc index) forest
 there Empty index = refl
 there (Node name start end children rest) index =
-    there_with (last_contributing_at _ rest)
-    _ index (there rest _)
+    there_with (last_contributing_at _ rest) _ index (there rest _)
 
 pub contributing-found : (children : Forest) (index : ℕ) →
     index_if (contributing_over (suc index) children 0) ≡ last_contributing_at (suc index) children

@@ -42,8 +42,7 @@ all_definitions events (Node name start end children rest) index seen later e sa
     (own ++ definition_entries (suc exit) rest)
     (all_definitions events children (suc index) (seen ++ first ∷ []) (last
     ∷ (flatten rest ++ later)) one (in_node events seen inner (flatten rest) later first last same))
-    (All-append holds own (definition_entries _ rest)
-    (own_definition events index name start there)
+    (All-append holds own (definition_entries _ rest) (own_definition events index name start there)
     (all_definitions events rest (suc exit) _ later (length_one _ last
     ∙ ap suc inside) (after_node events seen inner _ later first last same)))
 

@@ -1,18 +1,18 @@
 -- What follows of a list of events from a node that breaks a rule, and from how a walk ends:
 -- something is left open, or a whole document was read. `Checking` needs it for what `check` says.
-use Rattle.std.proofs.Common.{◌≡◌, ◌≢◌, ◌⊎◌, inl, inr, ℕ, zero, suc, Bool, true, false, Option}
-use Rattle.std.proofs.Common.{Some, None, List, [], ◌∷◌, ◌++◌, drop, refl, sym, ap, ◌∙◌, subst}
-use Rattle.std.proofs.Common.{append_assoc}
-use Rattle.md_tree.proofs.Common.{list_all, Point, Name, Event, Flow, Free, Standing, Through}
-use Rattle.md_tree.proofs.Common.{Space, Solid, Mdx, Referral, Missing, Mentioned, Rule, State}
-use Rattle.md_tree.proofs.Common.{Open, Outer, Forest, Empty, Node, flatten, exiting, standing_of}
-use Rattle.md_tree.proofs.Common.{spine, pattern_of, IsShaped, AreShaped, inner_role, inner_before}
-use Rattle.md_tree.proofs.Common.{broken_rule, reading_of, MeetRules, target_of, Handed}
-use Rattle.md_tree.proofs.Common.{IsGrammatical, IsReadAs, IsChecked, Level, role_in, symbol_after}
-use Rattle.md_tree.proofs.Common.{EndsInGroup, EndsBroken, is_complete, is_whole, is_optional}
-use Rattle.md_tree.proofs.Common.{items_of, start_of, Reads, Course, Runs, Exits, ExitsWhere}
-use Rattle.md_tree.proofs.Common.{after_exit, entered_on, beginning, Unbroken, BreaksWhere}
-use Rattle.md_tree.proofs.Common.{BreaksAtExit, mentions_of}
+use Rattle.std.proofs.Common.{true≢false, ◌≡◌, ◌≢◌, ◌⊎◌, inl, inr, ℕ, zero, suc, Bool, true, false}
+use Rattle.std.proofs.Common.{Option, Some, None, List, [], ◌∷◌, ◌++◌, drop, refl, sym, ap, ◌∙◌}
+use Rattle.std.proofs.Common.{subst, append_assoc}
+use Rattle.md_tree.proofs.Common.{none-some, list_all, Point, Name, Event, Flow, Free, Standing}
+use Rattle.md_tree.proofs.Common.{Through, Space, Solid, Mdx, Referral, Missing, Mentioned, Rule}
+use Rattle.md_tree.proofs.Common.{State, Open, Outer, Forest, Empty, Node, flatten, exiting}
+use Rattle.md_tree.proofs.Common.{standing_of, spine, pattern_of, IsShaped, AreShaped, inner_role}
+use Rattle.md_tree.proofs.Common.{inner_before, broken_rule, reading_of, MeetRules, target_of}
+use Rattle.md_tree.proofs.Common.{Handed, IsGrammatical, IsReadAs, IsChecked, Level, role_in}
+use Rattle.md_tree.proofs.Common.{symbol_after, EndsInGroup, EndsBroken, is_complete, is_whole}
+use Rattle.md_tree.proofs.Common.{is_optional, items_of, start_of, Reads, Course, Runs, Exits}
+use Rattle.md_tree.proofs.Common.{ExitsWhere, after_exit, entered_on, beginning, Unbroken}
+use Rattle.md_tree.proofs.Common.{BreaksWhere, BreaksAtExit, mentions_of}
 use Rattle.md_tree.specs.Refusal.{Begins, LeaveOpen}
 use Rattle.md_tree.specs.Walk.{Broken}
 use Rattle.md_tree.proofs.Listing.{listed, mentions_over-listed}
@@ -30,9 +30,8 @@ use Rattle.md_tree.proofs.Verdicts.{Runs-same, Runs-checked, Reached-runs}
 -- ---- a node that breaks a rule
 
 module _ (bytes : List ℕ) (names : List (List ℕ × List ℕ)) (broken : Rule) where
-  exits_broken_where : (outer : Option Outer)
-      (start point : Point) (others : List Open) (course : Course) →
-      BreaksWhere bytes names broken outer start point course →
+  exits_broken_where : (outer : Option Outer) (start point : Point) (others : List Open)
+      (course : Course) → BreaksWhere bytes names broken outer start point course →
       (next : Course) × ExitsWhere (Broken bytes names broken) outer start point others course next
   exits_broken_where None start point others course breaks = absurd breaks
   exits_broken_where (Some outer) start point others course breaks =
@@ -46,9 +45,6 @@ module _ (bytes : List ℕ) (names : List (List ℕ × List ℕ)) (broken : Rule
       let inside = exits_broken_where open_node.outer open_node.start point
       others course breaks.1 in
       (inside.0, (breaks.0, inside.1))
-
-  none_some : {A : Type 0} (x : A) → None ≡ Some x → ⊥
-  none_some x e = cc
 
   broken_there : (standing : Standing) (name : Name) (start end : Point) (children : Forest)
       (here after base : State) (found inner target : Referral)
@@ -66,18 +62,15 @@ module _ (bytes : List ℕ) (names : List (List ℕ × List ℕ)) (broken : Rule
         outer = waiting;
       }) e in
       absurd (subst (λ o. BreaksWhere bytes names broken o start end course) (sym parts.2) breaks)
-  broken_there Space name start end children here after base found inner
-      target waiting course e
+  broken_there Space name start end children here after base found inner target waiting course e
       breaks closed =
       let free : Outer =
       record { state = here; before = here.before; target = found; reading = Free } in
       let parts =
-      entry_is _
-      _ e in
-      absurd (none_some broken
+      entry_is _ _ e in
+      absurd (none-some broken
       (subst (λ o. BreaksWhere bytes names broken o start end course) (sym parts.2) breaks).1)
-  broken_there (Solid symbol usual reading) name start end children here
-      after base found inner
+  broken_there (Solid symbol usual reading) name start end children here after base found inner
       target waiting course e breaks closed =
       closed.read
   broken_there Mdx name start end children here after base found inner target
@@ -87,9 +80,8 @@ module _ (bytes : List ℕ) (names : List (List ℕ × List ℕ)) (broken : Rule
       (((a ++ x ∷ []) ++ c) ++ y ∷ []) ≡ a ++ (x ∷ c ++ y ∷ [])
   events_ended a c x y = append_assoc _ c (y ∷ []) ∙ append_assoc a (x ∷ []) _
 
-  breaks_left : (seen : List Event)
-      (name : Name) (point : Point) (course next : Course) → (left : Left (Unbroken bytes names)
-      (Broken bytes names broken) seen name point course next) →
+  breaks_left : (seen : List Event) (name : Name) (point : Point) (course next : Course) →
+      (left : Left (Unbroken bytes names) (Broken bytes names broken) seen name point course next) →
       BreaksAtExit bytes names broken course.open_nodes name point course →
       BreaksWhere bytes names broken left.open_node.outer left.open_node.start point course
   breaks_left seen name point course next left breaks =
@@ -113,16 +105,15 @@ module _ (bytes : List ℕ) (names : List (List ℕ × List ℕ)) (broken : Rule
       let role_here = context.0 ∙ outer.0 in
       let before_here = context.1 ∙ ap (λ b. symbol_after b level.before) outer.1 in
       let node = Node level.name level.start point left.nodes Empty in
-      let inner = fine_shaped holds left.nodes
-      (inner_role _ left.here.role left.here.before)
+      let inner = fine_shaped holds left.nodes (inner_role _ left.here.role left.here.before)
       (inner_before _ left.here.before)
       (Left-inner holds ending seen name point course next left) in
       let shaped_here : AreShaped node left.here.role left.here.before =
       ((closed.apart, closed.shaped), inner, tt) in
-      let breaks_here = broken_there (standing_of level.name) level.name
-      level.start point left.nodes left.here next.state left.base (target_of level.before left.found)
-      left.inner next.target left.open_node.outer course left.entered_is
-      (subst (λ s. BreaksWhere bytes names broken left.open_node.outer s point course) left.start_is
+      let breaks_here = broken_there (standing_of level.name) level.name level.start point
+      left.nodes left.here next.state left.base (target_of level.before left.found) left.inner
+      next.target left.open_node.outer course left.entered_is (subst
+      (λ s. BreaksWhere bytes names broken left.open_node.outer s point course) left.start_is
       (breaks_left seen name point course next left breaks)) closed in
       record {
         path = left.path;
@@ -132,9 +123,7 @@ module _ (bytes : List ℕ) (names : List (List ℕ × List ℕ)) (broken : Rule
         end = point;
         children = left.nodes;
         events_are = ap (λ n. seen ++ exiting n point ∷ []) (sym left.name_is)
-            ∙ ap (λ es. es ++ exiting level.name point ∷ []) left.events_are
-            ∙ events_ended _ _
-            _ _;
+            ∙ ap (λ es. es ++ exiting level.name point ∷ []) left.events_are ∙ events_ended _ _ _ _;
         path_shaped = (fine_path_shaped holds (level ∷ left.path) left.path_fine).1;
         nodes_shaped =
             fine_shaped holds level.before _ _ left.path_fine.0;
@@ -150,8 +139,7 @@ module _ (bytes : List ℕ) (names : List (List ℕ × List ℕ)) (broken : Rule
 -- ---- the end
 
 begins : (holds : Reads) (events : List Event) (course : Course) →
-    (reached : Reached holds events course) →
-    Begins events reached.path reached.nodes
+    (reached : Reached holds events course) → Begins events reached.path reached.nodes
 begins holds events course reached =
     let outer =
     Stands-context reached.path course.open_nodes reached.base reached.found reached.stands in
@@ -164,8 +152,7 @@ begins holds events course reached =
     }
 
 path_some : (path : List Level) (open_node : Open) (others : List Open) (state : State)
-    (target : Referral) →
-    Stands path (open_node ∷ others) state target → path ≢ []
+    (target : Referral) → Stands path (open_node ∷ others) state target → path ≢ []
 path_some [] open_node others state target stands = absurd stands
 path_some (level ∷ path) open_node others state target stands = λ e. cc
 
@@ -190,8 +177,7 @@ IsLeftOpen events = (path : List Level) × (nodes : Forest) × Begins events pat
     × ((path ≢ []) ⊎ ((path ≡ []) × EndsInGroup (spine nodes)))
 
 leaves_group : (holds : Reads) (events : List Event) (course : Course) →
-    (reached : Reached holds events course) →
-    (reached.path ≡ []) → reached.base ≡ start_of Flow →
+    (reached : Reached holds events course) → (reached.path ≡ []) → reached.base ≡ start_of Flow →
     is_complete course.state ≡ false → IsLeftOpen events
 leaves_group holds events course reached none base incomplete =
     let feeds = subst (λ s. Feeds s (spine reached.nodes) course.state) base reached.feeds in
@@ -204,10 +190,8 @@ leaves_group holds events course reached none base incomplete =
     )
 
 leave_open : (holds : Reads) (events : List Event) (course : Course) (opens : List Open) →
-    course.open_nodes ≡ opens →
-    (reached : Reached holds events course) →
-    (course.open_nodes ≡ [] → is_complete course.state ≡ false) →
-    IsLeftOpen events
+    course.open_nodes ≡ opens → (reached : Reached holds events course) →
+    (course.open_nodes ≡ [] → is_complete course.state ≡ false) → IsLeftOpen events
 leave_open holds events course [] e reached undone =
     let none = path_none reached.path reached.base reached.found
     (subst (λ os. Stands reached.path os reached.base reached.found) e reached.stands) in
@@ -229,9 +213,6 @@ LeaveOpen-undone holds events course runs undone = (
       (Reached-runs holds events course runs) undone,
 )
 
-true_false : (b : Bool) → b ≡ true → b ≡ false → ⊥
-true_false b e f = cc
-
 -- and no document of the grammar is read so
 pub outside-undone : (given : Handed) (course : Course) →
     Runs (Unbroken given.bytes given.names) given.events beginning course →
@@ -241,10 +222,9 @@ outside-undone given course runs undone checked =
     let document = Runs-checked given checked.0 (IsReadAs.flattened checked.1)
     (IsGrammatical.shape (IsReadAs.grammatical checked.1))
     (IsGrammatical.rules (IsReadAs.grammatical checked.1)) in
-    let same = Runs-same holds holds given.events beginning course
-    _ runs document.1 in
-    true_false _ (ap (λ (c : Course). is_complete c.state) same
-    ∙ document.2) (undone (ap (λ (c : Course). c.open_nodes) same))
+    let same = Runs-same holds holds given.events beginning course _ runs document.1 in
+    true≢false (sym (ap (λ (c : Course). is_complete c.state) same ∙ document.2)
+    ∙ undone (ap (λ (c : Course). c.open_nodes) same))
 
 -- all has ended: the document that was read
 pub record IsWalked (given : Handed) (mentions : List Mentioned) : Type 0 where
@@ -262,8 +242,7 @@ IsWalked-done given course runs none complete =
     let done = IsDone-runs holds given.events course runs none complete in
     let rules = fine_meets given.bytes given.names done.forest Flow None done.fine in
     let document = Runs-checked given done.forest done.flattened done.shape rules in
-    let same = Runs-same holds holds given.events beginning course
-    _ runs document.1 in
+    let same = Runs-same holds holds given.events beginning course _ runs document.1 in
     record {
       forest = done.forest;
       flattened = done.flattened;

@@ -15,8 +15,7 @@ abbrev pub IsFed : State → List Symbol → Type 0
 IsFed state symbols = (end : State) × Feeds state symbols end × (is_complete end ≡ true)
 
 fed_on : (state : State) (one : Symbol) (symbols : List Symbol) (o : Option State) →
-    advance state one ≡ o →
-    ((next : State) → ends_after next symbols ≡ true → IsFed next symbols) →
+    advance state one ≡ o → ((next : State) → ends_after next symbols ≡ true → IsFed next symbols) →
     (elim o [ None ↦ false | Some next ↦ ends_after next symbols ]) ≡ true →
     IsFed state (one ∷ symbols)
 fed_on state one symbols None is rest e = cc
@@ -31,8 +30,7 @@ fed state (one ∷ symbols) e =
     fed_on state one symbols _ refl (λ next ends. fed next symbols ends) e
 
 pub matches_after : (inner : Role) (symbols : List Symbol) →
-    ends_after (start_of inner) symbols ≡ true →
-    Matches inner symbols
+    ends_after (start_of inner) symbols ≡ true → Matches inner symbols
 matches_after inner symbols e =
     let whole = fed _ symbols e in
     matches_feeds inner symbols whole.0 whole.1 whole.2

@@ -15,11 +15,9 @@ IsTableRow row = row.event.name ≡ GfmTable → (children : Forest) →
     row.children ≡ Some children → IsTable children
 
 entry_shape : (name : Name) (children : Forest) (around : Role) (before : Option Symbol) →
-    IsStanding (standing_of name) around before children →
-    EachNode IsShapedNode children (inner_role (standing_of name) around before)
-    (inner_before (standing_of name) before) → name ≡ GfmTable → (other : Forest) →
-    Some children ≡ Some other →
-    IsTable other
+    IsStanding (standing_of name) around before children → EachNode IsShapedNode children
+    (inner_role (standing_of name) around before) (inner_before (standing_of name) before) →
+    name ≡ GfmTable → (other : Forest) → Some children ≡ Some other → IsTable other
 entry_shape name children around before stands shaped is other e =
     let one : children ≡ other = cc in
     let table : IsTable children = (
@@ -40,8 +38,7 @@ rows_shaped forest index tables around before shaped =
       λ is other e. cc,
       (_, _, holds.2.1),
       (holds.0, _, holds.2.2),
-    ))
-    forest index tables (around, before, shaped)
+    )) forest index tables (around, before, shaped)
 
 -- where a document of the grammar enters a table, its children have a table's shape
 pub IsTable-entered : (given : Handed) (index : ℕ) → IsChecked given →

@@ -40,19 +40,14 @@ table_there name before later own n e is =
     ∙ get_at before later own n e
 
 entry_found : (ended : List (List AlignKind)) (index tables : ℕ) (name : Name) (start : Point)
-    (children : Forest) →
-    (is_table name ≡ true →
+    (children : Forest) → (is_table name ≡ true →
     slice_get ended (tables_after tables children) ≡ Some (alignments children)) →
     IsFound ended (entry_row index tables name (entering name start) children)
 entry_found ended index tables name start children there other e =
     let one : children ≡ other = cc in
     subst (λ nodes. (t : ℕ) × (fact_at index tables name children ≡ fact_at index t name nodes)
     × (is_table name ≡ true → slice_get ended (tables_after t nodes) ≡ Some (alignments nodes)))
-    one (
-      tables,
-      refl,
-      there,
-    )
+    one (tables, refl, there)
 
 rows_found : (ended before later : List (List AlignKind)) (forest : Forest) (index tables : ℕ) →
     length before ≡ tables → ended ≡ before ++ (tables_of forest ++ later) →
@@ -116,9 +111,8 @@ mapped_long f xs ys same = sym (length-map xs f) ∙ ap length same
 
 -- the partners, wherever the index is
 pub partners_there : (forest : Forest) (events : List Event) (facts : List Fact) (index : ℕ) →
-    flatten forest ≡ events → facts ≡ facts_at events →
-    option_map (λ (f : Fact). f.partner) (slice_get facts index)
-    ≡ slice_get (partners_of 0 forest) index
+    flatten forest ≡ events → facts ≡ facts_at events → option_map (λ (f : Fact). f.partner)
+    (slice_get facts index) ≡ slice_get (partners_of 0 forest) index
 partners_there forest events facts index flattened is =
     sym (slice_get-map (λ (f : Fact). f.partner) facts index)
     ∙ ap (λ fs. slice_get (map (λ (f : Fact). f.partner) fs) index)
@@ -132,8 +126,7 @@ partners_there forest events facts index flattened is =
         let exit = index_after (suc index) children in
         let more = tables_with name (tables_after tables children) in
         ap (λ ps. exit ∷ ps)
-        (map-append (λ (f : Fact). f.partner) (facts_of (suc index) tables children)
-        _
+        (map-append (λ (f : Fact). f.partner) (facts_of (suc index) tables children) _
         ∙ ap (λ ps. ps ++ index ∷ map (λ (f : Fact). f.partner) (facts_of (suc exit) more rest))
         (partners children _ tables)
         ∙ ap (λ ps. partners_of (suc index) children ++ index ∷ ps) (partners rest _ more))

@@ -37,8 +37,7 @@ exit_row index entry name start end = record {
 abbrev pub rows_of : ℕ → ℕ → Forest → List Row
 rows_of index tables Empty = []
 rows_of index tables (Node name start end children rest) =
-    entry_row index tables name (entering name start) children
-    ∷ rows_of (suc index) tables children
+    entry_row index tables name (entering name start) children ∷ rows_of (suc index) tables children
     ++ exit_row (index_after (suc index) children) index name start end
     ∷ rows_of (suc (index_after (suc index) children))
     (tables_with name (tables_after tables children)) rest
@@ -51,8 +50,7 @@ Steps said claim =
     claim index tables (Node name start end children rest) →
     said (entry_row index tables name (entering name start) children)
     × said (exit_row (index_after (suc index) children) index name start end)
-    × claim (suc index) tables children
-    × claim (suc (index_after (suc index) children))
+    × claim (suc index) tables children × claim (suc (index_after (suc index) children))
     (tables_with name (tables_after tables children)) rest
 
 -- so it is said of all rows
@@ -93,8 +91,7 @@ module _ {A : Type 0} (of_row : Row → A) (column : ℕ → ℕ → Forest → 
       (map-append of_row (rows_of _ tables children) (exit ∷ rows_of later more rest)
       ∙ ap (λ xs. xs ++ of_row exit ∷ map of_row (rows_of later more rest)) (column_rows children
       _ tables) ∙ ap (λ xs. column (suc index) tables children ++ of_row exit ∷ xs)
-      (column_rows rest later more))
-      ∙ sym (at_node index tables name start end children rest)
+      (column_rows rest later more)) ∙ sym (at_node index tables name start end children rest)
 
 pub event_rows : (forest : Forest) (index tables : ℕ) →
     map (λ (r : Row). r.event) (rows_of index tables forest) ≡ flatten forest
@@ -122,8 +119,7 @@ Numbered index [] next = index ≡ next
 Numbered index (row ∷ rows) next = (row.index ≡ index) × Numbered (suc index) rows next
 
 numbered_append : (xs ys : List Row) (index middle next : ℕ) → Numbered index xs middle →
-    Numbered middle ys next →
-    Numbered index (xs ++ ys) next
+    Numbered middle ys next → Numbered index (xs ++ ys) next
 numbered_append [] ys index middle next p q = subst (λ n. Numbered n ys next) (sym p) q
 numbered_append (row ∷ xs) ys index middle next p q =
     (p.0, numbered_append xs ys _ middle next p.1 q)
@@ -134,18 +130,11 @@ numbered_rows Empty index tables = refl
 numbered_rows (Node name start end children rest) index tables =
     let exit = index_after _ children in (
       refl,
-      numbered_append _ _
-          _ exit
-          _
-          (numbered_rows children _ tables) (
-            refl,
-            numbered_rows rest _ _,
-          ),
+      numbered_append _ _ _ exit _ (numbered_rows children _ tables) (refl, numbered_rows rest _ _),
     )
 
 pub numbered_get : (rows : List Row) (index next i : ℕ) (d : Row) →
-    Numbered index rows next → i < length rows →
-    Row.index (get_or rows i d) ≡ index + i
+    Numbered index rows next → i < length rows → Row.index (get_or rows i d) ≡ index + i
 numbered_get [] index next i d p inside = absurd (omega arith)
 numbered_get (row ∷ rows) index next zero d p inside =
     let none : index + 0 ≡ index = omega arith in p.0 ∙ sym none

@@ -38,9 +38,8 @@ map_here false true here inside = refl
 map_here false false here inside = refl
 
 -- the place of the first node
-places_mapped : (test : Name → Bool) (forest : Forest) →
-    first_on_spine test (λ start end inner. Some (place start end)) forest
-    ≡ option_map Some (first_place test forest)
+places_mapped : (test : Name → Bool) (forest : Forest) → first_on_spine test
+    (λ start end inner. Some (place start end)) forest ≡ option_map Some (first_place test forest)
 places_mapped test Empty = refl
 places_mapped test (Node name start end children rest) =
     ap (λ o. or_else (cond (test name) (Some (Some (place start end))) (cond (is_transparent name) o
@@ -65,9 +64,8 @@ abbrev here_place : Point → Point → Forest → Option Position
 here_place start end inner = Some (place start end)
 
 -- what is found where there is no reference
-alone : (o : Option (Option Position)) (forest : Forest) →
-    unwrap_or (first_on_spine (λ name. false) here_place forest) (unwrap_or o None)
-    ≡ unwrap_or o None
+alone : (o : Option (Option Position)) (forest : Forest) → unwrap_or
+    (first_on_spine (λ name. false) here_place forest) (unwrap_or o None) ≡ unwrap_or o None
 alone o forest = ap (λ r. unwrap_or r (unwrap_or o None)) (no_reference here_place forest)
 
 place_found : (test : Name → Bool) (forest : Forest) →
@@ -75,8 +73,7 @@ place_found : (test : Name → Bool) (forest : Forest) →
     (unwrap_or (first_on_spine test here_place forest) None) ≡ first_place test forest
 place_found test forest =
     alone (first_on_spine test here_place forest) forest
-    ∙ ap (λ o. unwrap_or o None) (places_mapped test forest)
-    ∙ unwrap_mapped _ None ∙ or_none _
+    ∙ ap (λ o. unwrap_or o None) (places_mapped test forest) ∙ unwrap_mapped _ None ∙ or_none _
 
 -- what a search of a name's own spine finds
 abbrev pub found_in : Name → Forest → Option Position

@@ -8,8 +8,7 @@ use Rattle.md_tree.proofs.SettledPatterns.{only_many_after, and_both}
 use Rattle.md_tree.proofs.TakenFits.{kept, left_after}
 
 many_taken : (item : Item) (taken : Bool) → taken ≡ true →
-    (is_many item || not taken) ≡ true → (n : ℕ) →
-    IsCount item n
+    (is_many item || not taken) ≡ true → (n : ℕ) → IsCount item n
 many_taken (Many class) taken t e n = tt
 many_taken _ taken t e n =
     absurd (subst (λ b. (false || not b) ≡ true → ⊥) (sym t) (λ f. cc) e)
@@ -27,8 +26,7 @@ one_less_own item items symbol symbols (first ∷ own) others many again e all c
     let same : first ≡ symbol = cc in
     let rest : symbols ≡ own ++ others = cc in
     let taken : takes (class_of item) symbol ≡ true = subst (λ s. takes (class_of item) s
-    ≡ true) same
-    (and_left _ _ all) in (
+    ≡ true) same (and_left _ _ all) in (
       own,
       others,
       rest,
@@ -38,8 +36,7 @@ one_less_own item items symbol symbols (first ∷ own) others many again e all c
     )
 
 one_less : (items : List Item) (symbol : Symbol) (symbols : List Symbol) →
-    only_many symbol items ≡ true →
-    Fits items (symbol ∷ symbols) → Fits items symbols
+    only_many symbol items ≡ true → Fits items (symbol ∷ symbols) → Fits items symbols
 one_less [] symbol symbols many fit = cc
 one_less (item ∷ items) symbol symbols many fit =
     one_less_own item items symbol symbols fit.0 fit.1 (and_left _ _ many)
@@ -53,17 +50,15 @@ no_more (x ∷ own) others symbols e f = absurd (omega arith)
 -- an item that takes the symbol
 fits_here : (item : Item) (items : List Item) (symbol : Symbol) (symbols own others : List Symbol) →
     takes (class_of item) symbol ≡ true → settled (item ∷ items) ≡ true →
-    symbol ∷ symbols ≡ own ++ others →
-    list_all (takes (class_of item)) own ≡ true → IsCount item (length own) → Fits items others →
-    Fits (kept item items) symbols
+    symbol ∷ symbols ≡ own ++ others → list_all (takes (class_of item)) own ≡ true →
+    IsCount item (length own) → Fits items others → Fits (kept item items) symbols
 fits_here (Many class) items symbol symbols [] others taken ok e all count fit = (
   [],
   symbols,
   refl,
   refl,
   tt,
-  one_less items symbol symbols (only_many_after (Many class) items symbol taken
-      (and_left _ _ ok))
+  one_less items symbol symbols (only_many_after (Many class) items symbol taken (and_left _ _ ok))
       (subst (λ s. Fits items s) (sym e) fit),
 )
 fits_here (Many class) items symbol symbols (first ∷ own) others taken ok e all count fit =
@@ -71,8 +66,7 @@ fits_here (Many class) items symbol symbols (first ∷ own) others taken ok e al
     (own, others, rest, and_right _ _ all, tt, fit)
 fits_here (Maybe class) items symbol symbols [] others taken ok e all count fit =
     one_less items symbol symbols (only_many_after (Maybe class) items symbol taken
-    (and_left _ _ ok))
-    (subst (λ s. Fits items s) (sym e) fit)
+    (and_left _ _ ok)) (subst (λ s. Fits items s) (sym e) fit)
 fits_here (Maybe class) items symbol symbols (first ∷ own) others taken ok e all count fit =
     let rest : symbols ≡ own ++ others = cc in
     subst (λ s. Fits items s) (no_more own others symbols (omega arith) rest) fit
@@ -119,8 +113,7 @@ fits_past item items symbol symbols [] others t e all count fit again =
 fits_past item items symbol symbols (first ∷ own) others t e all count fit again =
     let same : first ≡ symbol = cc in
     let taken : takes (class_of item) symbol ≡ true = subst (λ s. takes (class_of item) s
-    ≡ true) same
-    (and_left _ _ all) in
+    ≡ true) same (and_left _ _ all) in
     let clash : true ≡ false = cc in cc
 
 fits_on_taken : (item : Item) (items : List Item) (symbol : Symbol) (symbols : List Symbol) →
@@ -148,11 +141,9 @@ fits_on (item ∷ items) symbol symbols ok fit =
 
 all_out : (item : Item) (items : List Item) (own others : List Symbol) → [] ≡ own ++ others →
     IsCount item (length own) → Fits items others →
-    (Fits items [] → list_all is_optional items ≡ true) →
-    list_all is_optional (item ∷ items) ≡ true
+    (Fits items [] → list_all is_optional items ≡ true) → list_all is_optional (item ∷ items) ≡ true
 all_out item items [] others e count fit again =
-    and_both _ _ (optional item count)
-    (again (subst (λ s. Fits items s) (sym e) fit))
+    and_both _ _ (optional item count) (again (subst (λ s. Fits items s) (sym e) fit))
   where
     optional : (item : Item) → IsCount item 0 → is_optional item ≡ true
     optional (Once class) c = absurd (omega arith)

@@ -97,8 +97,7 @@ on_whole items left next symbol symbols e on =
 on_inside :
     (items left : List Item) (stage next : Stage) (symbol : Symbol) (symbols : List Symbol) →
     option_map (λ st. At items st) (next_stage stage symbol) ≡ Some (At left next) →
-    ReadsOn left next symbols →
-    ReadsOn items stage (symbol ∷ symbols)
+    ReadsOn left next symbols → ReadsOn items stage (symbol ∷ symbols)
 on_inside items left stage next symbol symbols e on =
     let w = spot_inside items left stage next symbol e in
     record {
@@ -113,9 +112,8 @@ on_inside items left stage next symbol symbols e on =
     }
 
 on_any : (stage : Stage) (items left : List Item) (next : Stage) (symbol : Symbol)
-    (symbols : List Symbol) →
-    spot_after items stage symbol ≡ Some (At left next) → ReadsOn left next symbols →
-    ReadsOn items stage (symbol ∷ symbols)
+    (symbols : List Symbol) → spot_after items stage symbol ≡ Some (At left next) →
+    ReadsOn left next symbols → ReadsOn items stage (symbol ∷ symbols)
 on_any Whole items left next symbol symbols e on = on_whole items left next symbol symbols e on
 on_any stage items left next symbol symbols e on =
     on_inside items left stage next symbol symbols e on
@@ -158,11 +156,9 @@ Feeds-matches role spine matches =
 
 -- a spine that is read to an end matches
 pub matches_feeds : (role : Role) (spine : List Symbol) (end : State) →
-    Feeds (start_of role) spine end →
-    is_complete end ≡ true → Matches role spine
+    Feeds (start_of role) spine end → is_complete end ≡ true → Matches role spine
 matches_feeds role spine end feeds complete =
-    let whole = whole_stage end.stage
-    (and_left _ _ complete) in
+    let whole = whole_stage end.stage (and_left _ _ complete) in
     let out = and_right _ _ complete in
     let goes = subst (λ st. Goes (pattern_of role) Whole spine (At (items_of end) st)) whole
     (Goes-from_feeds _ spine end feeds) in

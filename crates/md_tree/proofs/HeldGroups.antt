@@ -60,24 +60,21 @@ held_step_whole items left next symbol read e =
 held_step_inside :
     (items left : List Item) (stage next : Stage) (symbol : Symbol) (read : List Symbol) →
     option_map (λ st. At items st) (next_stage stage symbol) ≡ Some (At left next) →
-    EndsHeld stage read →
-    EndsHeld next (read ++ symbol ∷ [])
+    EndsHeld stage read → EndsHeld next (read ++ symbol ∷ [])
 held_step_inside items left stage next symbol read e ends =
     record {
       before = ends.before;
       group = ends.group ++ symbol ∷ [];
       parts =
           ap (λ s. s ++ symbol ∷ []) ends.parts ∙ append_assoc ends.before ends.group _;
-      held = subst
-          (λ o. MatchOption o (Unit {0}) (λ n. IsHeld n (ends.group ++ symbol ∷ [])))
+      held = subst (λ o. MatchOption o (Unit {0}) (λ n. IsHeld n (ends.group ++ symbol ∷ [])))
           (spot_inside items left stage next symbol e).1
           (held_on stage symbol ends.group ends.held);
     }
 
-held_step :
-    (stage : Stage) (items left : List Item) (next : Stage) (symbol : Symbol) (read : List Symbol) →
-    spot_after items stage symbol ≡ Some (At left next) → EndsHeld stage read →
-    EndsHeld next (read ++ symbol ∷ [])
+held_step : (stage : Stage) (items left : List Item) (next : Stage) (symbol : Symbol)
+    (read : List Symbol) → spot_after items stage symbol ≡ Some (At left next) →
+    EndsHeld stage read → EndsHeld next (read ++ symbol ∷ [])
 held_step Whole items left next symbol read e ends = held_step_whole items left next symbol read e
 held_step stage items left next symbol read e ends =
     held_step_inside items left stage next symbol read e ends
@@ -105,8 +102,7 @@ begun_held Setext group e h = inr (inr (inr h))
 
 -- where a group is open, the spine ends in it
 pub EndsInGroup-feeds : (role : Role) (spine : List Symbol) (end : State) →
-    Feeds (start_of role) spine end →
-    is_whole end.stage ≡ false → EndsInGroup spine
+    Feeds (start_of role) spine end → is_whole end.stage ≡ false → EndsInGroup spine
 EndsInGroup-feeds role spine end feeds open_group =
     let ends = held_all (pattern_of role) (items_of end) Whole end.stage spine []
     (Goes-from_feeds _ spine end feeds)

@@ -106,10 +106,9 @@ text_where None judged e = cc
 text_where (Some found) judged e = (found, refl)
 
 module _ (bytes : List ℕ) (names : List (List ℕ × List ℕ)) where
-  text_read : (reads : Reading) (around : Role)
-      (before : Option Symbol) (start end : Point) (target : Referral) →
-      broken_rule bytes names reads around before start end target ≡ None → is_text reads ≡ true →
-      (found : List ℕ) × (text_between bytes start end ≡ Some found)
+  text_read : (reads : Reading) (around : Role) (before : Option Symbol) (start end : Point)
+      (target : Referral) → broken_rule bytes names reads around before start end target ≡ None →
+      is_text reads ≡ true → (found : List ℕ) × (text_between bytes start end ≡ Some found)
   text_read reading.Text around before start end target e is =
       text_where _ _ e
   text_read reading.LineEnding around before start end target e is =
@@ -120,11 +119,9 @@ module _ (bytes : List ℕ) (names : List (List ℕ × List ℕ)) where
       text_where _ _ e
   text_read _ around before start end target e is = cc
 
-  label_read : (reads : Reading) (around : Role)
-      (before : Option Symbol) (start end : Point) (target : Referral) →
-      broken_rule bytes names reads around before start end target ≡ None →
-      is_identifier reads ≡ true →
-      (found : List ℕ) × (label_between bytes start end ≡ Some found)
+  label_read : (reads : Reading) (around : Role) (before : Option Symbol) (start end : Point)
+      (target : Referral) → broken_rule bytes names reads around before start end target ≡ None →
+      is_identifier reads ≡ true → (found : List ℕ) × (label_between bytes start end ≡ Some found)
   label_read reading.Identifier around before start end target e is =
       text_where _ _ e
   label_read _ around before start end target e is = cc
@@ -162,9 +159,8 @@ one_position : (o : Option Position) (one other : Position) → o ≡ Some one �
     o ≡ Some other → other ≡ one
 one_position o one other e f = cc
 
-pub EndedAt-checked : (is : Reading → Bool) (text : Point → Point →
-    Option (List ℕ)) (given : Handed) (index : ℕ) (name : Name) →
-    HaveText given.bytes given.names is text →
+pub EndedAt-checked : (is : Reading → Bool) (text : Point → Point → Option (List ℕ))
+    (given : Handed) (index : ℕ) (name : Name) → HaveText given.bytes given.names is text →
     IsChecked given → ExitsAt given.events index name → has_reading is (standing_of name) ≡ true →
     EndedAt text given index
 EndedAt-checked is text given index name have checked exits reads =
@@ -188,8 +184,7 @@ EndedAt-checked is text given index name have checked exits reads =
     let in_events = got_inside events index event exits.1 in
     let inside : index < length rows = omega arith in
     let event_is : row.event ≡ event =
-    got_mapped (λ (r : Row). r.event) rows events index past event events_are
-    inside exits.1 in
+    got_mapped (λ (r : Row). r.event) rows events index past event events_are inside exits.1 in
     let fact_is : slice_get (facts_at events) index ≡ Some row.fact =
     ap (λ fs. slice_get fs index) (sym facts_are)
     ∙ slice_get-map (λ (r : Row). r.fact) rows index ∙ ap (option_map (λ (r : Row). r.fact))

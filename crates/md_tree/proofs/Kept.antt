@@ -35,15 +35,13 @@ module _ (inside : Inside) (given : Handed) (index : ℕ) (kept : IsKept inside)
 
   -- at an entry no number is kept
   entry-got : (name : Name) → EntersAt given.events index name → (fact : Fact) →
-      slice_get inside.facts index ≡ Some fact →
-      slice_get (facts_at given.events) index ≡ Some fact
+      slice_get inside.facts index ≡ Some fact → slice_get (facts_at given.events) index ≡ Some fact
   entry-got name enters fact got =
       let here = recorded-at kept.0.0 given.events index enters.0 flattened enters.1 in
       let kept_here =
       got-with (number_for given.bytes (mentions_of kept.0.0)) (mentions_of kept.0.0)
       _ index here.0 here.1 here.2 here.3 in
-      here.2
-      ∙ ap (λ m. Some (with_number (number_for given.bytes (mentions_of kept.0.0) m) here.0))
+      here.2 ∙ ap (λ m. Some (with_number (number_for given.bytes (mentions_of kept.0.0) m) here.0))
       (sym (here.4.0 enters.2))
       ∙ sym kept_here ∙ ap (λ xs. slice_get xs index) (sym facts_are) ∙ got
 
@@ -110,14 +108,10 @@ module _ (inside : Inside) (given : Handed) (index : ℕ) (kept : IsKept inside)
       (columns-kept enters fact got node.0 node.1))
 
   -- the number at an exit
-  pub exit-inside : (is : Name → Bool) → ExitsOf is given.events index →
-      index < length inside.facts
+  pub exit-inside : (is : Name → Bool) → ExitsOf is given.events index → index < length inside.facts
   exit-inside is exits =
       let here = recorded-at kept.0.0 given.events index exits.1.0 flattened exits.1.1 in
-      got_inside inside.facts index
-      _
-      (ap (λ xs. slice_get xs index) facts_are
-      ∙ got-with _ _
+      got_inside inside.facts index _ (ap (λ xs. slice_get xs index) facts_are ∙ got-with _ _
       _ index here.0 here.1 here.2 here.3)
 
   number-kept : (event : Event) → slice_get given.events index ≡ Some event →
@@ -131,15 +125,11 @@ module _ (inside : Inside) (given : Handed) (index : ℕ) (kept : IsKept inside)
       let number = number_for given.bytes (mentions_of forest) in
       let one : recorded.1 ≡ mention = one_some recorded.1 mention (sym recorded.3 ∙ here) in
       let two : with_number (number recorded.1) recorded.0 ≡ fact =
-      one_some (with_number _ recorded.0) fact
-      (sym (got-with number _
-      _ index recorded.0 recorded.1 recorded.2 recorded.3) ∙ ap
-      (λ xs. slice_get xs index)
+      one_some (with_number _ recorded.0) fact (sym (got-with number _
+      _ index recorded.0 recorded.1 recorded.2 recorded.3) ∙ ap (λ xs. slice_get xs index)
       (sym (subst (λ g. AreNumbered g inside.facts) same kept.1 forest flattens)) ∙ got) in
       let at_exit = recorded.4.1 exits in (
-        ap (λ (f : Fact). f.read_at) (sym two) ∙ kept-number _ recorded.0
-            at_exit.0
-            ∙ ap number one,
+        ap (λ (f : Fact). f.read_at) (sym two) ∙ kept-number _ recorded.0 at_exit.0 ∙ ap number one,
         (at_exit.1.0, sym one ∙ at_exit.1.1),
       )
     where

@@ -18,18 +18,15 @@ HasIdentifier bytes _ = Unit {0}
 
 module _ (bytes : List ℕ) (names : List (List ℕ × List ℕ)) where
   label_there : (start end : Point) (read : Option (List ℕ)) →
-      label_between bytes start end ≡ read →
-      broken_by read (λ text. None) ≡ None →
+      label_between bytes start end ≡ read → broken_by read (λ text. None) ≡ None →
       HasIdentifier bytes (Label (place start end))
   label_there start end None e unbroken = cc
   label_there start end (Some text) e unbroken = (normalized text, ap (option_map normalized) e)
 
-  at_there : (symbol : Symbol) (usual : _)
-      (read : Reading) (around : Role)
-      (before : Option Symbol) (start end : Point) (target found : Referral)
-      (inner : Referral → Referral) →
-      broken_rule bytes names read around before start end target ≡ None → HasIdentifier bytes found →
-      HasIdentifier bytes (inner Missing) →
+  at_there : (symbol : Symbol) (usual : _) (read : Reading) (around : Role) (before : Option Symbol)
+      (start end : Point) (target found : Referral) (inner : Referral → Referral) →
+      broken_rule bytes names read around before start end target ≡ None →
+      HasIdentifier bytes found → HasIdentifier bytes (inner Missing) →
       HasIdentifier bytes (target_after (Solid symbol usual read) found inner (place start end))
   at_there symbol usual reading.Identifier around before start end target found
       inner unbroken has held =
@@ -41,19 +38,16 @@ module _ (bytes : List ℕ) (names : List (List ℕ × List ℕ)) where
   at_there symbol usual _ around before start end target found inner unbroken has held =
       has
 
-  after_there : (standing : Standing)
-      (around : Role) (before : Option Symbol) (start end : Point) (target found : Referral)
-      (inner : Referral → Referral) →
+  after_there : (standing : Standing) (around : Role) (before : Option Symbol) (start end : Point)
+      (target found : Referral) (inner : Referral → Referral) →
       broken_rule bytes names (reading_of standing) around before start end target ≡ None →
-      HasIdentifier bytes found →
-      HasIdentifier bytes (inner found) → HasIdentifier bytes (inner Missing) →
+      HasIdentifier bytes found → HasIdentifier bytes (inner found) →
+      HasIdentifier bytes (inner Missing) →
       HasIdentifier bytes (target_after standing found inner (place start end))
-  after_there Through around before start end target found inner unbroken has
-      through held = through
+  after_there Through around before start end target found inner unbroken has through held = through
   after_there (Solid symbol usual read) around before start end target found inner
       unbroken has through held =
-      at_there symbol usual read around before start end target found
-      inner unbroken has held
+      at_there symbol usual read around before start end target found inner unbroken has held
   after_there Space around before start end target found inner unbroken has through held =
       has
   after_there Mdx around before start end target found inner unbroken has through held =
@@ -107,8 +101,7 @@ abbrev Texts : List (Option (List ℕ)) → Type 0
 Texts found = found ≡ map Some (map (λ identifier. unwrap_or identifier []) found)
 
 more_known : (found : Option (List ℕ)) (text : List ℕ) (others : List (Option (List ℕ))) →
-    found ≡ Some text →
-    Texts others → Texts (found ∷ others)
+    found ≡ Some text → Texts others → Texts (found ∷ others)
 more_known found text others e is =
     ap (λ f. f ∷ others) (e ∙ sym (ap (λ f. Some (unwrap_or f [])) e))
     ∙ ap (λ xs. Some (unwrap_or found []) ∷ xs) is
@@ -124,8 +117,7 @@ defined-texts bytes (mention ∷ mentions) all =
     defined-texts bytes mentions (All-tail (MentionsText bytes) mention mentions all)
 
 pub footnoted-texts : (bytes : List ℕ) (mentions : List Mention) →
-    All (MentionsText bytes) mentions →
-    Texts (footnoted bytes mentions)
+    All (MentionsText bytes) mentions → Texts (footnoted bytes mentions)
 footnoted-texts bytes [] all = refl
 footnoted-texts bytes (FootnoteDefinition label ∷ mentions) all =
     let here = All-head (MentionsText bytes) (FootnoteDefinition label) mentions all in

@@ -48,8 +48,7 @@ module _ (given : Handed) (index : ℕ) (entry exit : Event) (leaf : IsLeaf entr
       (subst (λ n. P Exit n exit.point) (IsLeaf.same leaf)
       (subst (λ o. P Exit entry.name (point_of o)) after p)))
 
-  module _ (from : Course)
-      (runs : Runs (Unbroken given.bytes given.names) (take index given.events)
+  module _ (from : Course) (runs : Runs (Unbroken given.bytes given.names) (take index given.events)
       beginning from) where
     runs_entered : (between : Course) →
         Enters entry.name (point_at given.events index) from between →
@@ -59,9 +58,8 @@ module _ (given : Handed) (index : ℕ) (entry exit : Event) (leaf : IsLeaf entr
         (slice_get_within given.events index entry here) runs (of_entry (λ kind name point.
         StepsBy (Unbroken given.bytes given.names) kind name point from between) enters)
 
-    pub Runs-leaf : (to : Course) →
-        Passes (Unbroken given.bytes given.names) entry.name (point_at given.events index)
-        (point_at given.events (suc index)) from to →
+    pub Runs-leaf : (to : Course) → Passes (Unbroken given.bytes given.names) entry.name
+        (point_at given.events index) (point_at given.events (suc index)) from to →
         Runs (Unbroken given.bytes given.names) (take (suc (suc index)) given.events) beginning to
     Runs-leaf to passes =
         Runs-more (Unbroken given.bytes given.names) given.events (suc index) exit passes.0 to
@@ -69,9 +67,8 @@ module _ (given : Handed) (index : ℕ) (entry exit : Event) (leaf : IsLeaf entr
         (of_exit (λ kind name point. StepsBy (Unbroken given.bytes given.names) kind name point
         passes.0 to) passes.2)
 
-    pub IsRefusal-leaf : (stopped : CompileError) →
-        IsStopAtLeaf given.bytes given.names index entry.name
-        (point_at given.events index) (point_at given.events (suc index)) from stopped →
+    pub IsRefusal-leaf : (stopped : CompileError) → IsStopAtLeaf given.bytes given.names index
+        entry.name (point_at given.events index) (point_at given.events (suc index)) from stopped →
         IsRefusal given stopped
     IsRefusal-leaf stopped (inl stops) =
         IsRefusal-stopped given index entry from (slice_get_within given.events index entry here)
@@ -111,7 +108,6 @@ module _ (given : Handed) (index : ℕ) (entry exit : Event) (leaf : IsLeaf entr
       let kept : found ≡ first_index (take (suc index) given.events) = sym
       (ap (ending_after found index) entry_is ∙ ending-entry found index entry (IsLeaf.enters leaf))
       ∙ entered ∙ ap (λ n. first_index (take n given.events)) (add-one index) in
-      sym (ap (ending_after found _) exit_is)
-      ∙ first_index-more given.events (suc index) exit found
+      sym (ap (ending_after found _) exit_is) ∙ first_index-more given.events (suc index) exit found
       (slice_get_within given.events _ exit after) kept
       ∙ ap (λ n. first_index (take n given.events)) (add-one _)

@@ -100,8 +100,7 @@ item_shaped around before apart = (
     apart,
     matches_after (item_in around before) (symbol.ListItemPrefix ∷ []) (item_ends around before).0,
   ),
-  prefix_shaped (item_in around before) None
-      (not_childless _ (item_ends around before).1),
+  prefix_shaped (item_in around before) None (not_childless _ (item_ends around before).1),
   tt,
 )
 
@@ -128,11 +127,7 @@ head_shaped : (around : Role) (before : Option Symbol) → around ≢ role.Child
 head_shaped around before apart =
     let inner = not_childless role.TableHead refl in (
       (apart, matches_after role.TableHead _ refl),
-      (
-        (inner, bare role.TableRow refl),
-        tt,
-        ((inner, bare role.TableDelimiterRow refl), tt, tt),
-      ),
+      ((inner, bare role.TableRow refl), tt, ((inner, bare role.TableDelimiterRow refl), tt, tt)),
       tt,
     )
 
@@ -155,7 +150,8 @@ least_shaped symbol.LabelText _ _ apart e = ((apart, bare role.Phrasing refl), t
 least_shaped symbol.DefinitionLabel _ _ apart e = ((apart, bare role.String refl), tt, tt)
 least_shaped symbol.TableHead around before apart e = head_shaped around before apart
 least_shaped symbol.TableRow _ _ apart e = ((apart, bare role.TableRow refl), tt, tt)
-least_shaped symbol.TableDelimiterRow _ _ apart e = ((apart, bare role.TableDelimiterRow refl), tt, tt)
+least_shaped symbol.TableDelimiterRow _ _ apart e =
+    ((apart, bare role.TableDelimiterRow refl), tt, tt)
 least_shaped _ around before apart e = cc
 
 least_spine : (one : Symbol) → cond (has_least one) (spine (least one)) (one ∷ []) ≡ one ∷ []
@@ -171,10 +167,9 @@ pub nodes_spine : (symbols : List Symbol) → list_all has_least symbols ≡ tru
     spine (nodes_of symbols) ≡ symbols
 nodes_spine [] e = refl
 nodes_spine (one ∷ symbols) e =
-    spine-joined (least one) (nodes_of symbols)
-    ∙ ap (λ s. s ++ spine (nodes_of symbols)) (subst (λ b. cond b (spine (least one)) (one ∷ []) ≡ one ∷ []) (and_left _ _ e)
-    (least_spine one)) ∙ ap (λ s. one ∷ s)
-    (nodes_spine symbols (and_right _ _ e))
+    spine-joined (least one) (nodes_of symbols) ∙ ap (λ s. s ++ spine (nodes_of symbols)) (subst
+    (λ b. cond b (spine (least one)) (one ∷ []) ≡ one ∷ []) (and_left _ _ e)
+    (least_spine one)) ∙ ap (λ s. one ∷ s) (nodes_spine symbols (and_right _ _ e))
 
 pub nodes_shaped : (symbols : List Symbol) (around : Role) (before : Option Symbol) →
     around ≢ role.Childless →
@@ -182,6 +177,5 @@ pub nodes_shaped : (symbols : List Symbol) (around : Role) (before : Option Symb
 nodes_shaped [] around before apart e = tt
 nodes_shaped (one ∷ symbols) around before apart e =
     EachNode-joined IsShapedNode (least one) (nodes_of symbols) around before
-    (least_shaped one around before apart (and_left _ _ e))
-    (nodes_shaped symbols around _ apart
+    (least_shaped one around before apart (and_left _ _ e)) (nodes_shaped symbols around _ apart
     (and_right _ _ e))

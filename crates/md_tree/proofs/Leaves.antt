@@ -28,8 +28,7 @@ inside entry from = record {
 -- where the children of a node begin, by how its name stands
 module _ (name : Name) (state : State) (target : Referral)
     (holds : may_hold state.role ≡ true) where
-  pub entered-through : standing_of name ≡ Through →
-      entered (standing_of name) state target
+  pub entered-through : standing_of name ≡ Through → entered (standing_of name) state target
       ≡ Some (record { state = state; target = target; outer = None })
   entered-through stands = rw (stands, holds) refl
 
@@ -67,8 +66,7 @@ module _ (name : Name) (start end : Point) (from : Course) (entry : Entry)
     (
       refl,
       subst (λ o. ExitsWhere holds o start end from.open_nodes
-          (after_entry entry name start from) to) (sym through)
-          same,
+          (after_entry entry name start from) to) (sym through) same,
     ),
   )
 
@@ -81,14 +79,12 @@ module _ (name : Name) (start end : Point) (from : Course) (entry : Entry)
     (
       refl,
       subst (λ o. ExitsWhere holds o start end from.open_nodes
-          (after_entry entry name start from) to) (sym outer_is)
-          exits,
+          (after_entry entry name start from) to) (sym outer_is) exits,
     ),
   )
 
-  pub IsStopAtLeaf-exit :
-      (bytes : List ℕ) (names : List (List ℕ × List ℕ)) (index : ℕ) (refusal : CompileError)
-      (outer : Outer) → entry.outer ≡ Some outer →
+  pub IsStopAtLeaf-exit : (bytes : List ℕ) (names : List (List ℕ × List ℕ)) (index : ℕ)
+      (refusal : CompileError) (outer : Outer) → entry.outer ≡ Some outer →
       IsStopInside bytes names (suc index) outer (place start end) (inside entry from) refusal →
       IsStopAtLeaf bytes names index name start end from refusal
   IsStopAtLeaf-exit bytes names index refusal outer outer_is stops =
@@ -120,8 +116,7 @@ no-mention _ = refl
 
 -- a node without children that stands on the spine
 module _ (name : Name) (symbol : Symbol) (usual : Role) (reading : Reading)
-    (next : State) (start end : Point)
-    (from : Course) (holds : may_hold from.state.role ≡ true)
+    (next : State) (start end : Point) (from : Course) (holds : may_hold from.state.role ≡ true)
     (stands : standing_of name ≡ Solid symbol usual reading)
     (moves : advance from.state symbol ≡ Some next) where
   abbrev outer : Outer
@@ -155,11 +150,7 @@ module _ (name : Name) (symbol : Symbol) (usual : Role) (reading : Reading)
   Passes-solid bytes names target complete sound target_is =
       Passes-exit name start end from begins
       (entered-solid name from.state from.target holds symbol usual reading next stands moves)
-      _ outer _ refl (
-        complete,
-        sound,
-        ap (λ t. record after { target = t }) target_is ∙ exits-so,
-      )
+      _ outer _ refl (complete, sound, ap (λ t. record after { target = t }) target_is ∙ exits-so)
 
   stops-so : (bytes : List ℕ) (names : List (List ℕ × List ℕ)) (index : ℕ)
       (refusal : CompileError) →
@@ -176,9 +167,8 @@ module _ (name : Name) (symbol : Symbol) (usual : Role) (reading : Reading)
   IsStopAtLeaf-open bytes names index unfinished =
       stops-so bytes names index (error.Event _ rule.Order) (refl, unfinished)
 
-  pub IsStopAtLeaf-broken :
-      (bytes : List ℕ) (names : List (List ℕ × List ℕ)) (index : ℕ) (broken : Rule) →
-      is_complete inner ≡ true →
+  pub IsStopAtLeaf-broken : (bytes : List ℕ) (names : List (List ℕ × List ℕ)) (index : ℕ)
+      (broken : Rule) → is_complete inner ≡ true →
       broken_rule bytes names reading next.role from.state.before start end Missing ≡ Some broken →
       IsStopAtLeaf bytes names index name start end from (error.Event (suc index) broken)
   IsStopAtLeaf-broken bytes names index broken complete breaks =
@@ -195,9 +185,8 @@ no-table-over GfmTable (inl through) = cc
 no-table-over GfmTable (inr space) = cc
 no-table-over _ stands = refl
 
-pub no-table-solid :
-    (name : Name) (symbol : Symbol) (usual : Role) (reading : Reading) (around : Role)
-    (before : Option Symbol) → standing_of name ≡ Solid symbol usual reading →
+pub no-table-solid : (name : Name) (symbol : Symbol) (usual : Role) (reading : Reading)
+    (around : Role) (before : Option Symbol) → standing_of name ≡ Solid symbol usual reading →
     is_complete (start_of (role_for around before usual)) ≡ true → is_table name ≡ false
 no-table-solid GfmTable symbol usual reading around before stands complete =
     lie (ap (λ r. is_complete (start_of (role_for around before r))) (usual_is stands) ∙ complete)

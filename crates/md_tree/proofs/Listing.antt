@@ -32,8 +32,7 @@ over_listed (Node name start end children rest) index before later =
     let inner = mentions_over (suc index) children before in
     let after_it = mentions_of rest ++ later in
     over_listed rest (suc exit) (mentions_with exit mention inner) later
-    ∙ with_listed mention exit inner after_it
-    ∙ over_listed children _ before (mention ∷ after_it)
+    ∙ with_listed mention exit inner after_it ∙ over_listed children _ before (mention ∷ after_it)
     ∙ ap (λ ms. before ++ listed (suc index) ms)
     (sym (append_assoc (mentions_of children) (mention ∷ mentions_of rest) later))
 
@@ -88,12 +87,10 @@ all_listed P none (mention ∷ mentions) index all =
 
 pub all-resolved : (bytes : List ℕ) (mentions : List Mention) →
     All (IsResolved bytes (mentions_among (listed 0 mentions)))
-    (mentions_among (listed 0 mentions)) →
-    All (IsResolved bytes mentions) mentions
+    (mentions_among (listed 0 mentions)) → All (IsResolved bytes mentions) mentions
 all-resolved bytes mentions all =
     let some = mentions_among (listed 0 mentions) in
-    λ index d inside.
-    resolved_same bytes some mentions _ (defined_listed bytes mentions 0)
+    λ index d inside. resolved_same bytes some mentions _ (defined_listed bytes mentions 0)
     (footnoted_listed bytes mentions 0)
     (all_listed (IsResolved bytes some) tt mentions 0 all index d inside)
 
@@ -126,8 +123,7 @@ got_cons : (mention : Mention) (mentions : List Mention) (index at : ℕ) (one :
     ((k : ℕ) → slice_get (listed (suc index) mentions) k ≡ Some one →
     GotListed mentions (suc index) one) →
     slice_get (record { index = index; mention = mention } ∷ listed (suc index) mentions) at
-    ≡ Some one →
-    GotListed (mention ∷ mentions) index one
+    ≡ Some one → GotListed (mention ∷ mentions) index one
 got_cons mention mentions index zero one later e = got_first mention mentions index one e
 got_cons mention mentions index (suc at) one later e =
     got_later mention mentions index one (later at e)
@@ -141,8 +137,7 @@ got_listed (mention ∷ mentions) index at one e = got_cons mention mentions ind
     (λ k f. got_listed mentions (suc index) k one f) e
 
 pub got-listed : (mentions : List Mention) (at : ℕ) (one : Mentioned) →
-    slice_get (listed 0 mentions) at ≡ Some one →
-    slice_get mentions one.index ≡ Some one.mention
+    slice_get (listed 0 mentions) at ≡ Some one → slice_get mentions one.index ≡ Some one.mention
 got-listed mentions at one e =
     let got = got_listed mentions 0 at one e in
     let place = got.at in

@@ -71,8 +71,7 @@ which_lost (x ∷ xs) y e h = elim (is_same x y) as (λ b. is_same x y ≡ b →
     ] refl e
 
 pub resolved-reference :
-    (bytes : List ℕ) (mentions : List Mention) (label : Position) (number : Option ℕ) →
-    number
+    (bytes : List ℕ) (mentions : List Mention) (label : Position) (number : Option ℕ) → number
     ≡ option_map (λ place. suc place) (which (defined bytes mentions) (identifier_at bytes label)) →
     RefersTo bytes mentions (Reference label) (ok_or number rule.Definition)
 resolved-reference bytes mentions label number is =
@@ -80,10 +79,7 @@ resolved-reference bytes mentions label number is =
     (elim (which (defined bytes mentions) (identifier_at bytes label)) as
     (λ o. which (defined bytes mentions) (identifier_at bytes label) ≡ o → RefersTo bytes mentions
     (Reference label) (ok_or (option_map (λ place. suc place) o) rule.Definition)) [
-      | Some place ↦ λ t. (
-        which_there (defined bytes mentions) _ place t,
-        sym (ap number_of t),
-      )
+      | Some place ↦ λ t. (which_there (defined bytes mentions) _ place t, sym (ap number_of t))
       | None ↦ λ t. (refl, which_lost _ _ t)
     ] refl)
 
@@ -103,21 +99,15 @@ module _ (bytes : List ℕ) (mentions : List Mention) (label : Position) (known 
       there_is (Some place) get e = get place refl
 
   pub lost-call : known ≡ false → RefersTo bytes mentions (Call label) (Err rule.Footnote)
-  lost-call lost = (
-    refl,
-    which_lost (footnoted bytes mentions) _
-        (none_is_there _
-        (sym is ∙ lost)),
-  )
+  lost-call lost = (refl, which_lost (footnoted bytes mentions) _ (none_is_there _ (sym is ∙ lost)))
     where
       none_is_there : (o : Option ℕ) → is_some o ≡ false → o ≡ None
       none_is_there None e = refl
       none_is_there (Some place) e = cc
 
 -- a lost mention is unresolved
-lost : (bytes : List ℕ) (mentioned : List Mentioned) (mention : Mention)
-    (at index : ℕ) (broken : Rule) →
-    slice_get mentioned at ≡ Some (record { index = index; mention = mention }) →
+lost : (bytes : List ℕ) (mentioned : List Mentioned) (mention : Mention) (at index : ℕ)
+    (broken : Rule) → slice_get mentioned at ≡ Some (record { index = index; mention = mention }) →
     IsNowhere bytes (mentions_among mentioned) mention broken →
     IsUnresolvedBy bytes mentioned index broken
 lost bytes mentioned (Reference label) at index broken here is =
@@ -126,18 +116,16 @@ lost bytes mentioned (Call label) at index broken here is =
     subst (λ r. IsUnresolvedBy bytes mentioned index r) (sym is.0) (label, (at, here, is.1))
 lost bytes mentioned _ at index broken here is = absurd is
 
-pub IsUnresolvedBy-at :
-    (bytes : List ℕ) (mentioned : List Mentioned) (at : ℕ) (n : Mentioned) (broken : Rule) →
-    at < length mentioned →
+pub IsUnresolvedBy-at : (bytes : List ℕ) (mentioned : List Mentioned) (at : ℕ) (n : Mentioned)
+    (broken : Rule) → at < length mentioned →
     IsNowhere bytes (mentions_among mentioned) (Mentioned.mention (get_or mentioned at n)) broken →
     IsUnresolvedBy bytes mentioned (Mentioned.index (get_or mentioned at n)) broken
 IsUnresolvedBy-at bytes mentioned at n broken inside is =
     let one = get_or mentioned at n in
     lost bytes mentioned one.mention at one.index broken (slice_get-get_or mentioned at n inside) is
 
-pub IsResolved-at :
-    (bytes : List ℕ) (mentioned : List Mentioned) (index : ℕ) (n : Mentioned) (x : Mention) →
-    index < length mentioned →
+pub IsResolved-at : (bytes : List ℕ) (mentioned : List Mentioned) (index : ℕ) (n : Mentioned)
+    (x : Mention) → index < length mentioned →
     IsResolved bytes (mentions_among mentioned) (Mentioned.mention (get_or mentioned index n)) →
     IsResolved bytes (mentions_among mentioned) (get_or (mentions_among mentioned) index x)
 IsResolved-at bytes mentioned index n x inside is =
@@ -146,10 +134,6 @@ IsResolved-at bytes mentioned index n x inside is =
 
 -- ---- one identifier for each place
 pub which-one : (xs : List Identifier) (one other : Identifier) (place : ℕ) →
-    which xs one ≡ Some place →
-    which xs other ≡ Some place → one ≡ other
+    which xs one ≡ Some place → which xs other ≡ Some place → one ≡ other
 which-one xs one other place a b =
-    same one other (sym (which_got xs one place a) ∙ which_got xs other place b)
-  where
-    same : (x y : Identifier) → Some x ≡ Some y → x ≡ y
-    same x y e = cc
+    let same = sym (which_got xs one place a) ∙ which_got xs other place b in cc

@@ -10,9 +10,8 @@ use Rattle.md_tree.proofs.NodesRead.{IsReadWhere, IsFine, AllowsFree}
 use Rattle.md_tree.proofs.Trees.{EachNode-map}
 use Rattle.md_tree.proofs.OpenPaths.{IsFinePath}
 
-reads_anything : (standing : Standing) (around : Role) (before : Option Symbol)
-    (start end : Point) (target : Referral)
-    → IsReadWhere Anything standing around before start end target
+reads_anything : (standing : Standing) (around : Role) (before : Option Symbol) (start end : Point)
+    (target : Referral) → IsReadWhere Anything standing around before start end target
 reads_anything Through around before start end target = tt
 reads_anything Space around before start end target = tt
 reads_anything (Solid symbol usual reading) around before start end target = tt
@@ -33,10 +32,8 @@ EachNode-both : (P Q : Claim) → (forest : Forest) (around : Role) (before : Op
 EachNode-both P Q Empty around before p q = tt
 EachNode-both P Q (Node name start end children rest) around before p q = (
   (p.0, q.0),
-  EachNode-both P Q children _
-      _ p.1 q.1,
-  EachNode-both P Q rest around
-      _ p.2 q.2,
+  EachNode-both P Q children _ _ p.1 q.1,
+  EachNode-both P Q rest around _ p.2 q.2,
 )
 
 module _ (bytes : List ℕ) (names : List (List ℕ × List ℕ)) where
@@ -58,25 +55,21 @@ module _ (bytes : List ℕ) (names : List (List ℕ × List ℕ)) where
   unbroken_reads (Solid symbol usual reading) around before start end target e = e
   unbroken_reads Mdx around before start end target e = refl
 
-  pub fine_unbroken : (forest : Forest)
-      (around : Role) (before : Option Symbol) → AreShaped forest around before →
-      MeetRules bytes names forest around before →
+  pub fine_unbroken : (forest : Forest) (around : Role) (before : Option Symbol) →
+      AreShaped forest around before → MeetRules bytes names forest around before →
       EachNode (IsFine (Unbroken bytes names)) forest around before
   fine_unbroken forest around before shaped meets =
       EachNode-map (λ r b name start end children. IsShapedNode r b name start end children
       × MeetsRules bytes names r b name start end children) (IsFine _)
       (λ r b name start end children p. (
         p.0,
-        reads_unbroken (standing_of name) r b start end
-            (target_of children Missing) p.1,
-      )) forest around before
-      (EachNode-both IsShapedNode _ forest around before shaped meets)
+        reads_unbroken (standing_of name) r b start end (target_of children Missing) p.1,
+      )) forest around before (EachNode-both IsShapedNode _ forest around before shaped meets)
 
 pub fine_shaped : (holds : Reads) (forest : Forest) (around : Role) (before : Option Symbol) →
     EachNode (IsFine holds) forest around before → AreShaped forest around before
 fine_shaped holds forest around before fine =
-    EachNode-map _ IsShapedNode (λ r b name start end children p. p.0)
-    forest around before fine
+    EachNode-map _ IsShapedNode (λ r b name start end children p. p.0) forest around before fine
 
 pub fine_meets : (bytes : List ℕ) (names : List (List ℕ × List ℕ)) (forest : Forest) (around : Role)
     (before : Option Symbol) → EachNode (IsFine (Unbroken bytes names)) forest around before →

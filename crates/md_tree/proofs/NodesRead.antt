@@ -177,10 +177,9 @@ module _ (holds : Reads) (free : AllowsFree holds) (name : Name) (start end : Po
       }
 
   pub node_runs : (standing : Standing) →
-      IsStanding standing from.state.role from.state.before children →
-      IsReadWhere holds standing from.state.role from.state.before start end
-      (target_of children Missing) →
-      EachNode (IsFine holds) children (inner_role standing from.state.role from.state.before)
+      IsStanding standing from.state.role from.state.before children → IsReadWhere holds standing
+      from.state.role from.state.before start end (target_of children Missing) → EachNode
+      (IsFine holds) children (inner_role standing from.state.role from.state.before)
       (inner_before standing from.state.before) →
       Feeds from.state (shown standing (spine children)) middle →
       NodeRuns holds standing name start end children from middle

@@ -38,15 +38,13 @@ by_partner events (Some one) (Some other) e = let same : one.partner ≡ other.p
 pub ended-with : (events : List Event) (numbers : List ℕ) (facts : List Fact) (index : ℕ) →
     position_ended events (facts_with numbers facts) index ≡ position_ended events facts index
 ended-with events numbers facts index =
-    ap (λ o. position_from o (slice_get events index))
-    (by_partner events (slice_get _ index)
+    ap (λ o. position_from o (slice_get events index)) (by_partner events (slice_get _ index)
     _ (partner-with numbers facts index))
 
 pub there-with : (events : List Event) (numbers : List ℕ) (facts : List Fact) (index : ℕ) →
     position_there events (facts_with numbers facts) index ≡ position_there events facts index
 there-with events numbers facts index =
-    ap (λ o. position_from (slice_get events index) o) (by_partner events
-    (slice_get _ index) _
+    ap (λ o. position_from (slice_get events index) o) (by_partner events (slice_get _ index) _
     (partner-with numbers facts index))
 
 pub at-with : (events : List Event) (numbers : List ℕ) (facts : List Fact) (index : ℕ) →
@@ -66,8 +64,7 @@ length-with (number ∷ numbers) (fact ∷ facts) = ap suc (length-with numbers 
 -- partner is found at it
 abbrev pub IsRecorded : Event → Fact → Mention → Type 0
 IsRecorded event fact mention =
-    (event.kind ≡ Enter → mention ≡ Nothing)
-    × (event.kind ≡ Exit → (fact.read_at ≡ 0)
+    (event.kind ≡ Enter → mention ≡ Nothing) × (event.kind ≡ Exit → (fact.read_at ≡ 0)
     × ((target : Referral) × (mention ≡ mention_of (reading_of (standing_of event.name)) target)))
 
 abbrev AreRecorded : List Event → List Fact → List Mention → Type 0
@@ -77,8 +74,7 @@ AreRecorded (event ∷ events) (fact ∷ facts) (mention ∷ mentions) =
 AreRecorded _ _ _ = ⊥
 
 recorded_append : (xs ys : List Event) (fs gs : List Fact) (ms ns : List Mention) →
-    AreRecorded xs fs ms → AreRecorded ys gs ns →
-    AreRecorded (xs ++ ys) (fs ++ gs) (ms ++ ns)
+    AreRecorded xs fs ms → AreRecorded ys gs ns → AreRecorded (xs ++ ys) (fs ++ gs) (ms ++ ns)
 recorded_append [] ys [] gs [] ns one two = two
 recorded_append (x ∷ xs) ys (f ∷ fs) gs (m ∷ ms) ns one two =
     (one.0, recorded_append xs ys fs gs ms ns one.1 two)
@@ -98,9 +94,7 @@ recorded (Node name start end children rest) index tables =
     (λ e. cc, λ e. (refl, (target_of children Missing, refl))) in (
       entry_recorded,
       recorded_append (flatten children) (exiting name end ∷ flatten rest)
-          (facts_of _ tables children)
-          _ _
-          _
+          (facts_of _ tables children) _ _ _
           (recorded children _ tables) (exit_recorded, recorded rest _ more),
     )
 
@@ -110,9 +104,8 @@ RecordedAt events facts mentions index event =
     (fact : Fact) × (mention : Mention) × (slice_get facts index ≡ Some fact)
     × (slice_get mentions index ≡ Some mention) × IsRecorded event fact mention
 
-recorded_at : (events : List Event) (facts : List Fact) (mentions : List Mention)
-    (index : ℕ) (event : Event) →
-    AreRecorded events facts mentions → slice_get events index ≡ Some event →
+recorded_at : (events : List Event) (facts : List Fact) (mentions : List Mention) (index : ℕ)
+    (event : Event) → AreRecorded events facts mentions → slice_get events index ≡ Some event →
     RecordedAt events facts mentions index event
 recorded_at [] facts mentions index event all e = cc
 recorded_at (x ∷ events) (f ∷ facts) (m ∷ mentions) zero event all e =
@@ -125,8 +118,7 @@ recorded_at (x ∷ events) [] mentions index event all e = absurd all
 recorded_at (x ∷ events) (f ∷ facts) [] index event all e = absurd all
 
 pub recorded-at : (forest : Forest) (events : List Event) (index : ℕ) (event : Event) →
-    flatten forest ≡ events →
-    slice_get events index ≡ Some event →
+    flatten forest ≡ events → slice_get events index ≡ Some event →
     RecordedAt events (facts_at events) (mentions_of forest) index event
 recorded-at forest events index event flattened here =
     recorded_at events (facts_at events) (mentions_of forest) index event
@@ -137,9 +129,8 @@ recorded-at forest events index event flattened here =
 -- what is kept at an index
 pub got-with : (number : Mention → ℕ) (mentions : List Mention) (facts : List Fact) (index : ℕ)
     (fact : Fact) (mention : Mention) → slice_get facts index ≡ Some fact →
-    slice_get mentions index ≡ Some mention →
-    slice_get (facts_with (map number mentions) facts) index
-    ≡ Some (with_number (number mention) fact)
+    slice_get mentions index ≡ Some mention → slice_get (facts_with (map number mentions) facts)
+    index ≡ Some (with_number (number mention) fact)
 got-with number [] facts index fact mention f m = cc
 got-with number (n ∷ mentions) [] index fact mention f m = cc
 got-with number (n ∷ mentions) (g ∷ facts) zero fact mention f m =
@@ -160,11 +151,10 @@ pub place-number : (place : Option ℕ) → place_of (number_of place) ≡ place
 place-number None = refl
 place-number (Some place) = refl
 
-pub number-definition :
-    (bytes : List ℕ) (mentions : List Mention) (name : Name) (target : Referral) →
-    is_of_definitions name ≡ true →
-    place_of (number_for bytes mentions (mention_of (reading_of (standing_of name)) target))
-    ≡ definition_for bytes mentions (mention_of (reading_of (standing_of name)) target)
+pub number-definition : (bytes : List ℕ) (mentions : List Mention) (name : Name)
+    (target : Referral) → is_of_definitions name ≡ true → place_of
+    (number_for bytes mentions (mention_of (reading_of (standing_of name)) target)) ≡ definition_for
+    bytes mentions (mention_of (reading_of (standing_of name)) target)
 number-definition bytes mentions Link Missing is = refl
 number-definition bytes mentions Link Resource is = refl
 number-definition bytes mentions Link (Label label) is =

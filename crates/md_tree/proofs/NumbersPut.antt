@@ -23,8 +23,7 @@ module _ (number : Mention → ℕ) (none : number Nothing ≡ 0) where
   past_listed (mention ∷ mentions) index facts past =
       let more : length facts ≤ suc index = omega (arith, past) in
       one_listed mention mentions index facts
-      ∙ ap (λ fs. numbered number (listed (suc index) mentions) fs)
-      (put-past facts index _ past)
+      ∙ ap (λ fs. numbered number (listed (suc index) mentions) fs) (put-past facts index _ past)
       ∙ past_listed mentions _ facts more
 
   put_after : (before facts : List Fact) (n index : ℕ) → length before ≡ index →
@@ -35,8 +34,7 @@ module _ (number : Mention → ℕ) (none : number Nothing ≡ 0) where
       ∙ ap (λ fs. fact ∷ fs) (put_after before facts n _ refl)
 
   all_listed : (mentions : List Mention) (index : ℕ) (before facts : List Fact) →
-      length before ≡ index →
-      numbered number (listed index mentions) (before ++ facts)
+      length before ≡ index → numbered number (listed index mentions) (before ++ facts)
       ≡ before ++ facts_with (map number mentions) facts
   all_listed [] index before facts e = refl
   all_listed (mention ∷ mentions) index before [] e =
@@ -49,8 +47,7 @@ module _ (number : Mention → ℕ) (none : number Nothing ≡ 0) where
       let here = with_number (number mention) fact in
       one_listed mention mentions index (before ++ fact ∷ facts)
       ∙ ap (λ fs. numbered number (listed (suc index) mentions) fs)
-      (put_after before (fact ∷ facts) _
-      index e ∙ sym (append_assoc before _ facts))
+      (put_after before (fact ∷ facts) _ index e ∙ sym (append_assoc before _ facts))
       ∙ all_listed mentions _ _ facts (longer before here index e)
       ∙ append_assoc before (here ∷ []) _
     where
@@ -72,11 +69,11 @@ pub numbered-listed : (bytes : List ℕ) (mentions : List Mention) (facts : List
 numbered-listed bytes mentions facts =
     let some = mentions_among (listed 0 mentions) in
     all_listed (number_for bytes some) refl mentions 0 [] facts refl
-    ∙ ap (λ numbers. facts_with numbers facts)
-    (alike_all _ _ alike mentions)
+    ∙ ap (λ numbers. facts_with numbers facts) (alike_all _ _ alike mentions)
   where
     alike : (mention : Mention) → number_for bytes (mentions_among (listed 0 mentions)) mention
         ≡ number_for bytes mentions mention
     alike (Reference label) =
-        ap (λ ds. number_of (which ds (identifier_at bytes label))) (defined_listed bytes mentions 0)
+        ap (λ ds. number_of (which ds (identifier_at bytes label)))
+        (defined_listed bytes mentions 0)
     alike _ = refl

@@ -49,8 +49,7 @@ at_node name children =
     (cond (leads_to_values name) (alignments children) [])
 
 node_through : (value leads transparent : Bool) (own inner found : List AlignKind) →
-    value ≡ false → leads ≡ true →
-    transparent ≡ true → inner ≡ found →
+    value ≡ false → leads ≡ true → transparent ≡ true → inner ≡ found →
     cond value own (cond leads inner []) ≡ cond transparent found []
 node_through value leads transparent own inner found v l t same =
     ap (λ b. cond b own (cond leads inner [])) v ∙ ap (λ b. cond b inner []) l ∙ same
@@ -98,10 +97,8 @@ module _ (test : Name → Bool) (only : Name) (one : Symbol) (p : Symbol → Boo
 
   -- a name that doesn't pass the test
   other_node : (name : Name) (children : Forest) (around : Role) (before : Option Symbol) →
-      Named name →
-      Level children → (standing : Standing) → standing_of name ≡ standing →
-      has_symbol one standing ≡ false →
-      IsStanding standing around before children →
+      Named name → Level children → (standing : Standing) → standing_of name ≡ standing →
+      has_symbol one standing ≡ false → IsStanding standing around before children →
       EachNode IsShapedNode children (inner_role standing around before)
       (inner_before standing before) → list_all p (shown standing (spine children)) ≡ true →
       at_node name children ≡ cond (is_transparent name) (in_each test found children) []
@@ -118,15 +115,13 @@ module _ (test : Name → Bool) (only : Name) (one : Symbol) (p : Symbol → Boo
       ∙ ap (λ b. b || is_delimiter_row name) (names.head ∙ ap (has_symbol symbol.TableHead) is)
       ∙ ap (λ b. sameb the_type symbol.TableHead seen || b) (names.row
       ∙ ap (has_symbol symbol.TableDelimiterRow) is) ∙ apart.1 in
-      node_apart _ _
-      _ _ _ _ (names.value
+      node_apart _ _ _ _ _ _ (names.value
       ∙ ap (has_symbol symbol.TableDelimiterValue) is ∙ apart.0) leads
       (names.transparent ∙ ap is_through is)
   other_node name children around before names again Mdx is none stands shaped all = absurd stands
 
   any_node : (name : Name) (children : Forest) (around : Role) (before : Option Symbol) →
-      Level children →
-      IsStanding (standing_of name) around before children →
+      Level children → IsStanding (standing_of name) around before children →
       EachNode IsShapedNode children (inner_role (standing_of name) around before)
       (inner_before (standing_of name) before) →
       list_all p (shown (standing_of name) (spine children)) ≡ true →
@@ -134,14 +129,12 @@ module _ (test : Name → Bool) (only : Name) (one : Symbol) (p : Symbol → Boo
       ≡ cond passed (found children) (cond (is_transparent name) (in_each test found children) [])
   any_node name children around before again stands shaped all true is =
       let same : name ≡ only = test_is name is in
-      ap (λ n. at_node n children) same
-      ∙ own around before children
+      ap (λ n. at_node n children) same ∙ own around before children
       (subst (λ n. IsStanding (standing_of n) around before children) same stands)
       (subst (λ n. EachNode IsShapedNode children (inner_role (standing_of n) around before)
       (inner_before (standing_of n) before)) same shaped)
   any_node name children around before again stands shaped all false is =
-      other_node name children around before (named name) again _ refl
-      (sym (test_symbol name)
+      other_node name children around before (named name) again _ refl (sym (test_symbol name)
       ∙ is) stands shaped all
 
   pub level : (forest : Forest) → Level forest
@@ -150,9 +143,7 @@ module _ (test : Name → Bool) (only : Name) (one : Symbol) (p : Symbol → Boo
       let st = standing_of name in
       let both = sym (list_all-append p _ _) ∙ all in
       let here = any_node name children around before (level children) shaped.0.1 shaped.1
-      (and_left _ _ both)
-      _ refl in
-      let after = level rest around _ shaped.2
-      (and_right _ _ both) in
+      (and_left _ _ both) _ refl in
+      let after = level rest around _ shaped.2 (and_right _ _ both) in
       ap (λ xs. xs ++ alignments rest) here ∙ ap (λ ys. cond (test name) (found children)
       (cond (is_transparent name) (in_each test found children) []) ++ ys) after

@@ -58,12 +58,10 @@ module _ (old new : Known) (text : Text) (left all : List Identifier)
     (updates : Updates text_cmp old new text true) where
   pub IdentifiersBefore-put : IdentifiersBefore new left all
   IdentifiersBefore-put wanted =
-      ap (λ b. b || is_some (which left (identifier_of wanted)))
-      (updates.0 wanted
+      ap (λ b. b || is_some (which left (identifier_of wanted))) (updates.0 wanted
       ∙ ap (λ b. cond b true (contains text_cmp old wanted)) (compared text wanted))
       ∙ moved (is_same (identifier_of text) (identifier_of wanted)) (contains text_cmp old wanted)
-      (which left _)
-      ∙ before wanted
+      (which left _) ∙ before wanted
     where
       moved : (b known : Bool) (o : Option ℕ) → cond b true known || is_some o
           ≡ known || is_some (if b then Some 0 else option_map (λ place. suc place) o)

@@ -1,7 +1,7 @@
 -- The open nodes of a course are those of a path: where a course stands after some events.
 use Rattle.std.proofs.Common.{◌≡◌, Bool, true, false, cond, Option, Some, None, List, [], ◌∷◌, ◌++◌}
 use Rattle.std.proofs.Common.{refl, sym, ap, ◌∙◌, subst, append_assoc}
-use Rattle.md_tree.proofs.Common.{Event, Symbol, Role, Flow, Standing, Through, Space, Solid, Mdx}
+use Rattle.md_tree.proofs.Common.{Event, Symbol, Role, Flow, Standing, Solid, Mdx}
 use Rattle.md_tree.proofs.Common.{Referral, Missing, State, Entry, Open, Outer, Forest, Empty, Node}
 use Rattle.md_tree.proofs.Common.{flatten, entering, exiting, standing_of, spine, shown, Claim}
 use Rattle.md_tree.proofs.Common.{EachNode, inner_role, inner_before, last_symbol, role_for}
@@ -37,8 +37,7 @@ pub target_of-joined : (forest others : Forest) (found : Referral) →
     target_of (joined forest others) found ≡ target_of others (target_of forest found)
 target_of-joined Empty others found = refl
 target_of-joined (Node name start end children rest) others found =
-    target_of-joined rest others
-    _
+    target_of-joined rest others _
 
 last_symbol-append : (before : Option Symbol) (symbols others : List Symbol) →
     last_symbol before (symbols ++ others) ≡ last_symbol (last_symbol before symbols) others
@@ -119,12 +118,6 @@ pub entered_context : (standing : Standing) (state : State) (target : Referral) 
     entered_on standing state target ≡ Some entry →
     (entry.state.role ≡ inner_role standing state.role state.before)
     × (entry.state.before ≡ inner_before standing state.before)
-entered_context Through state target entry e =
-    let same = some_entry _ entry e in
-    (ap (λ (n : Entry). n.state.role) (sym same), ap (λ (n : Entry). n.state.before) (sym same))
-entered_context Space state target entry e =
-    let same = some_entry _ entry e in
-    (ap (λ (n : Entry). n.state.role) (sym same), ap (λ (n : Entry). n.state.before) (sym same))
 entered_context (Solid symbol usual reading) state target entry e =
     let m = option_map-some (λ (next : State). record {
       state = start_of (role_for state.role state.before usual);
@@ -138,6 +131,9 @@ entered_context (Solid symbol usual reading) state target entry e =
     }) _ entry e in
     (ap (λ (n : Entry). n.state.role) (sym m.2), ap (λ (n : Entry). n.state.before) (sym m.2))
 entered_context Mdx state target entry e = cc
+entered_context _ state target entry e =
+    let same = some_entry _ entry e in
+    (ap (λ (n : Entry). n.state.role) (sym same), ap (λ (n : Entry). n.state.before) (sym same))
 
 -- the context of the innermost open node's children
 level_context :
@@ -168,12 +164,10 @@ Stands-context [] (open_node ∷ others) state target stands = absurd stands
 Stands-context (level ∷ path) [] state target stands = absurd stands
 Stands-context (level ∷ path) (open_node ∷ others) state target stands =
     let outer = Stands-context path others stands.0 stands.1 stands.3 in
-    level_context path level stands.0 stands.2 state _ target
-    open_node.outer outer.0
+    level_context path level stands.0 stands.2 state _ target open_node.outer outer.0
     outer.1 stands.4 stands.7
 
 pub path_none : (path : List Level) (state : State) (target : Referral) →
-    Stands path [] state target →
-    (path ≡ []) × (state ≡ start_of Flow)
+    Stands path [] state target → (path ≡ []) × (state ≡ start_of Flow)
 path_none [] state target stands = (refl, stands.0)
 path_none (level ∷ path) state target stands = absurd stands

@@ -15,9 +15,8 @@ use Rattle.md_tree.proofs.OpenPaths.{target_of-joined, EachNode-joined}
 use Rattle.md_tree.proofs.ClosedNodes.{Closed, closed}
 
 -- a node is entered
-pub Reached-enter :
-    (holds : Reads) (events : List Event) (from : Course) (name : Name) (start : Point)
-    (entry : Entry) → Reached holds events from →
+pub Reached-enter : (holds : Reads) (events : List Event) (from : Course) (name : Name)
+    (start : Point) (entry : Entry) → Reached holds events from →
     entered (standing_of name) from.state from.target ≡ Some entry →
     Reached holds (events ++ entering name start ∷ []) (after_entry entry name start from)
 Reached-enter holds events from name start entry reached e =
@@ -80,12 +79,11 @@ pub record Left (holds ending : Reads) (events : List Event) (name : Name) (poin
   pub path_fine : IsFinePath holds (level ∷ path)
   pub nodes_fine : EachNode (IsFine holds) nodes base.role base.before
 
-left_from :
-    (holds ending : Reads) (events : List Event) (name : Name) (point : Point) (from to : Course)
-    (path : List Level) (opens : List Open) (nodes : Forest) (base : State) (found : Referral) →
-    from.open_nodes ≡ opens → Stands path opens base found → Feeds base (spine nodes) from.state →
-    from.target ≡ target_of nodes found → events ≡ opening path ++ flatten nodes →
-    IsFinePath holds path →
+left_from : (holds ending : Reads) (events : List Event) (name : Name) (point : Point)
+    (from to : Course) (path : List Level) (opens : List Open) (nodes : Forest) (base : State)
+    (found : Referral) → from.open_nodes ≡ opens → Stands path opens base found →
+    Feeds base (spine nodes) from.state → from.target ≡ target_of nodes found →
+    events ≡ opening path ++ flatten nodes → IsFinePath holds path →
     EachNode (IsFine holds) nodes base.role base.before → Exits ending opens name point from to →
     Left holds ending events name point from to
 left_from holds ending events name point from to [] [] nodes base found opens_are stands feeds
@@ -99,8 +97,7 @@ left_from holds ending events name point from to (level ∷ path)
 left_from holds ending events name point from to (level ∷ path) (open_node
     ∷ others) nodes base found opens_are stands feeds target events_are path_fine fine exits =
     let here = stands.2 in
-    let on = may_hold_true _ _
-    _ stands.7 in
+    let on = may_hold_true _ _ _ stands.7 in
     record {
       path = path;
       level = level;
@@ -129,17 +126,15 @@ left_from holds ending events name point from to (level ∷ path) (open_node
     }
 
 pub Reached-left : (holds ending : Reads) (events : List Event) (name : Name) (point : Point)
-    (from to : Course) →
-    Reached holds events from → Exits ending from.open_nodes name point from to →
-    Left holds ending events name point from to
+    (from to : Course) → Reached holds events from →
+    Exits ending from.open_nodes name point from to → Left holds ending events name point from to
 Reached-left holds ending events name point from to reached exits =
     left_from holds ending events name point from to reached.path from.open_nodes
     reached.nodes reached.base reached.found refl reached.stands reached.feeds reached.target_is
     reached.events_are reached.path_fine reached.nodes_fine exits
 
 pub Left-closed : (holds ending : Reads) (events : List Event) (name : Name) (point : Point)
-    (from to : Course) →
-    (left : Left holds ending events name point from to) →
+    (from to : Course) → (left : Left holds ending events name point from to) →
     Closed ending (standing_of left.level.name) left.level.name left.level.start point left.nodes
     left.here to.state (target_of left.level.before left.found) to.target
 Left-closed holds ending events name point from to left =
@@ -157,36 +152,30 @@ exits_open ending (Some outer) start point others from to exits =
 events_joined : (a b c : List Event) (x y : Event) → ((((a ++ b) ++ x ∷ []) ++ c) ++ y ∷ []) ≡ a
     ++ (b ++ (x ∷ c ++ y ∷ []))
 events_joined a b c x y =
-    append_assoc _ c (y ∷ []) ∙ append_assoc (a ++ b) (x ∷ []) _
-    ∙ append_assoc a b _
+    append_assoc _ c (y ∷ []) ∙ append_assoc (a ++ b) (x ∷ []) _ ∙ append_assoc a b _
 
 -- the inner context of a node that is left, by the spine around it
 pub Left-inner : (holds ending : Reads) (events : List Event) (name : Name) (point : Point)
-    (from to : Course) →
-    (left : Left holds ending events name point from to) →
+    (from to : Course) → (left : Left holds ending events name point from to) →
     EachNode (IsFine holds) left.nodes
     (inner_role (standing_of left.level.name) left.here.role left.here.before)
     (inner_before (standing_of left.level.name) left.here.before)
 Left-inner holds ending events name point from to left =
     let context =
-    entered_context _ left.here _
-    _
-    left.entered_is in
+    entered_context _ left.here _ _ left.entered_is in
     subst (λ b. EachNode (IsFine holds) left.nodes (inner_role
     (standing_of left.level.name) left.here.role left.here.before) b) context.1
     (subst (λ r. EachNode (IsFine holds) left.nodes r left.base.before) context.0 left.nodes_fine)
 
-left_reached :
-    (holds : Reads) (events : List Event) (point : Point) (from to : Course) (path : List Level)
-    (level : Level) (nodes : Forest) (around here : State) (found : Referral) →
-    Stands path to.open_nodes around found →
-    Feeds around (spine level.before) here → Closed holds
+left_reached : (holds : Reads) (events : List Event) (point : Point) (from to : Course)
+    (path : List Level) (level : Level) (nodes : Forest) (around here : State) (found : Referral) →
+    Stands path to.open_nodes around found → Feeds around (spine level.before) here → Closed holds
     (standing_of level.name) level.name level.start point nodes here to.state
-    (target_of level.before found) to.target
-    → EachNode (IsFine holds) nodes (inner_role (standing_of level.name) here.role here.before)
+    (target_of level.before found) to.target → EachNode (IsFine holds) nodes
+    (inner_role (standing_of level.name) here.role here.before)
     (inner_before (standing_of level.name) here.before) →
-    events ≡ opening (level ∷ path) ++ flatten nodes →
-    IsFinePath holds (level ∷ path) → Reached holds (events ++ exiting level.name point ∷ []) to
+    events ≡ opening (level ∷ path) ++ flatten nodes → IsFinePath holds (level ∷ path) →
+    Reached holds (events ++ exiting level.name point ∷ []) to
 left_reached holds events point from to path level nodes around here found stands feeds closed_here
     inner events_are path_fine =
     let st = standing_of level.name in
@@ -200,8 +189,7 @@ left_reached holds events point from to path level nodes around here found stand
     let before_fine = subst (λ b. EachNode (IsFine holds) level.before around.role b) (sym outer.1)
     (subst (λ r. EachNode (IsFine holds) level.before r (before_in path))
     (sym outer.0) path_fine.0) in
-    let more = subst (λ s. Feeds here s to.state) (sym (append-nil _))
-    closed_here.feeds in
+    let more = subst (λ s. Feeds here s to.state) (sym (append-nil _)) closed_here.feeds in
     record {
       path = path;
       nodes = joined level.before node;

@@ -36,13 +36,11 @@ length_events (Node name start end children rest) index events e =
     let last = exiting name end in
     let inside = length_events children (suc index) (events ++ first ∷ [])
     (length_one events first ∙ ap suc e) in
-    ap length (sym (regrouped events _ _ first last))
-    ∙ length_events rest _
+    ap length (sym (regrouped events _ _ first last)) ∙ length_events rest _
     _ (length_one _ last ∙ ap suc inside)
 
 module _ (events : List Event) (facts : List Fact) where
-  node_there : (index : ℕ) (fact : Fact) (name : Name)
-      (start end : Point) →
+  node_there : (index : ℕ) (fact : Fact) (name : Name) (start end : Point) →
       slice_get events index ≡ Some (entering name start) → slice_get facts index ≡ Some fact →
       slice_get events fact.partner ≡ Some (exiting name end) →
       position_there events facts index ≡ Some (place start end)
@@ -51,15 +49,13 @@ module _ (events : List Event) (facts : List Fact) where
       ∙ ap (λ o. position_from (Some (entering name start)) (partner_event events o)) found
       ∙ ap (λ o. position_from (Some (entering name start)) o) last
 
-  all_there : (forest : Forest) (index tables : ℕ)
-      (before later : List Event)
+  all_there : (forest : Forest) (index tables : ℕ) (before later : List Event)
       (found more : List Fact) → length before ≡ index → length found ≡ index →
       events ≡ before ++ (flatten forest ++ later) →
       facts ≡ found ++ (facts_of index tables forest ++ more) →
       AllAt (position_there events facts) index forest
   all_there Empty index tables before later found more e f is are = tt
-  all_there (Node name start end children rest) index tables before later
-      found more e f is are =
+  all_there (Node name start end children rest) index tables before later found more e f is are =
       let exit = index_after (suc index) children in
       let first = entering name start in
       let last = exiting name end in
@@ -73,20 +69,16 @@ module _ (events : List Event) (facts : List Fact) where
       let two = length_one found fact ∙ ap suc f in
       let inside = length_events children (suc index) (before ++ first ∷ []) one in
       let facts_to = length_facts children (suc index) tables (found ++ fact ∷ []) two in (
-        node_there index fact name start end
-            (ap (λ es. slice_get es index)
+        node_there index fact name start end (ap (λ es. slice_get es index)
             (at_entry events before inner _ later first last is)
             ∙ get_at before (inner ++ (last ∷ (flatten rest ++ later))) first index e)
             (ap (λ fs. slice_get fs index)
             (at_entry facts found facts_inside facts_after more fact other are)
             ∙ get_at found (facts_inside ++ (other ∷ (facts_after ++ more))) fact index f)
-            (ap (λ es. slice_get es exit)
-            (at_exit events before inner _ later first last is)
+            (ap (λ es. slice_get es exit) (at_exit events before inner _ later first last is)
             ∙ get_at ((before ++ first ∷ []) ++ inner) (flatten rest ++ later) last exit inside),
-        all_there children _ tables _ (last
-            ∷ (flatten rest ++ later)) _ (other
-            ∷ (facts_after ++ more)) one two
-            (in_node events before inner _ later first last is)
+        all_there children _ tables _ (last ∷ (flatten rest ++ later)) _ (other
+            ∷ (facts_after ++ more)) one two (in_node events before inner _ later first last is)
             (in_node facts found facts_inside facts_after more fact other are),
         all_there rest _ ended _ later _ more (length_one _ last
             ∙ ap suc inside) (length_one _ other
@@ -96,8 +88,7 @@ module _ (events : List Event) (facts : List Fact) where
 
 -- of no node but the first of all the entry is 0
 module _ (events : List Event) (facts : List Fact) where
-  all_at : (forest : Forest) (index : ℕ) →
-      AllAt (position_there events facts) (suc index) forest →
+  all_at : (forest : Forest) (index : ℕ) → AllAt (position_there events facts) (suc index) forest →
       AllAt (position_at events facts) (suc index) forest
   all_at Empty index all = tt
   all_at (Node name start end children rest) index all = (
@@ -124,13 +115,11 @@ rows_there events facts forest index tables all =
       λ other e. cc,
       holds.1,
       holds.2,
-    ))
-    forest index tables all
+    )) forest index tables all
 
 -- the children of the node that the event at an index enters
 pub children-placed : (given : Handed) (index : ℕ) (name : Name) →
-    EntersAt given.events index name →
-    (children : Forest) → IsEnteredAt given index children →
+    EntersAt given.events index name → (children : Forest) → IsEnteredAt given index children →
     AllAt (position_at given.events (facts_at given.events)) (suc index) children
 children-placed given index name enters children entered =
     let forest = entered.0 in
@@ -140,8 +129,7 @@ children-placed given index name enters children entered =
     let past = past_row given index name enters in
     let inside = inside_rows given index name enters forest entered.1 in
     let all = all_there events facts forest 0 0 [] [] [] [] refl refl (sym entered.1
-    ∙ sym (append-nil _)) (facts-flatten forest events entered.1
-    ∙ sym (append-nil _)) in
+    ∙ sym (append-nil _)) (facts-flatten forest events entered.1 ∙ sym (append-nil _)) in
     let none : 0 + index ≡ index = omega arith in
     let index_is : Row.index (get_or rows index past) ≡ index =
     numbered_get rows 0 (index_after 0 forest) index past (numbered_rows forest 0 0) inside

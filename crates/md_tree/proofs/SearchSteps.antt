@@ -109,8 +109,8 @@ module _ (at : At) where
       Searched at from to (or_else o later) (or_else r more)
   joined from middle to o r later more a b = record {
     wanted = b.wanted ∙ a.wanted;
-    found =
-        b.found ∙ ap (λ f. found_after f later more) a.found ∙ found_twice from.found o r later more;
+    found = b.found ∙ ap (λ f. found_after f later more) a.found
+        ∙ found_twice from.found o r later more;
     places = b.places ∙ ap (λ f. place_after f (at middle.read_at) later more) a.found
         ∙ ap (λ p. place_after (found_after from.found o r) p later more) a.places
         ∙ place_twice from.found _ o r later more;
@@ -149,9 +149,8 @@ module _ (at : At) where
   itself_step s false m inner o e = nothing at s
 
   holder_step : (s : Sought) (passes : Bool) (m inner : ℕ) (o : Option Position) →
-      (passes ≡ true → at inner ≡ o) →
-      Searched at s (seen_as (cond passes looks.Holder looks.Other) s m inner)
-      (cond passes (Some o) None) None
+      (passes ≡ true → at inner ≡ o) → Searched at s
+      (seen_as (cond passes looks.Holder looks.Other) s m inner) (cond passes (Some o) None) None
   holder_step s true m inner o e = first_found at s.wanted s.found s.read_at inner o (e refl)
   holder_step s false m inner o e = nothing at s
 
@@ -182,9 +181,8 @@ Held at w name start end children inner =
     is_holder w name ≡ true → at inner ≡ finds w start end children
 
 pub solid_step : (at : At) (w : Wanted) (s : Sought) (name : Name) (start end : Point)
-    (children : Forest) (m inner : ℕ) →
-    at m ≡ Some (place start end) → Held at w name start end children inner →
-    Searched at s (seen_as (sight w name) s m inner)
+    (children : Forest) (m inner : ℕ) → at m ≡ Some (place start end) →
+    Held at w name start end children inner → Searched at s (seen_as (sight w name) s m inner)
     (cond (seeks w name) (Some (finds w start end children)) None)
     (cond (refers w name) (Some (Some (place start end))) None)
 solid_step at want.Nothing s name start end children m inner here held = nothing at s
@@ -205,7 +203,6 @@ solid_step at want.LabelText s name start end children m inner here held =
 solid_step at want.DefinitionLabel s name start end children m inner here held =
     itself_step at s _ m inner _ here
 solid_step at want.FootnotePrefix s name start end children m inner here held =
-    holder_step at s _ m inner
-    _ held
+    holder_step at s _ m inner _ held
 solid_step at want.FootnoteLabel s name start end children m inner here held =
     itself_step at s _ m inner _ here

@@ -56,14 +56,12 @@ module _ (at : At) (none : at 0 ≡ None) where
   node_step index name start end children s here inside false e =
       let own = sought_over (suc index) children _ in
       let own_found : at own.read_at ≡ found_in name children =
-      Searched.places (inside _)
-      ∙ ap (λ p. unwrap_or (reference (wanted_by name) children)
+      Searched.places (inside _) ∙ ap (λ p. unwrap_or (reference (wanted_by name) children)
       (unwrap_or (spot (wanted_by name) children) p)) none in
       solid_step at s.wanted s name start end children index own.read_at here
       (held at s.wanted name start end children own.read_at own_found)
 
-  searched : (forest : Forest) (index : ℕ) → AllAt at index forest →
-      Searches at index forest
+  searched : (forest : Forest) (index : ℕ) → AllAt at index forest → Searches at index forest
   searched Empty index all s = nothing at s
   searched (Node name start end children rest) index all s =
       let later = suc (index_after _ children) in
@@ -72,14 +70,13 @@ module _ (at : At) (none : at 0 ≡ None) where
       let here = node_step index name start end children s all.0
       (searched children _ all.1) (is_transparent name) refl in
       let after_it =
-      subst (λ w. Searched at middle (sought_over later rest middle) (spot w rest) (reference w rest))
+      subst
+      (λ w. Searched at middle (sought_over later rest middle) (spot w rest) (reference w rest))
       (Searched.wanted here) (searched rest later all.2 middle) in
-      joined at s middle _ _ _ _
-      _ here after_it
+      joined at s middle _ _ _ _ _ here after_it
 
   -- what a name reads
-  pub reads-found : (name : Name) (children : Forest) (index : ℕ) →
-      AllAt at index children →
+  pub reads-found : (name : Name) (children : Forest) (index : ℕ) → AllAt at index children →
       is_reader name ≡ true →
       at (Sought.read_at (sought_over index children (search_of name))) ≡ reads name children
   reads-found name children index all h =

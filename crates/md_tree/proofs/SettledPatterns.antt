@@ -47,13 +47,11 @@ only_many symbol items = list_all (λ item. is_many item || not (takes (class_of
 
 taken_step : (p : Symbol → Bool) (symbols : List Symbol) (member seen : Symbol) →
     (list_any (λ m. sameb the_type m seen) symbols ≡ true →
-    list_all p symbols ≡ true → p seen ≡ true) →
-    (same : Bool) → sameb the_type member seen ≡ same →
+    list_all p symbols ≡ true → p seen ≡ true) → (same : Bool) → sameb the_type member seen ≡ same →
     (same || list_any (λ m. sameb the_type m seen) symbols) ≡ true
     → (p member && list_all p symbols) ≡ true → p seen ≡ true
 taken_step p symbols member seen again true e there all =
-    subst (λ s. p s ≡ true) (same_true the_type tt member seen e)
-    (and_left _ _ all)
+    subst (λ s. p s ≡ true) (same_true the_type tt member seen e) (and_left _ _ all)
 taken_step p symbols member seen again false e there all =
     again there (and_right _ _ all)
 
@@ -64,8 +62,7 @@ taken p (member ∷ symbols) seen there all = taken_step p symbols member seen (
     _ refl there all
 
 only_many_here : (class : Class) (item : Item) (symbol : Symbol) →
-    takes class symbol ≡ true → (many : Bool) →
-    (many || apart class (class_of item)) ≡ true →
+    takes class symbol ≡ true → (many : Bool) → (many || apart class (class_of item)) ≡ true →
     (many || not (takes (class_of item) symbol)) ≡ true
 only_many_here class item symbol takes_it true e = refl
 only_many_here class item symbol takes_it false e =
@@ -76,7 +73,5 @@ pub only_many_after : (item : Item) (items : List Item) (symbol : Symbol) →
     list_all (leaves_order item) items ≡ true → only_many symbol items ≡ true
 only_many_after item [] symbol taken e = refl
 only_many_after item (later ∷ items) symbol taken e =
-    and_both _ _
-    (only_many_here (class_of item) later symbol taken (is_many later)
-    (and_left _ _ e))
-    (only_many_after item items symbol taken (and_right _ _ e))
+    and_both _ _ (only_many_here (class_of item) later symbol taken (is_many later)
+    (and_left _ _ e)) (only_many_after item items symbol taken (and_right _ _ e))

@@ -26,8 +26,7 @@ abbrev EntersSettled : Entry → Type 0
 EntersSettled entry = IsSettled entry.state × WaitsSettled entry.outer
 
 held_settled : (state next : State) (one : Symbol) → may_hold state.role ≡ true →
-    advance state one ≡ Some next →
-    IsSettled next
+    advance state one ≡ Some next → IsSettled next
 held_settled state next one holds e childless =
     absurd (not_childless state.role holds (sym (advance_role state next one e).0 ∙ childless))
 
@@ -50,8 +49,7 @@ entered_settled Mdx state target entry holds settled e = cc
 
 -- ---- no event leaves this
 settled_enter : (standing : Standing) (named : Name) (point : Point) (from to : Course) →
-    HasSettled from →
-    (b : Bool) → may_hold from.state.role ≡ b → (o : Option Entry) →
+    HasSettled from → (b : Bool) → may_hold from.state.role ≡ b → (o : Option Entry) →
     entered_on standing from.state from.target ≡ o →
     MatchOption (cond b o None) ⊥ (λ entry. to ≡ after_entry entry named point from) → HasSettled to
 settled_enter standing named point from to settled false holds o is enters = absurd enters
@@ -61,8 +59,7 @@ settled_enter standing named point from to settled true holds (Some entry) is en
     subst HasSettled (sym enters) (inside.0, (inside.1, settled.1))
 
 module _ (holds : Reads) where
-  settled_exit_where : (outer : Option Outer) (start point : Point)
-      (others : List Open)
+  settled_exit_where : (outer : Option Outer) (start point : Point) (others : List Open)
       (from to : Course) → IsSettled from.state → WaitsSettled outer → AreSettled others →
       ExitsWhere holds outer start point others from to → HasSettled to
   settled_exit_where None start point others from to here waits settled exits =
@@ -70,20 +67,18 @@ module _ (holds : Reads) where
   settled_exit_where (Some outer) start point others from to here waits settled exits =
       subst HasSettled (sym exits.2) (waits, settled)
 
-  settled_exit : (opens : List Open) (named : Name) (point : Point)
-      (from to : Course) →
-      IsSettled from.state → AreSettled opens → Exits holds opens named point from to → HasSettled to
+  settled_exit : (opens : List Open) (named : Name) (point : Point) (from to : Course) →
+      IsSettled from.state → AreSettled opens → Exits holds opens named point from to →
+      HasSettled to
   settled_exit [] named point from to here settled exits = absurd exits
   settled_exit (open_node ∷ others) named point from to here settled exits =
       settled_exit_where open_node.outer open_node.start point others from to here
       settled.0 settled.1 exits.1
 
-  settled_step : (kind : Kind) (named : Name) (point : Point) (from to : Course) →
-      HasSettled from →
+  settled_step : (kind : Kind) (named : Name) (point : Point) (from to : Course) → HasSettled from →
       StepsBy holds kind named point from to → HasSettled to
   settled_step Enter named point from to settled step =
-      settled_enter _ named point from to settled _ refl
-      _ refl step
+      settled_enter _ named point from to settled _ refl _ refl step
   settled_step Exit named point from to settled step =
       settled_exit from.open_nodes named point from to settled.0 settled.1 step
 

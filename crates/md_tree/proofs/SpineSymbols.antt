@@ -14,23 +14,19 @@ own_pass : (p : Symbol → Bool) (item : Item) (own : List Symbol) → passes p 
     list_all (takes (class_of item)) own ≡ true → list_all p own ≡ true
 own_pass p item [] all there = refl
 own_pass p item (seen ∷ own) all there =
-    and_both _ _ (taken p (members _) seen (and_left _ _ there) all)
-    (own_pass p item own all
+    and_both _ _ (taken p (members _) seen (and_left _ _ there) all) (own_pass p item own all
     (and_right _ _ there))
 
 all_append : (p : Symbol → Bool) (xs ys : List Symbol) → list_all p xs ≡ true →
-    list_all p ys ≡ true →
-    list_all p (xs ++ ys) ≡ true
+    list_all p ys ≡ true → list_all p (xs ++ ys) ≡ true
 all_append p xs ys e f = list_all-append p xs ys ∙ and_both _ _ e f
 
 fits_pass : (p : Symbol → Bool) (items : List Item) (symbols : List Symbol) →
-    list_all (passes p) items ≡ true →
-    Fits items symbols → list_all p symbols ≡ true
+    list_all (passes p) items ≡ true → Fits items symbols → list_all p symbols ≡ true
 fits_pass p [] symbols all fit = ap (list_all p) fit
 fits_pass p (item ∷ items) symbols all fit =
     ap (list_all p) fit.2 ∙ all_append p fit.0 fit.1 (own_pass p item fit.0
-    (and_left _ _ all) fit.3)
-    (fits_pass p items fit.1 (and_right _ _ all) fit.5)
+    (and_left _ _ all) fit.3) (fits_pass p items fit.1 (and_right _ _ all) fit.5)
 
 -- a symbol that begins no group
 abbrev pub alone : Symbol → Bool

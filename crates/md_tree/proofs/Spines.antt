@@ -23,10 +23,9 @@ symbols-append (name ∷ names) others =
     ∙ sym (append_assoc (shown _ []) (symbols_of names) (symbols_of others))
 
 -- what one node shows
-node_shows :
-    (standing : Standing) (name : Name) (through : Bool) (children : Forest) (around : Role)
-    (before : Option Symbol) → standing_of name ≡ standing → through ≡ is_through standing →
-    IsStanding standing around before children →
+node_shows : (standing : Standing) (name : Name) (through : Bool) (children : Forest)
+    (around : Role) (before : Option Symbol) → standing_of name ≡ standing →
+    through ≡ is_through standing → IsStanding standing around before children →
     spine children ≡ symbols_of (spine_names children) →
     shown standing (spine children) ≡ symbols_of (cond through (spine_names children) (name ∷ []))
 node_shows Through name through children around before same is stands inner =
@@ -40,8 +39,7 @@ node_shows (Solid symbol usual reading) name through children around before same
 node_shows Mdx name through children around before same is stands inner = absurd stands
 
 pub spine-names : (forest : Forest) (around : Role) (before : Option Symbol) →
-    AreShaped forest around before →
-    spine forest ≡ symbols_of (spine_names forest)
+    AreShaped forest around before → spine forest ≡ symbols_of (spine_names forest)
 spine-names Empty around before shaped = refl
 spine-names (Node name start end children rest) around before shaped =
     ap (λ symbols. symbols ++ spine rest) (node_shows (standing_of name) name

@@ -40,8 +40,7 @@ Feeds from (symbol ∷ symbols) to =
     (next : State) × (advance from symbol ≡ Some next) × Feeds next symbols to
 
 pub Feeds-append : (from middle to : State) (symbols others : List Symbol) →
-    Feeds from symbols middle →
-    Feeds middle others to → Feeds from (symbols ++ others) to
+    Feeds from symbols middle → Feeds middle others to → Feeds from (symbols ++ others) to
 Feeds-append from middle to [] others e f = subst (λ s. Feeds s others to) (sym e) f
 Feeds-append from middle to (symbol ∷ symbols) others e f =
     (e.0, e.1, Feeds-append e.0 middle to symbols others e.2 f)
@@ -73,8 +72,7 @@ tail_of (z ∷ xs) zero x ys e = let h : ys ≡ xs = cc in h
 tail_of (z ∷ xs) (suc k) x ys e = tail_of xs k x ys e
 
 sought_here : (all : List Item) (item : Item) (items : List Item) (k : ℕ) →
-    item ∷ items ≡ drop k all →
-    drop (next_position item k) all ≡ kept item items
+    item ∷ items ≡ drop k all → drop (next_position item k) all ≡ kept item items
 sought_here all (Many class) items k e = sym e
 sought_here all (Maybe class) items k e = rw add-one (sym (tail_of all k _ items e))
 sought_here all (Once class) items k e = rw add-one (sym (tail_of all k _ items e))
@@ -82,8 +80,7 @@ sought_here all (Once class) items k e = rw add-one (sym (tail_of all k _ items 
 seek_step : (all : List Item) (item : Item) (items : List Item) (k : ℕ) (symbol : Symbol) →
     drop (next_position item k) all ≡ kept item items →
     option_map (λ n. drop n all) (seek (k + 1) items symbol) ≡ left_after items symbol →
-    (taken optional : Bool) →
-    option_map (λ n. drop n all) (cond taken (Some (next_position item k))
+    (taken optional : Bool) → option_map (λ n. drop n all) (cond taken (Some (next_position item k))
     (cond optional (seek (k + 1) items symbol) None)) ≡ cond taken (Some (kept item items))
     (cond optional (left_after items symbol) None)
 seek_step all item items k symbol here later true optional = ap Some here
@@ -95,8 +92,7 @@ seek_leaves : (all items : List Item) (k : ℕ) (symbol : Symbol) → items ≡ 
 seek_leaves all [] k symbol e = refl
 seek_leaves all (item ∷ items) k symbol e =
     seek_step all item items k symbol (sought_here all item items k e)
-    (seek_leaves all items (k + 1) symbol (rw add-one (tail_of all k item items e)))
-    _ _
+    (seek_leaves all items (k + 1) symbol (rw add-one (tail_of all k item items e))) _ _
 
 moved_spot : (all : List Item) (stage : Stage) (k : ℕ) (symbol : Symbol) →
     option_map (λ (n : ℕ × Stage). At (drop n.0 all) n.1) (moved stage k (drop k all) symbol)
@@ -105,20 +101,9 @@ moved_spot all Whole k symbol =
     option_map-option_map (λ n. (n, begun_by symbol)) (λ (n : ℕ × Stage). At (drop n.0 all) n.1)
     (seek k _ symbol)
     ∙ sym (option_map-option_map (λ n. drop n all) (λ left. At left (begun_by symbol))
-    _) ∙ ap (option_map (λ left. At left (begun_by symbol)))
-    (seek_leaves all _ k symbol refl)
-moved_spot all Marker k symbol =
-    option_map-option_map (λ n. (k, n)) (λ (n : ℕ × Stage). At (drop n.0 all) n.1)
-    _
-moved_spot all Numeric k symbol =
-    option_map-option_map (λ n. (k, n)) (λ (n : ℕ × Stage). At (drop n.0 all) n.1)
-    _
-moved_spot all Hexadecimal k symbol =
-    option_map-option_map (λ n. (k, n)) (λ (n : ℕ × Stage). At (drop n.0 all) n.1)
-    _
-moved_spot all Setext k symbol =
-    option_map-option_map (λ n. (k, n)) (λ (n : ℕ × Stage). At (drop n.0 all) n.1)
-    _
+    _) ∙ ap (option_map (λ left. At left (begun_by symbol))) (seek_leaves all _ k symbol refl)
+moved_spot all stage k symbol =
+    option_map-option_map (λ n. (k, n)) (λ (n : ℕ × Stage). At (drop n.0 all) n.1) _
 
 advance_spot : (state : State) (symbol : Symbol) → option_map spot_of (advance state symbol)
     ≡ spot_after (items_of state) state.stage symbol
@@ -128,8 +113,7 @@ advance_spot state symbol =
       before = Some symbol;
       position = n.0;
       stage = n.1;
-    }) spot_of _
-    ∙ moved_spot _ state.stage state.position symbol
+    }) spot_of _ ∙ moved_spot _ state.stage state.position symbol
 
 -- what a symbol leaves alone
 pub advance_role : (state next : State) (symbol : Symbol) → advance state symbol ≡ Some next →
@@ -172,9 +156,8 @@ Goes-from_feeds from (symbol ∷ symbols) to f = (
   Goes-from_feeds f.0 symbols to f.2,
 )
 
-Goes-append :
-    (items left : List Item) (stage next : Stage) (symbols others : List Symbol) (to : Spot) →
-    Goes items stage symbols (At left next) → Goes left next others to →
+Goes-append : (items left : List Item) (stage next : Stage) (symbols others : List Symbol)
+    (to : Spot) → Goes items stage symbols (At left next) → Goes left next others to →
     Goes items stage (symbols ++ others) to
 Goes-append items left stage next [] others to g h =
     let same = at_items items left stage next g in
@@ -184,20 +167,14 @@ Goes-append items left stage next (symbol ∷ symbols) others to g h =
     (g.0, g.1, g.2, Goes-append g.0 left g.1 next symbols others to g.3 h)
 
 goes_endings : (left : List Item) (n : ℕ) →
-    Goes left Setext (replicate n LineEnding ++ SetextUnderline
-    ∷ []) (At left Whole)
+    Goes left Setext (replicate n LineEnding ++ SetextUnderline ∷ []) (At left Whole)
 goes_endings left zero = (left, Whole, refl, refl)
 goes_endings left (suc n) = (left, Setext, refl, goes_endings left n)
 
 goes_tail : (left : List Item) (first : Symbol) (tail : List Symbol) → IsTail first tail →
     Goes left (begun_by first) tail (At left Whole)
 goes_tail left ReferenceMarker tail (inl e) =
-    subst (λ t. Goes left Marker t (At left Whole)) (sym e) (
-      left,
-      Whole,
-      refl,
-      refl,
-    )
+    subst (λ t. Goes left Marker t (At left Whole)) (sym e) (left, Whole, refl, refl)
 goes_tail left ReferenceMarker tail (inr (inl e)) =
     subst (λ t. Goes left Marker t (At left Whole)) (sym e)
     (left, Numeric, refl, (left, Whole, refl, refl))
@@ -214,8 +191,7 @@ goes_tail left _ tail e = subst (λ t. Goes left Whole t (At left Whole)) (sym e
 
 -- the pattern's own spines are read to an end
 pub goes_whole : (items : List Item) (firsts spine : List Symbol) → settled items ≡ true →
-    IsGrouped firsts spine →
-    Fits items firsts →
+    IsGrouped firsts spine → Fits items firsts →
     (left : List Item) × Goes items Whole spine (At left Whole) × (list_all is_optional left ≡ true)
 goes_whole items [] spine ok grouped fit = (
   items,

@@ -17,17 +17,15 @@ use Rattle.md_tree.proofs.Verdicts.{Reached-runs, BeginNoTree-stuck, outside-sto
 use Rattle.md_tree.proofs.Endings.{EndsBroken-exit}
 
 module _ (bytes : List ℕ) (names : List (List ℕ × List ℕ)) where
-  breaks_where_node : (broken : Rule)
-      (outer : Option Outer) (start point : Point) (course : Course) →
-      BreaksWhere bytes names broken outer start point course → IsOfNode broken
+  breaks_where_node : (broken : Rule) (outer : Option Outer) (start point : Point)
+      (course : Course) → BreaksWhere bytes names broken outer start point course → IsOfNode broken
   breaks_where_node broken None start point course breaks = absurd breaks
   breaks_where_node broken (Some outer) start point course breaks =
       of_node bytes names outer.reading outer.state.role outer.before start point
       course.target broken breaks.1
 
-  breaks_node : (broken : Rule) (opens : List Open)
-      (name : Name) (point : Point) (course : Course) →
-      BreaksAtExit bytes names broken opens name point course → IsOfNode broken
+  breaks_node : (broken : Rule) (opens : List Open) (name : Name) (point : Point)
+      (course : Course) → BreaksAtExit bytes names broken opens name point course → IsOfNode broken
   breaks_node broken [] name point course breaks = absurd breaks
   breaks_node broken (open_node ∷ others) name point course breaks =
       breaks_where_node broken open_node.outer open_node.start point course breaks.1
@@ -38,28 +36,25 @@ module _ (bytes : List ℕ) (names : List (List ℕ × List ℕ)) where
   AtExit bytes names broken Exit name point course =
       BreaksAtExit bytes names broken course.open_nodes name point course
 
-  at_exit : (broken : Rule)
-      (kind : Kind) (name : Name)
-      (point : Point) (course : Course) → IsOfNode broken →
-      StopsBy bytes names kind broken name point course →
+  at_exit : (broken : Rule) (kind : Kind) (name : Name) (point : Point) (course : Course) →
+      IsOfNode broken → StopsBy bytes names kind broken name point course →
       AtExit bytes names broken kind name point course
   at_exit rule.Order kind name point course of stops = absurd of
   at_exit rule.Mdx kind name point course of stops = absurd of
   at_exit broken Enter name point course of stops = stops
   at_exit broken Exit name point course of stops = stops
 
-  ends_broken : (broken : Rule) (kind : Kind)
-      (name : Name) (point : Point) (seen : List Event) (course : Course) →
-      Runs (Unbroken bytes names) seen beginning course →
-      AtExit bytes names broken kind name point course → EndsBroken bytes names (seen
-      ++ record { kind = kind; name = name; point = point } ∷ []) broken
+  ends_broken : (broken : Rule) (kind : Kind) (name : Name) (point : Point) (seen : List Event)
+      (course : Course) → Runs (Unbroken bytes names) seen beginning course →
+      AtExit bytes names broken kind name point course → EndsBroken bytes names
+      (seen ++ record { kind = kind; name = name; point = point } ∷ []) broken
   ends_broken broken Enter name point seen course runs breaks = absurd breaks
   ends_broken broken Exit name point seen course runs breaks =
       EndsBroken-exit bytes names broken seen name point course
       (Reached-runs _ seen course runs) breaks
 
-  order_stuck : (kind : Kind) (name : Name)
-      (point : Point) (course next : Course) → StopsBy bytes names kind rule.Order name point course →
+  order_stuck : (kind : Kind) (name : Name) (point : Point) (course next : Course) →
+      StopsBy bytes names kind rule.Order name point course →
       StepsBy Anything kind name point course next → ⊥
   order_stuck Enter name point course next stops step = stops next step
   order_stuck Exit name point course next stops step = stops next step
@@ -106,8 +101,7 @@ module _ (given : Handed) (index : ℕ) (d : Event) (course : Course)
         event.name event.point course of stops)),
   )
 
-  said_order : (broken : Rule) → Stops broken →
-      IsOrder given (error.Event index broken)
+  said_order : (broken : Rule) → Stops broken → IsOrder given (error.Event index broken)
   said_order rule.Order stops = (
     omega arith,
     (λ _. subst BeginNoTree (sym seen_more)
@@ -119,24 +113,20 @@ module _ (given : Handed) (index : ℕ) (d : Event) (course : Course)
   )
   said_order _ stops = tt
 
-  said_mdx : (broken : Rule) → Stops broken →
-      IsMdx given (error.Event index broken)
+  said_mdx : (broken : Rule) → Stops broken → IsMdx given (error.Event index broken)
   said_mdx rule.Mdx stops =
       mdx_entered given.bytes given.names given.events index event.kind
-      event.name event.point course
-      (slice_get-get_or given.events index d inside) stops
+      event.name event.point course (slice_get-get_or given.events index d inside) stops
   said_mdx _ stops = tt
 
-  said_node : (broken : Rule) → Stops broken →
-      refusal.IsOfNode given (error.Event index broken)
+  said_node : (broken : Rule) → Stops broken → refusal.IsOfNode given (error.Event index broken)
   said_node rule.Order stops = tt
   said_node rule.Mdx stops = tt
   said_node rule.Definition stops = tt
   said_node rule.Footnote stops = tt
   said_node broken stops = broken_node broken tt stops
 
-  said_lost : (broken : Rule) → Stops broken →
-      IsLost given (error.Event index broken)
+  said_lost : (broken : Rule) → Stops broken → IsLost given (error.Event index broken)
   said_lost rule.Definition stops =
       absurd ((never_lost given.bytes given.names event.kind event.name event.point course).0 stops)
   said_lost rule.Footnote stops =
@@ -149,8 +139,7 @@ module _ (given : Handed) (index : ℕ) (d : Event) (course : Course)
       sym (take-append-drop index given.events) ∙ ap (λ es. take index given.events
       ++ es) (drop-cons given.events index d inside)
 
-  stopped_at : (named : ℕ) (broken : Rule) → named ≡ index →
-      Stops broken →
+  stopped_at : (named : ℕ) (broken : Rule) → named ≡ index → Stops broken →
       IsRefusal given (error.Event named broken)
   stopped_at named broken same stops =
       subst (λ n. IsRefusal given (error.Event n broken)) (sym same) (record {
@@ -158,8 +147,7 @@ module _ (given : Handed) (index : ℕ) (d : Event) (course : Course)
         mdx = said_mdx broken stops;
         of_node = said_node broken stops;
         lost = said_lost broken stops;
-        outside = outside-stopped given _ _
-            _ course broken parts runs stops;
+        outside = outside-stopped given _ _ _ course broken parts runs stops;
       })
 
   pub IsRefusal-stopped : (stopped : CompileError) → IsStop given.bytes given.names index

@@ -43,14 +43,12 @@ or_false a b e f = ap (λ x. x || b) e ∙ f
 neither_first : (one other seen : Symbol) → neither one other seen ≡ true →
     sameb the_type one seen ≡ false
 neither_first one other seen e =
-    not_true (sameb the_type one seen)
-    (and_left _ _ e)
+    not_true (sameb the_type one seen) (and_left _ _ e)
 
 neither_second : (one other seen : Symbol) → neither one other seen ≡ true →
     sameb the_type other seen ≡ false
 neither_second one other seen e =
-    not_true (sameb the_type other seen)
-    (and_right _ _ e)
+    not_true (sameb the_type other seen) (and_right _ _ e)
 
 -- the alignments of a row's, a head's and a table's children
 abbrev of_value : Forest → List AlignKind
@@ -68,46 +66,36 @@ row_level children shaped matches =
     let p = neither symbol.TableHead symbol.TableDelimiterRow in
     level (is_named GfmTableDelimiterCellValue) GfmTableDelimiterCellValue
     symbol.TableDelimiterValue p of_value value_is
-    (λ name. (named name).value) (λ around before inner stands each. refl)
-    (λ seen e none. (
+    (λ name. (named name).value) (λ around before inner stands each. refl) (λ seen e none. (
       none,
-      or_false (sameb the_type symbol.TableHead seen)
-          (sameb the_type symbol.TableDelimiterRow seen)
+      or_false (sameb the_type symbol.TableHead seen) (sameb the_type symbol.TableDelimiterRow seen)
           (neither_first symbol.TableHead symbol.TableDelimiterRow seen e)
           (neither_second symbol.TableHead symbol.TableDelimiterRow seen e),
-    ))
-    children role.TableDelimiterRow None shaped (matches_pass p role.TableDelimiterRow
+    )) children role.TableDelimiterRow None shaped (matches_pass p role.TableDelimiterRow
     _ refl refl matches)
 
 head_level : (children : Forest) → AreShaped children role.TableHead None →
-    Matches role.TableHead (spine children) →
-    alignments children ≡ of_head children
+    Matches role.TableHead (spine children) → alignments children ≡ of_head children
 head_level children shaped matches =
     let p = neither symbol.TableDelimiterValue symbol.TableHead in
     level is_delimiter_row GfmTableDelimiterRow symbol.TableDelimiterRow p of_row row_is
-    (λ name. (named name).row)
-    (λ around before inner stands each. row_level inner each stands)
+    (λ name. (named name).row) (λ around before inner stands each. row_level inner each stands)
     (λ seen e none. (
       neither_first symbol.TableDelimiterValue symbol.TableHead seen e,
       or_false (sameb the_type symbol.TableHead seen) (sameb the_type symbol.TableDelimiterRow seen)
           (neither_second symbol.TableDelimiterValue symbol.TableHead seen e) none,
-    ))
-    children role.TableHead None shaped
-    (matches_pass p role.TableHead _ refl refl matches)
+    )) children role.TableHead None shaped (matches_pass p role.TableHead _ refl refl matches)
 
 table_level : (children : Forest) → IsTable children →
     alignments children ≡ in_each is_table_head of_head children
 table_level children table =
     let p = neither symbol.TableDelimiterValue symbol.TableDelimiterRow in
     level is_table_head GfmTableHead symbol.TableHead p of_head head_is (λ name. (named name).head)
-    (λ around before inner stands each. head_level inner each stands)
-    (λ seen e none. (
+    (λ around before inner stands each. head_level inner each stands) (λ seen e none. (
       neither_first symbol.TableDelimiterValue symbol.TableDelimiterRow seen e,
-      or_false (sameb the_type symbol.TableHead seen)
-          (sameb the_type symbol.TableDelimiterRow seen) none
-          (neither_second symbol.TableDelimiterValue symbol.TableDelimiterRow seen e),
-    ))
-    children role.Table None table.0 (matches_pass p role.Table _ refl refl table.1)
+      or_false (sameb the_type symbol.TableHead seen) (sameb the_type symbol.TableDelimiterRow seen)
+          none (neither_second symbol.TableDelimiterValue symbol.TableDelimiterRow seen e),
+    )) children role.Table None table.0 (matches_pass p role.Table _ refl refl table.1)
 
 -- ---- each of them
 map_cond : {A B : Type 0} (f : A → B) (passed transparent : Bool) (own inner : List A) →
@@ -118,9 +106,8 @@ map_cond f false true own inner = refl
 map_cond f false false own inner = refl
 
 map_in_each : {A B : Type 0} (f : A → B) (test : Name → Bool) (found : Forest → List A)
-    (other : Forest → List B) →
-    ((children : Forest) → map f (found children) ≡ other children) → (forest : Forest) →
-    map f (in_each test found forest) ≡ in_each test other forest
+    (other : Forest → List B) → ((children : Forest) → map f (found children) ≡ other children) →
+    (forest : Forest) → map f (in_each test found forest) ≡ in_each test other forest
 map_in_each f test found other same Empty = refl
 map_in_each f test found other same (Node name start end children rest) =
     map-append f (cond (test name) (found children)

@@ -1,6 +1,6 @@
 -- The rest of a pattern after a symbol, and the proof that the symbols taken fit the pattern.
 use Rattle.std.proofs.Common.{◌≡◌, Bool, true, false, cond, if◌then◌else◌, Option, Some, None, List}
-use Rattle.std.proofs.Common.{[], ◌∷◌, refl, sym, ap, subst, arith}
+use Rattle.std.proofs.Common.{[], ◌∷◌, refl, ap, subst, arith}
 use Rattle.md_tree.proofs.Common.{list_all, Symbol, Item, Once, Maybe, Many, class_of, takes, Fits}
 use Rattle.md_tree.proofs.Common.{IsCount, is_optional}
 use Rattle.md_tree.proofs.SettledPatterns.{and_both, and_left, and_right}
@@ -39,16 +39,14 @@ none_optional (Maybe class) optional = omega arith
 none_optional (Many class) optional = tt
 
 left_out : (item : Item) (items : List Item) (symbols : List Symbol) → is_optional item ≡ true →
-    Fits items symbols →
-    Fits (item ∷ items) symbols
+    Fits items symbols → Fits (item ∷ items) symbols
 left_out item items symbols optional fit =
     ([], symbols, refl, refl, none_optional item optional, fit)
 
 pub fits_nothing : (items : List Item) → list_all is_optional items ≡ true → Fits items []
 fits_nothing [] e = refl
 fits_nothing (item ∷ items) e =
-    left_out item items [] (and_left _ _ e)
-    (fits_nothing items (and_right _ _ e))
+    left_out item items [] (and_left _ _ e) (fits_nothing items (and_right _ _ e))
 
 fits_back_optional :
     (item : Item) (items left : List Item) (symbol : Symbol) (symbols : List Symbol) →
@@ -59,18 +57,14 @@ fits_back_optional item items left symbol symbols again true o e =
     left_out item items (symbol ∷ symbols) o (again e)
 fits_back_optional item items left symbol symbols again false o e = cc
 
-some_one : {A : Type 0} (a b : A) → Some a ≡ Some b → a ≡ b
-some_one a b e = cc
-
 fits_back_taken : (item : Item) (items left : List Item) (symbol : Symbol) (symbols : List Symbol) →
     Fits left symbols → (left_after items symbol ≡ Some left → Fits items (symbol ∷ symbols)) →
-    (taken : Bool) →
-    takes (class_of item) symbol ≡ taken → cond taken (Some (kept item items))
+    (taken : Bool) → takes (class_of item) symbol ≡ taken → cond taken (Some (kept item items))
     (cond (is_optional item) (left_after items symbol) None) ≡ Some left →
     Fits (item ∷ items) (symbol ∷ symbols)
 fits_back_taken item items left symbol symbols fit again true t e =
-    one_more item items symbol symbols t
-    (subst (λ l. Fits l symbols) (sym (some_one _ left e)) fit)
+    let same : left ≡ kept item items = cc in
+    one_more item items symbol symbols t (subst (λ l. Fits l symbols) same fit)
 fits_back_taken item items left symbol symbols fit again false t e =
     fits_back_optional item items left symbol symbols again _ refl e
 

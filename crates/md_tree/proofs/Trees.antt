@@ -36,9 +36,8 @@ Feeds-context from to (symbol ∷ symbols) f =
     (rest.0 ∙ here.0, rest.1 ∙ ap (λ b. last_symbol b symbols) here.1)
 
 -- nodes that are fine are read, from a spine that takes theirs
-pub Runs-nodes : (holds : Reads) → AllowsFree holds →
-    (forest : Forest) (from : Course) (end : State) →
-    EachNode (IsFine holds) forest from.state.role from.state.before →
+pub Runs-nodes : (holds : Reads) → AllowsFree holds → (forest : Forest) (from : Course)
+    (end : State) → EachNode (IsFine holds) forest from.state.role from.state.before →
     Feeds from.state (spine forest) end →
     Runs holds (flatten forest) from (after_nodes forest end from)
 Runs-nodes holds free Empty from end fine feeds =
@@ -62,8 +61,7 @@ Runs-nodes holds free (Node name start stop children rest) from end fine feeds =
       target = target_after st from.target (target_of children) (place start stop);
       open_nodes = from.open_nodes;
       count = suc _;
-      mentions = mentions_with (index_after _ children)
-          (mention_of _ _)
+      mentions = mentions_with (index_after _ children) (mention_of _ _)
           (mentions_over _ children from.mentions);
     } in
     let rest_fine = subst (λ b. EachNode (IsFine holds) rest middle.role b) (sym context.1)
@@ -72,9 +70,7 @@ Runs-nodes holds free (Node name start stop children rest) from end fine feeds =
     let rest_runs = Runs-nodes holds free rest after end rest_fine parts.2 in (
       node.inside,
       node.enters,
-      Runs-append holds _ _ node.inside node.last
-          _ node.runs
-          (after, node.exits, rest_runs),
+      Runs-append holds _ _ node.inside node.last _ node.runs (after, node.exits, rest_runs),
     )
 
 pub EachNode-map : (P Q : Claim) →
@@ -86,10 +82,8 @@ pub EachNode-map : (P Q : Claim) →
 EachNode-map P Q f Empty around before each = tt
 EachNode-map P Q f (Node name start end children rest) around before each = (
   f around before name start end children each.0,
-  EachNode-map P Q f children
-      _ _ each.1,
-  EachNode-map P Q f rest around
-      _ each.2,
+  EachNode-map P Q f children _ _ each.1,
+  EachNode-map P Q f rest around _ each.2,
 )
 
 -- a document that is fine is read to an end

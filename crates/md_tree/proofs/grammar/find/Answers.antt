@@ -15,22 +15,19 @@ use Rattle.md_tree.proofs.grammar.find.Goals as goal
 
 -- no node of a course is open, and so none of a walk
 none_at : (events : List Event) (targets : List Aim) (opens : List Open) →
-    opens_at events targets opens ≡ [] →
-    opens ≡ []
+    opens_at events targets opens ≡ [] → opens ≡ []
 none_at events targets [] e = refl
 none_at events targets (open_node ∷ opens) e = cc
 
 none_open : (events : List Event) (targets : List Aim) (opens : List Open) →
-    opens_seen events targets opens ≡ [] →
-    opens ≡ []
+    opens_seen events targets opens ≡ [] → opens ≡ []
 none_open events targets opens e =
     sym (reverse-reverse opens) ∙ ap reverse (none_at events targets (reverse opens) e)
 
 -- the document that was walked to its end
 walked : (given : Handed) (walk : Walk) → Runs (Unbroken given.bytes given.names) given.events
-    beginning (course_of given.events (length given.events) walk) →
-    (walk.open_nodes.items ≡ []) × (is_complete (state_of walk.place walk.before) ≡ true) →
-    IsWalked given walk.mentions.items
+    beginning (course_of given.events (length given.events) walk) → (walk.open_nodes.items ≡ []) ×
+    (is_complete (state_of walk.place walk.before) ≡ true) → IsWalked given walk.mentions.items
 walked given walk runs done =
     IsWalked-done given _ runs (ap (opens_seen given.events (reverse walk.targets.items)) done.0)
     done.1
@@ -52,8 +49,7 @@ returns-in_err-resolve-clause-refused c =
     let mentions = c.in_ok-read.read.walk.mentions.items in
     let document = walked given c.in_ok-read.read.walk (rw c.in_ok-texts.ensures at
     c.in_ok-read.ensures.walked) (c.is_done.ensures.done c.if-not-is_done.false) in
-    rw (p.1, p.2)
-    (IsRefusal-lost given mentions c.in_err-resolve.field-0.0 document
+    rw (p.1, p.2) (IsRefusal-lost given mentions c.in_err-resolve.field-0.0 document
     (subst (λ ms. IsUnresolved c.args.bytes.now ms c.in_err-resolve.field-0.0) c.deref.ensures.value
     (rw (c.with_front_alone-texts.ensures, c.in_ok-texts.ensures) at
     c.in_err-resolve.ensures.refused)))
@@ -77,8 +73,6 @@ returns-clause-facts c = λ forest flattens.
     c.in_ok-read.ensures.walked) (c.is_done.ensures.done c.if-not-is_done.false) in
     rw (c.with_front_alone-texts.ensures, c.in_ok-texts.ensures) at c.in_ok-resolve.ensures.numbered
     ∙ ap (λ ms. numbered (number_for given.bytes (mentions_among ms)) ms
-    c.in_ok-read.read.found.facts)
-    c.deref.ensures.value
+    c.in_ok-read.read.found.facts) c.deref.ensures.value
     ∙ ap (λ fs. numbered (number_for given.bytes (mentions_among mentions)) mentions fs)
-    c.in_ok-read.ensures.facts
-    ∙ AreNumbered-walked given mentions document forest flattens
+    c.in_ok-read.ensures.facts ∙ AreNumbered-walked given mentions document forest flattens

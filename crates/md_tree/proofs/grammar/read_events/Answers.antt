@@ -22,8 +22,7 @@ returns-clause-walked c =
     let count = c.loop-event.visits in
     let all = c.in_default.ensures.lookup.3 in
     subst (λ es. Runs passes es beginning
-    (course_of events (length events) c.loop-event.reader.walk))
-    (take_all count events all)
+    (course_of events (length events) c.loop-event.reader.walk)) (take_all count events all)
     (subst (λ n. Runs passes (take count events) beginning
     (course_of events n c.loop-event.reader.walk))
     (all_read events count c.loop-event.invariant.1 all) c.loop-event.invariant.0.walked)

@@ -10,8 +10,7 @@ use Rattle.md_tree.proofs.infer.gfm_table_align.Goals as goal
 
 -- a claim of what is in an answer
 on_answer : {A E : Type 0} (P Q : A → Type 0) → ((a : A) → P a → Q a) →
-    (result : Result A E) → IfOk result P →
-    IfOk result Q
+    (result : Result A E) → IfOk result P → IfOk result Q
 on_answer P Q f (Ok a) p = f a p
 on_answer P Q f (Err e) p = tt
 

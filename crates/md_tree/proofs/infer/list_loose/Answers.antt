@@ -28,7 +28,6 @@ pub returns-else-include_items-clause-loose : goal.returns-else-include_items-cl
 returns-else-include_items-clause-loose c = λ children entered.
     let list = enters_list c.args.checked.now.events c.args.index c.requires in
     ap (λ (f : Fact). f.looseness.without_items)
-    (c.fact.ensures.fact list.0 children list.1 entered).1
-    ∙ without_items-summary children
+    (c.fact.ensures.fact list.0 children list.1 entered).1 ∙ without_items-summary children
     ∙ ap (λ b. if b then is_loose children else is_loose_without_items children)
     (sym c.if-include_items.false)

@@ -6,8 +6,7 @@ use Rattle.md_tree.proofs.resolve.definitions.Given as goal
 
 abbrev pub invariant-loop-mentioned : goal.invariant-loop-mentioned
 invariant-loop-mentioned l =
-    (passed : List Mentioned)
-    × (l.mentions ≡ l.rest ++ passed)
+    (passed : List Mentioned) × (l.mentions ≡ l.rest ++ passed)
     × (l.number ≡ length (defined l.bytes (mentions_among l.rest)))
     × NumbersFrom l.numbers l.number (defined l.bytes (mentions_among passed))
 

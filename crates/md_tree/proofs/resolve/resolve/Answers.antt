@@ -21,13 +21,10 @@ loop-mentioned-preserved c =
     let resolved =
     rw c.in-Ok.is at (c.in_ok-number.ensures (mentions_among mentions) c.in_ok-definitions.ensures
     c.in_ok-footnotes.ensures) in (
-      λ k d below.
-          below_more (λ i. IsResolved bytes (mentions_among mentions)
+      λ k d below. below_more (λ i. IsResolved bytes (mentions_among mentions)
           (get_or (mentions_among mentions) i d)) index (λ i h. c.loop-mentioned.invariant.0 i d h)
           (IsResolved-at bytes mentions index _ d c.loop-mentioned-test.true resolved.0) k below,
       numbered-kept (number_for bytes (mentions_among mentions)) mentions index
-          c.loop-mentioned.facts _
-          c.loop-mentioned-test.true c.loop-mentioned.invariant.1 _ _ c.in-Ok.number
-          (sym resolved.1)
-          c.in_ok-keep_number-in-Ok.ensures,
+          c.loop-mentioned.facts _ c.loop-mentioned-test.true c.loop-mentioned.invariant.1 _ _
+          c.in-Ok.number (sym resolved.1) c.in_ok-keep_number-in-Ok.ensures,
     )

@@ -25,8 +25,7 @@ one_some : (o : Option (List AlignKind)) (x y : List AlignKind) → o ≡ Some x
 one_some o x y e f = cc
 
 pub returns-clause-aligned : goal.returns-clause-aligned
-returns-clause-aligned c = λ children entered.
-    one_some _ c.table_at.result.now _
+returns-clause-aligned c = λ children entered. one_some _ c.table_at.result.now _
     (ap (λ xs. slice_get (map (λ t. t.items) xs) c.fact_at.result.read_at)
     (sym c.deref.ensures.value) ∙ c.table_at.ensures) (columns-kept c.self.inside c.args.self.now
     c.args.index c.self.invariant c.self.view_is c.requires

@@ -36,4 +36,5 @@ returns c =
     ReadAt.text_is (read c.self.inside c.args.self.now c.args.index c.self.invariant c.self.view_is
     c.requires _ c.position_ended.ensures) position _ _ c.unwrap-position.ensures
     (c.label_at.ensures
-    ∙ ap (λ (g : Handed). label_between g.bytes position.start position.end) c.self.view_is) c.unwrap.ensures
+    ∙ ap (λ (g : Handed). label_between g.bytes position.start position.end) c.self.view_is)
+    c.unwrap.ensures

@@ -33,8 +33,7 @@ returns-clause-reads c = λ name children enters reader entered.
     let found = c.fact.ensures.fact name children enters entered in
     c.position_read.ensures
     ∙ ap (λ (g : Handed). position_at g.events c.self.inside.facts c.fact.result.read_at)
-    c.self.view_is
-    ∙ ap (λ fs. position_at given.events fs c.fact.result.read_at)
+    c.self.view_is ∙ ap (λ fs. position_at given.events fs c.fact.result.read_at)
     (facts_are c.self.inside given index c.self.invariant c.self.view_is)
     ∙ at-with given.events (numbers c.self.inside given index c.self.invariant c.self.view_is)
     (facts_at given.events) c.fact.result.read_at

@@ -34,6 +34,6 @@ pub returns : goal.returns
 returns c =
     let position = c.unwrap-position.result in
     ReadAt.text_is (read c.self.inside c.args.self.now c.args.index c.self.invariant c.self.view_is
-    c.requires _ c.position_ended.ensures) position _ _ c.unwrap-position.ensures
-    (c.text_at.ensures
-    ∙ ap (λ (g : Handed). text_between g.bytes position.start position.end) c.self.view_is) c.unwrap.ensures
+    c.requires _ c.position_ended.ensures) position _ _ c.unwrap-position.ensures (c.text_at.ensures
+    ∙ ap (λ (g : Handed). text_between g.bytes position.start position.end) c.self.view_is)
+    c.unwrap.ensures

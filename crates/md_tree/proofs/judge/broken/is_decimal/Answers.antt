@@ -20,8 +20,7 @@ is_none_of true x e = cc
 is_none_of false x e = refl
 
 ok_number : {E : Type 0} (digits : List ℕ) (r : Result ℕ E) → get_or digits 0 0 ≢ 43 →
-    ParsesUnsigned 32 10 digits r →
-    is_ok r ≡ is_number 10 digits
+    ParsesUnsigned 32 10 digits r → is_ok r ≡ is_number 10 digits
 ok_number {E} digits (Ok n) no_plus parsed =
     is_some_of (is_number 10 digits) (character_of (digits_value 10 digits)) (character_of n)
     (numbered_ok {E = E} 10 digits (Ok n) n no_plus parsed refl)

@@ -17,8 +17,7 @@ use Rattle.md_tree.proofs.walk.Walk.leaf.Goals as goal
 advanced : (before : Option Symbol) (symbol : Symbol) (from : SpineState)
     (result : Option SpineState) (next : SpineState) →
     option_map (λ n. state_of n (Some symbol)) result ≡ advance (state_of from None) symbol →
-    result ≡ Some next →
-    advance (state_of from before) symbol ≡ Some (state_of next (Some symbol))
+    result ≡ Some next → advance (state_of from before) symbol ≡ Some (state_of next (Some symbol))
 advanced before symbol from result next e is =
     sym e ∙ ap (option_map (λ n. state_of n (Some symbol))) is
 
@@ -29,8 +28,7 @@ returns-in-Through-clause-ok c =
     let over = c.in-Through.is in
     passes-over c.args.input.bytes.now (name_table c.args.input.names.now) c.args.name
     (point_at events c.args.index) (point_at events (suc c.args.index))
-    (course_of events c.args.index self)
-    (sym c.may_hold.ensures ∙ c.if-not-may_hold.false)
+    (course_of events c.args.index self) (sym c.may_hold.ensures ∙ c.if-not-may_hold.false)
     (subst (λ s. (s ≡ Through) ⊎ (s ≡ Space)) c.standing_of.ensures over)
 
 pub returns-in-Through-clause-no_table : goal.returns-in-Through-clause-no_table
