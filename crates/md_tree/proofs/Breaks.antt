@@ -54,24 +54,22 @@ module _ (bytes : List ℕ) (names : List (List ℕ × List ℕ)) where
       (before : Option Symbol) (start end : Point) (target : Referral) (broken : Rule) →
       broken_rule bytes names reads around before start end target ≡ Some broken → IsOfNode broken
   of_node reading.Text around before start end target broken e =
-      of_text (text_between bytes start end) (λ text. None) broken (λ text f. of_none broken f) e
+      of_text (text_between bytes start end) _ broken (λ text f. of_none broken f) e
   of_node reading.LineEnding around before start end target broken e =
-      of_text (text_between bytes start end) (λ text. unless (is_line_ending text) rule.LineEnding)
-      broken (λ text f. of_unless (is_line_ending text) rule.LineEnding broken tt f) e
+      of_text (text_between bytes start end) _ broken
+      (λ text f. of_unless (is_line_ending text) rule.LineEnding broken tt f) e
   of_node reading.Number around before start end target broken e =
-      of_text (text_between bytes start end)
-      (λ text. unless (is_list_number around before text) rule.ListNumber) broken
+      of_text (text_between bytes start end) _ broken
       (λ text f. of_unless (is_list_number around before text) rule.ListNumber broken tt f) e
   of_node reading.Value around before start end target broken e =
-      of_text (text_between bytes start end)
-      (λ text. unless (is_decodable names before text) rule.CharacterReference) broken
+      of_text (text_between bytes start end) _ broken
       (λ text f. of_unless (is_decodable names before text) rule.CharacterReference broken tt f) e
   of_node reading.Mark around before start end target broken e =
       of_mark _ _ broken e
   of_node reading.Underline around before start end target broken e =
       of_unless _ rule.Place broken tt e
   of_node reading.Identifier around before start end target broken e =
-      of_text _ (λ text. None) broken (λ text f. of_none broken f) e
+      of_text _ _ broken (λ text f. of_none broken f) e
   of_node reading.Media around before start end target broken e =
       of_target target broken e
   of_node _ around before start end target broken e = of_none broken e

@@ -6,7 +6,7 @@ use Rattle.std.specs.Prelude.{IsSome, option_copied}
 use Rattle.std.specs.Borrow.{Bor}
 use Rattle.md_tree.proofs.Common.{map, option_map, slice_get, All, slice_get-map, slice_get-get_or}
 use Rattle.md_tree.proofs.Common.{Point, Position, Name, Exit, Event, text_between, label_between}
-use Rattle.md_tree.proofs.Common.{Symbol, Role, Flow, Reading, Standing, Through, Space, Solid, Mdx}
+use Rattle.md_tree.proofs.Common.{Symbol, Role, Flow, Reading, Standing, Solid}
 use Rattle.md_tree.proofs.Common.{Referral, Missing, Rule, Forest, flatten, entering, exiting}
 use Rattle.md_tree.proofs.Common.{standing_of, spine, shown, inner_role, inner_before, last_symbol}
 use Rattle.md_tree.proofs.Common.{place, broken_by, broken_rule, reading_of, MeetRules, target_of}
@@ -128,19 +128,15 @@ module _ (bytes : List ℕ) (names : List (List ℕ × List ℕ)) where
 
 pub text_names : (bytes : List ℕ) (names : List (List ℕ × List ℕ)) →
     HaveText bytes names is_text (text_between bytes)
-text_names bytes names Through around before start end target e is = cc
-text_names bytes names Space around before start end target e is = cc
 text_names bytes names (Solid symbol usual reading) around before start end target e is =
     text_read bytes names reading around before start end target e is
-text_names bytes names Mdx around before start end target e is = cc
+text_names bytes names _ around before start end target e is = cc
 
 pub identifier_names : (bytes : List ℕ) (names : List (List ℕ × List ℕ)) →
     HaveText bytes names is_identifier (label_between bytes)
-identifier_names bytes names Through around before start end target e is = cc
-identifier_names bytes names Space around before start end target e is = cc
 identifier_names bytes names (Solid symbol usual reading) around before start end target e is =
     label_read bytes names reading around before start end target e is
-identifier_names bytes names Mdx around before start end target e is = cc
+identifier_names bytes names _ around before start end target e is = cc
 
 -- ---- at an index
 

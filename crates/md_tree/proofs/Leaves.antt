@@ -141,41 +141,38 @@ module _ (name : Name) (symbol : Symbol) (usual : Role) (reading : Reading)
       ap (λ m. record after { mentions = mentions_with (suc from.count) m from.mentions })
       (sym (no-mention reading))
 
-  pub Passes-solid : (bytes : List ℕ) (names : List (List ℕ × List ℕ)) (target : Referral) →
-      is_complete inner ≡ true →
-      broken_rule bytes names reading next.role from.state.before start end Missing ≡ None →
-      target ≡ target_at reading from.target Missing (place start end) →
-      Passes (Unbroken bytes names) name start end from
-      (record from { state = next; target = target; count = suc (suc from.count) })
-  Passes-solid bytes names target complete sound target_is =
-      Passes-exit name start end from begins
-      (entered-solid name from.state from.target holds symbol usual reading next stands moves)
-      _ outer _ refl (complete, sound, ap (λ t. record after { target = t }) target_is ∙ exits-so)
+  module _ (bytes : List ℕ) (names : List (List ℕ × List ℕ)) where
+    pub Passes-solid : (target : Referral) → is_complete inner ≡ true →
+        broken_rule bytes names reading next.role from.state.before start end Missing ≡ None →
+        target ≡ target_at reading from.target Missing (place start end) →
+        Passes (Unbroken bytes names) name start end from
+        (record from { state = next; target = target; count = suc (suc from.count) })
+    Passes-solid target complete sound target_is =
+        Passes-exit name start end from begins
+        (entered-solid name from.state from.target holds symbol usual reading next stands moves)
+        _ outer _ refl (complete, sound, ap (λ t. record after { target = t }) target_is ∙ exits-so)
 
-  stops-so : (bytes : List ℕ) (names : List (List ℕ × List ℕ)) (index : ℕ)
-      (refusal : CompileError) →
-      IsStopInside bytes names (suc index) outer (place start end) (inside begins from) refusal →
-      IsStopAtLeaf bytes names index name start end from refusal
-  stops-so bytes names index refusal =
-      IsStopAtLeaf-exit name start end from begins
-      (entered-solid name from.state from.target holds symbol usual reading next stands moves) bytes
-      names index refusal outer refl
+    stops-so : (index : ℕ) (refusal : CompileError) →
+        IsStopInside bytes names (suc index) outer (place start end) (inside begins from) refusal →
+        IsStopAtLeaf bytes names index name start end from refusal
+    stops-so index refusal =
+        IsStopAtLeaf-exit name start end from begins
+        (entered-solid name from.state from.target holds symbol usual reading next stands moves)
+        bytes names index refusal outer refl
 
-  pub IsStopAtLeaf-open : (bytes : List ℕ) (names : List (List ℕ × List ℕ)) (index : ℕ) →
-      is_complete inner ≡ false →
-      IsStopAtLeaf bytes names index name start end from (error.Event (suc index) rule.Order)
-  IsStopAtLeaf-open bytes names index unfinished =
-      stops-so bytes names index (error.Event _ rule.Order) (refl, unfinished)
+    pub IsStopAtLeaf-open : (index : ℕ) → is_complete inner ≡ false →
+        IsStopAtLeaf bytes names index name start end from (error.Event (suc index) rule.Order)
+    IsStopAtLeaf-open index unfinished =
+        stops-so index (error.Event _ rule.Order) (refl, unfinished)
 
-  pub IsStopAtLeaf-broken : (bytes : List ℕ) (names : List (List ℕ × List ℕ)) (index : ℕ)
-      (broken : Rule) → is_complete inner ≡ true →
-      broken_rule bytes names reading next.role from.state.before start end Missing ≡ Some broken →
-      IsStopAtLeaf bytes names index name start end from (error.Event (suc index) broken)
-  IsStopAtLeaf-broken bytes names index broken complete breaks =
-      stops-so bytes names index (error.Event _ broken) (
-        refl,
-        StopsInside-broken bytes names broken outer start end _ complete breaks,
-      )
+    pub IsStopAtLeaf-broken : (index : ℕ) (broken : Rule) → is_complete inner ≡ true → broken_rule
+        bytes names reading next.role from.state.before start end Missing ≡ Some broken →
+        IsStopAtLeaf bytes names index name start end from (error.Event (suc index) broken)
+    IsStopAtLeaf-broken index broken complete breaks =
+        stops-so index (error.Event _ broken) (
+          refl,
+          StopsInside-broken bytes names broken outer start end _ complete breaks,
+        )
 
 -- ---- a table has children
 

@@ -1,6 +1,6 @@
 -- Claims on nodes, one from another: that they have their shape, and that they meet the rules.
 use Rattle.std.proofs.Common.{◌≡◌, ℕ, Option, None, List, [], ◌∷◌, refl}
-use Rattle.md_tree.proofs.Common.{Point, Symbol, Role, Standing, Through, Space, Solid, Mdx}
+use Rattle.md_tree.proofs.Common.{Point, Symbol, Role, Standing, Solid}
 use Rattle.md_tree.proofs.Common.{Referral, Missing, Forest, Empty, Node, standing_of, Claim}
 use Rattle.md_tree.proofs.Common.{EachNode, IsShapedNode, AreShaped, reading_of, broken_rule}
 use Rattle.md_tree.proofs.Common.{MeetRules, target_of, Level, Reads, Anything, Unbroken}
@@ -12,10 +12,8 @@ use Rattle.md_tree.proofs.OpenPaths.{IsFinePath}
 
 reads_anything : (standing : Standing) (around : Role) (before : Option Symbol) (start end : Point)
     (target : Referral) → IsReadWhere Anything standing around before start end target
-reads_anything Through around before start end target = tt
-reads_anything Space around before start end target = tt
 reads_anything (Solid symbol usual reading) around before start end target = tt
-reads_anything Mdx around before start end target = tt
+reads_anything _ around before start end target = tt
 
 pub shaped_anything : (forest : Forest) (around : Role) (before : Option Symbol) →
     EachNode IsShapedNode forest around before → EachNode (IsFine Anything) forest around before
@@ -41,19 +39,15 @@ module _ (bytes : List ℕ) (names : List (List ℕ × List ℕ)) where
       (before : Option Symbol) (start end : Point) (target : Referral) →
       broken_rule bytes names (reading_of standing) around before start end target ≡ None →
       IsReadWhere (Unbroken bytes names) standing around before start end target
-  reads_unbroken Through around before start end target e = tt
-  reads_unbroken Space around before start end target e = tt
   reads_unbroken (Solid symbol usual reading) around before start end target e = e
-  reads_unbroken Mdx around before start end target e = tt
+  reads_unbroken _ around before start end target e = tt
 
   unbroken_reads : (standing : Standing) (around : Role)
       (before : Option Symbol) (start end : Point) (target : Referral) →
       IsReadWhere (Unbroken bytes names) standing around before start end target →
       broken_rule bytes names (reading_of standing) around before start end target ≡ None
-  unbroken_reads Through around before start end target e = refl
-  unbroken_reads Space around before start end target e = refl
   unbroken_reads (Solid symbol usual reading) around before start end target e = e
-  unbroken_reads Mdx around before start end target e = refl
+  unbroken_reads _ around before start end target e = refl
 
   pub fine_unbroken : (forest : Forest) (around : Role) (before : Option Symbol) →
       AreShaped forest around before → MeetRules bytes names forest around before →

@@ -1,9 +1,9 @@
 -- Numbers written one by one are those of the list.
 use Rattle.std.proofs.Common.{◌≡◌, ℕ, suc, ◌≤◌, List, [], ◌∷◌, ◌++◌, length, refl, sym, ap, ◌∙◌}
 use Rattle.std.proofs.Common.{append_assoc, append-nil, arith}
-use Rattle.md_tree.proofs.Common.{map, Fact, Mention, Nothing, Reference, mentions_among}
-use Rattle.md_tree.proofs.Common.{identifier_at, which, number_of, with_number, put_number}
-use Rattle.md_tree.proofs.Common.{numbered, number_for, facts_with}
+use Rattle.md_tree.proofs.Common.{length_one, map, Fact, Mention, Nothing, Reference}
+use Rattle.md_tree.proofs.Common.{mentions_among, identifier_at, which, number_of, with_number}
+use Rattle.md_tree.proofs.Common.{put_number, numbered, number_for, facts_with}
 use Rattle.md_tree.proofs.Listing.{listed, defined_listed}
 use Rattle.md_tree.proofs.Numbering.{put-none, put-past}
 
@@ -38,22 +38,16 @@ module _ (number : Mention → ℕ) (none : number Nothing ≡ 0) where
       ≡ before ++ facts_with (map number mentions) facts
   all_listed [] index before facts e = refl
   all_listed (mention ∷ mentions) index before [] e =
+      let within : length before ≡ index → length before ≤ index = λ same. omega (arith, same) in
       ap (λ fs. numbered number (listed index (mention ∷ mentions)) fs) (append-nil before)
       ∙ past_listed (mention ∷ mentions) index before (within e) ∙ sym (append-nil before)
-    where
-      within : length before ≡ index → length before ≤ index
-      within e = omega (arith, e)
   all_listed (mention ∷ mentions) index before (fact ∷ facts) e =
       let here = with_number (number mention) fact in
       one_listed mention mentions index (before ++ fact ∷ facts)
       ∙ ap (λ fs. numbered number (listed (suc index) mentions) fs)
       (put_after before (fact ∷ facts) _ index e ∙ sym (append_assoc before _ facts))
-      ∙ all_listed mentions _ _ facts (longer before here index e)
+      ∙ all_listed mentions _ _ facts (length_one before here ∙ ap suc e)
       ∙ append_assoc before (here ∷ []) _
-    where
-      longer : (xs : List Fact) (x : Fact) (n : ℕ) → length xs ≡ n → length (xs ++ x ∷ []) ≡ suc n
-      longer [] x n e = ap suc e
-      longer (y ∷ xs) x n e = ap suc (longer xs x _ refl) ∙ ap suc e
 
 -- two ways to number that are alike
 module _ (one other : Mention → ℕ) (alike : (mention : Mention) → one mention ≡ other mention) where

@@ -1,12 +1,12 @@
 -- The open nodes of a course are those of a path: where a course stands after some events.
 use Rattle.std.proofs.Common.{◌≡◌, Bool, true, false, cond, Option, Some, None, List, [], ◌∷◌, ◌++◌}
 use Rattle.std.proofs.Common.{refl, sym, ap, ◌∙◌, subst, append_assoc}
-use Rattle.md_tree.proofs.Common.{Event, Symbol, Role, Flow, Standing, Solid, Mdx}
-use Rattle.md_tree.proofs.Common.{Referral, Missing, State, Entry, Open, Outer, Forest, Empty, Node}
-use Rattle.md_tree.proofs.Common.{flatten, entering, exiting, standing_of, spine, shown, Claim}
-use Rattle.md_tree.proofs.Common.{EachNode, inner_role, inner_before, last_symbol, role_for}
-use Rattle.md_tree.proofs.Common.{target_of, Level, opening, role_in, before_in, symbol_after}
-use Rattle.md_tree.proofs.Common.{start_of, Reads, Course, entered, entered_on, beginning}
+use Rattle.md_tree.proofs.Common.{Event, Symbol, Role, Flow, Standing, Solid, Mdx, Referral}
+use Rattle.md_tree.proofs.Common.{Missing, State, Entry, Open, Outer, Forest, Empty, Node, flatten}
+use Rattle.md_tree.proofs.Common.{entering, exiting, standing_of, spine, shown, Claim, EachNode}
+use Rattle.md_tree.proofs.Common.{inner_role, inner_before, last_symbol, role_for, target_of, Level}
+use Rattle.md_tree.proofs.Common.{opening, role_in, before_in, symbol_after, start_of, Reads}
+use Rattle.md_tree.proofs.Common.{Course, entered, entered_on, beginning}
 use Rattle.md_tree.proofs.Spots.{Feeds, option_map-some}
 use Rattle.md_tree.proofs.NodesRead.{IsFine}
 use Rattle.md_tree.proofs.Trees.{Feeds-context}

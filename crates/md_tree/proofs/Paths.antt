@@ -79,68 +79,74 @@ pub record Left (holds ending : Reads) (events : List Event) (name : Name) (poin
   pub path_fine : IsFinePath holds (level ∷ path)
   pub nodes_fine : EachNode (IsFine holds) nodes base.role base.before
 
-left_from : (holds ending : Reads) (events : List Event) (name : Name) (point : Point)
-    (from to : Course) (path : List Level) (opens : List Open) (nodes : Forest) (base : State)
-    (found : Referral) → from.open_nodes ≡ opens → Stands path opens base found →
-    Feeds base (spine nodes) from.state → from.target ≡ target_of nodes found →
-    events ≡ opening path ++ flatten nodes → IsFinePath holds path →
-    EachNode (IsFine holds) nodes base.role base.before → Exits ending opens name point from to →
-    Left holds ending events name point from to
-left_from holds ending events name point from to [] [] nodes base found opens_are stands feeds
-    target events_are path_fine fine exits = absurd exits
-left_from holds ending events name point from to [] (open_node
-    ∷ others) nodes base found opens_are stands feeds target events_are path_fine fine exits =
-    absurd stands
-left_from holds ending events name point from to (level ∷ path)
-    [] nodes base found opens_are stands feeds target events_are path_fine fine exits =
-    absurd stands
-left_from holds ending events name point from to (level ∷ path) (open_node
-    ∷ others) nodes base found opens_are stands feeds target events_are path_fine fine exits =
-    let here = stands.2 in
-    let on = may_hold_true _ _ _ stands.7 in
-    record {
-      path = path;
-      level = level;
-      nodes = nodes;
-      around = stands.0;
-      here = here;
-      base = base;
-      found = stands.1;
-      inner = found;
-      open_node = open_node;
-      others = others;
-      stands = stands.3;
-      feeds = stands.4;
-      name_is = sym stands.5 ∙ exits.0;
-      start_is = stands.6;
-      may = on.0;
-      entered_is = on.1;
-      inside = feeds;
-      target_is = target;
-      opens_are = opens_are;
-      exits =
-          subst (λ p. ExitsWhere ending open_node.outer p point others from to) stands.6 exits.1;
-      events_are = events_are;
-      path_fine = path_fine;
-      nodes_fine = fine;
-    }
+module _ (holds ending : Reads) (events : List Event) (name : Name) (point : Point)
+    (from to : Course) where
+  left_from : (path : List Level) (opens : List Open) (nodes : Forest) (base : State)
+      (found : Referral) → from.open_nodes ≡ opens → Stands path opens base found →
+      Feeds base (spine nodes) from.state → from.target ≡ target_of nodes found →
+      events ≡ opening path ++ flatten nodes → IsFinePath holds path →
+      EachNode (IsFine holds) nodes base.role base.before → Exits ending opens name point from to →
+      Left holds ending events name point from to
+  left_from (level ∷ path) (open_node
+      ∷ others) nodes base found opens_are stands feeds target events_are path_fine fine exits =
+      let here = stands.2 in
+      let on = may_hold_true _ _ _ stands.7 in
+      record {
+        path = path;
+        level = level;
+        nodes = nodes;
+        around = stands.0;
+        here = here;
+        base = base;
+        found = stands.1;
+        inner = found;
+        open_node = open_node;
+        others = others;
+        stands = stands.3;
+        feeds = stands.4;
+        name_is = sym stands.5 ∙ exits.0;
+        start_is = stands.6;
+        may = on.0;
+        entered_is = on.1;
+        inside = feeds;
+        target_is = target;
+        opens_are = opens_are;
+        exits =
+            subst (λ p. ExitsWhere ending open_node.outer p point others from to) stands.6 exits.1;
+        events_are = events_are;
+        path_fine = path_fine;
+        nodes_fine = fine;
+      }
+  left_from [] [] nodes base found opens_are stands feeds
+      target events_are path_fine fine exits = absurd exits
+  left_from _ _ nodes base found opens_are stands feeds
+      target events_are path_fine fine exits = absurd stands
 
-pub Reached-left : (holds ending : Reads) (events : List Event) (name : Name) (point : Point)
-    (from to : Course) → Reached holds events from →
-    Exits ending from.open_nodes name point from to → Left holds ending events name point from to
-Reached-left holds ending events name point from to reached exits =
-    left_from holds ending events name point from to reached.path from.open_nodes
-    reached.nodes reached.base reached.found refl reached.stands reached.feeds reached.target_is
-    reached.events_are reached.path_fine reached.nodes_fine exits
+  pub Reached-left : Reached holds events from →
+      Exits ending from.open_nodes name point from to → Left holds ending events name point from to
+  Reached-left reached exits =
+      left_from reached.path from.open_nodes
+      reached.nodes reached.base reached.found refl reached.stands reached.feeds reached.target_is
+      reached.events_are reached.path_fine reached.nodes_fine exits
 
-pub Left-closed : (holds ending : Reads) (events : List Event) (name : Name) (point : Point)
-    (from to : Course) → (left : Left holds ending events name point from to) →
-    Closed ending (standing_of left.level.name) left.level.name left.level.start point left.nodes
-    left.here to.state (target_of left.level.before left.found) to.target
-Left-closed holds ending events name point from to left =
-    closed holds ending left.level.name left.level.start point left.nodes left.here left.base _
-    left.inner left.open_node.outer left.others from to left.may left.nodes_fine left.inside
-    left.target_is left.exits _ left.entered_is
+  pub Left-closed : (left : Left holds ending events name point from to) →
+      Closed ending (standing_of left.level.name) left.level.name left.level.start point left.nodes
+      left.here to.state (target_of left.level.before left.found) to.target
+  Left-closed left =
+      closed holds ending left.level.name left.level.start point left.nodes left.here left.base _
+      left.inner left.open_node.outer left.others from to left.may left.nodes_fine left.inside
+      left.target_is left.exits _ left.entered_is
+
+  -- the inner context of a node that is left, by the spine around it
+  pub Left-inner : (left : Left holds ending events name point from to) → EachNode (IsFine holds)
+      left.nodes (inner_role (standing_of left.level.name) left.here.role left.here.before)
+      (inner_before (standing_of left.level.name) left.here.before)
+  Left-inner left =
+      let context =
+      entered_context _ left.here _ _ left.entered_is in
+      subst (λ b. EachNode (IsFine holds) left.nodes (inner_role
+      (standing_of left.level.name) left.here.role left.here.before) b) context.1
+      (subst (λ r. EachNode (IsFine holds) left.nodes r left.base.before) context.0 left.nodes_fine)
 
 exits_open : (ending : Reads) (waiting : Option Outer) (start point : Point) (others : List Open)
     (from to : Course) →
@@ -153,19 +159,6 @@ events_joined : (a b c : List Event) (x y : Event) → ((((a ++ b) ++ x ∷ []) 
     ++ (b ++ (x ∷ c ++ y ∷ []))
 events_joined a b c x y =
     append_assoc _ c (y ∷ []) ∙ append_assoc (a ++ b) (x ∷ []) _ ∙ append_assoc a b _
-
--- the inner context of a node that is left, by the spine around it
-pub Left-inner : (holds ending : Reads) (events : List Event) (name : Name) (point : Point)
-    (from to : Course) → (left : Left holds ending events name point from to) →
-    EachNode (IsFine holds) left.nodes
-    (inner_role (standing_of left.level.name) left.here.role left.here.before)
-    (inner_before (standing_of left.level.name) left.here.before)
-Left-inner holds ending events name point from to left =
-    let context =
-    entered_context _ left.here _ _ left.entered_is in
-    subst (λ b. EachNode (IsFine holds) left.nodes (inner_role
-    (standing_of left.level.name) left.here.role left.here.before) b) context.1
-    (subst (λ r. EachNode (IsFine holds) left.nodes r left.base.before) context.0 left.nodes_fine)
 
 left_reached : (holds : Reads) (events : List Event) (point : Point) (from to : Course)
     (path : List Level) (level : Level) (nodes : Forest) (around here : State) (found : Referral) →

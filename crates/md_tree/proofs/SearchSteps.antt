@@ -186,23 +186,14 @@ pub solid_step : (at : At) (w : Wanted) (s : Sought) (name : Name) (start end : 
     (cond (seeks w name) (Some (finds w start end children)) None)
     (cond (refers w name) (Some (Some (place start end))) None)
 solid_step at want.Nothing s name start end children m inner here held = nothing at s
-solid_step at want.Mark s name start end children m inner here held =
-    itself_step at s _ m inner _ here
 solid_step at want.Item s name start end children m inner here held =
     holder_step at s _ m inner _ held
 solid_step at want.Prefix s name start end children m inner here held =
     holder_step at s _ m inner _ held
-solid_step at want.Value s name start end children m inner here held =
-    itself_step at s _ m inner _ here
 solid_step at want.Media s name start end children m inner here held =
     media_step at s name start end children m inner here held
 solid_step at want.Label s name start end children m inner here held =
     holder_step at s _ m inner _ held
-solid_step at want.LabelText s name start end children m inner here held =
-    itself_step at s _ m inner _ here
-solid_step at want.DefinitionLabel s name start end children m inner here held =
-    itself_step at s _ m inner _ here
 solid_step at want.FootnotePrefix s name start end children m inner here held =
     holder_step at s _ m inner _ held
-solid_step at want.FootnoteLabel s name start end children m inner here held =
-    itself_step at s _ m inner _ here
+solid_step at _ s name start end children m inner here held = itself_step at s _ m inner _ here

@@ -40,16 +40,6 @@ not_true false e = refl
 or_false : (a b : Bool) → a ≡ false → b ≡ false → (a || b) ≡ false
 or_false a b e f = ap (λ x. x || b) e ∙ f
 
-neither_first : (one other seen : Symbol) → neither one other seen ≡ true →
-    sameb the_type one seen ≡ false
-neither_first one other seen e =
-    not_true (sameb the_type one seen) (and_left _ _ e)
-
-neither_second : (one other seen : Symbol) → neither one other seen ≡ true →
-    sameb the_type other seen ≡ false
-neither_second one other seen e =
-    not_true (sameb the_type other seen) (and_right _ _ e)
-
 -- the alignments of a row's, a head's and a table's children
 abbrev of_value : Forest → List AlignKind
 of_value children = alignment_of children ∷ []
@@ -69,8 +59,7 @@ row_level children shaped matches =
     (λ name. (named name).value) (λ around before inner stands each. refl) (λ seen e none. (
       none,
       or_false (sameb the_type symbol.TableHead seen) (sameb the_type symbol.TableDelimiterRow seen)
-          (neither_first symbol.TableHead symbol.TableDelimiterRow seen e)
-          (neither_second symbol.TableHead symbol.TableDelimiterRow seen e),
+          (not_true _ (and_left _ _ e)) (not_true _ (and_right _ _ e)),
     )) children role.TableDelimiterRow None shaped (matches_pass p role.TableDelimiterRow
     _ refl refl matches)
 
@@ -81,9 +70,9 @@ head_level children shaped matches =
     level is_delimiter_row GfmTableDelimiterRow symbol.TableDelimiterRow p of_row row_is
     (λ name. (named name).row) (λ around before inner stands each. row_level inner each stands)
     (λ seen e none. (
-      neither_first symbol.TableDelimiterValue symbol.TableHead seen e,
+      not_true _ (and_left _ _ e),
       or_false (sameb the_type symbol.TableHead seen) (sameb the_type symbol.TableDelimiterRow seen)
-          (neither_second symbol.TableDelimiterValue symbol.TableHead seen e) none,
+          (not_true _ (and_right _ _ e)) none,
     )) children role.TableHead None shaped (matches_pass p role.TableHead _ refl refl matches)
 
 table_level : (children : Forest) → IsTable children →
@@ -92,9 +81,9 @@ table_level children table =
     let p = neither symbol.TableDelimiterValue symbol.TableDelimiterRow in
     level is_table_head GfmTableHead symbol.TableHead p of_head head_is (λ name. (named name).head)
     (λ around before inner stands each. head_level inner each stands) (λ seen e none. (
-      neither_first symbol.TableDelimiterValue symbol.TableDelimiterRow seen e,
+      not_true _ (and_left _ _ e),
       or_false (sameb the_type symbol.TableHead seen) (sameb the_type symbol.TableDelimiterRow seen)
-          none (neither_second symbol.TableDelimiterValue symbol.TableDelimiterRow seen e),
+          none (not_true _ (and_right _ _ e)),
     )) children role.Table None table.0 (matches_pass p role.Table _ refl refl table.1)
 
 -- ---- each of them
