@@ -53,6 +53,7 @@ abbrev pub has_least : Symbol → Bool
 has_least one = elim (least one) [ Empty ↦ false | _ ↦ true ]
 
 -- ---- the least nodes have the shape of the grammar
+
 -- a role whose spine may end after these symbols
 abbrev Ends : Role → List Symbol → Type 0
 Ends around symbols = (ends_after (start_of around) symbols ≡ true) × (may_hold around ≡ true)
@@ -71,6 +72,7 @@ label_ends : (around : Role) → Ends (label_in around) (symbol.LabelText ∷ []
 label_ends role.FootnoteCall = (refl, refl)
 label_ends _ = (refl, refl)
 
+-- a spine without symbols may end
 bare : (around : Role) → ends_after (start_of around) [] ≡ true → Matches around []
 bare around e = matches_after around [] e
 
@@ -144,7 +146,7 @@ least_shaped symbol.HeadingSequence _ _ apart e = ((apart, bare role.Empty refl)
 least_shaped symbol.CodeFence around before apart e =
     ((apart, bare (code_fence_after before) (code_fence_ends before)), tt, tt)
 least_shaped symbol.MathFence around before apart e =
-    ((apart, matches_after _ [] (math_fence_ends before)), tt, tt)
+    ((apart, bare (math_fence_after before) (math_fence_ends before)), tt, tt)
 least_shaped symbol.Label around before apart e = label_shaped around before apart
 least_shaped symbol.LabelText _ _ apart e = ((apart, bare role.Phrasing refl), tt, tt)
 least_shaped symbol.DefinitionLabel _ _ apart e = ((apart, bare role.String refl), tt, tt)

@@ -31,14 +31,14 @@ module _ (bytes : List ℕ) (names : List (List ℕ × List ℕ)) where
       breaks_where_node broken open_node.outer open_node.start point course breaks.1
 
   -- a rule that is judged when a node ends stops a walk at an exit alone
-  abbrev AtExit : List ℕ → List (List ℕ × List ℕ) → Rule → Kind → Name → Point → Course → Type 0
-  AtExit bytes names broken Enter name point course = ⊥
-  AtExit bytes names broken Exit name point course =
+  abbrev AtExit : Rule → Kind → Name → Point → Course → Type 0
+  AtExit broken Enter name point course = ⊥
+  AtExit broken Exit name point course =
       BreaksAtExit bytes names broken course.open_nodes name point course
 
   at_exit : (broken : Rule) (kind : Kind) (name : Name) (point : Point) (course : Course) →
       IsOfNode broken → StopsBy bytes names kind broken name point course →
-      AtExit bytes names broken kind name point course
+      AtExit broken kind name point course
   at_exit rule.Order kind name point course of stops = absurd of
   at_exit rule.Mdx kind name point course of stops = absurd of
   at_exit broken Enter name point course of stops = stops
@@ -46,7 +46,7 @@ module _ (bytes : List ℕ) (names : List (List ℕ × List ℕ)) where
 
   ends_broken : (broken : Rule) (kind : Kind) (name : Name) (point : Point) (seen : List Event)
       (course : Course) → Runs (Unbroken bytes names) seen beginning course →
-      AtExit bytes names broken kind name point course → EndsBroken bytes names
+      AtExit broken kind name point course → EndsBroken bytes names
       (seen ++ record { kind = kind; name = name; point = point } ∷ []) broken
   ends_broken broken Enter name point seen course runs breaks = absurd breaks
   ends_broken broken Exit name point seen course runs breaks =
