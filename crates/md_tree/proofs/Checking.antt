@@ -1,33 +1,21 @@
 -- What a check may say of a list of events: why each refusal is one, and that a list that passes is
 -- of the grammar. The contracts of `check` and of `Reader` follow from it.
-use Rattle.std.proofs.Common.{◌≡◌, ◌⊎◌, inl, inr, ℕ, suc, ◌<◌, ◌≤◌, false, Some, None, List, []}
-use Rattle.std.proofs.Common.{◌∷◌, length, take, get_or, refl, sym, ap, ◌∙◌, subst, arith}
-use Rattle.std.specs.Prelude.{map, slice_get}
-use Rattle.std.specs.List.{All}
-use Rattle.std.proofs.Math.Seq.{take-suc}
-use Rattle.std.proofs.lemmas.Option.{slice_get_cases, get_or_from_slice_get}
-use Rattle.md_base.specs.declared.event.Name.TheVariants.{Data}
-use Rattle.md_base.specs.declared.event.Event.{Event}
-use Rattle.md_tree.specs.declared.mention.Mention.{Mention}
-use Rattle.md_tree.specs.declared.mention.Mention.TheVariants.{Reference, Call}
-use Rattle.md_tree.specs.declared.mention.Mentioned.{Mentioned}
-use Rattle.md_tree.specs.declared.rule.Rule.{Rule}
+use Rattle.std.proofs.Common.{◌≡◌, ℕ, suc, ◌<◌, false, Some, List, [], length, take, get_or, refl}
+use Rattle.std.proofs.Common.{sym, ap, ◌∙◌, subst, arith}
+use Rattle.md_tree.proofs.Common.{map, slice_get, All, take-suc, slice_get_within}
+use Rattle.md_tree.proofs.Common.{get_or_from_slice_get, Data, Event, Mention, Mentioned, Rule}
+use Rattle.md_tree.proofs.Common.{CompileError, mentions_of, mentions_among, IsResolved, Handed}
+use Rattle.md_tree.proofs.Common.{IsGrammatical, IsReadAs, IsChecked, IsRefusal, is_complete, Reads}
+use Rattle.md_tree.proofs.Common.{Course, Runs, Steps, beginning, Unbroken, IsUnresolvedBy}
+use Rattle.md_tree.proofs.Common.{IsUnresolved, Forest, flatten, facts_at, numbered, number_for}
+use Rattle.md_tree.proofs.Common.{facts_with}
 use Rattle.md_tree.specs.declared.rule.Rule.TheVariants as rule
-use Rattle.md_tree.specs.declared.rule.CompileError.{CompileError}
 use Rattle.md_tree.specs.declared.rule.CompileError.TheVariants as error
-use Rattle.md_tree.specs.Mentions.{mentions_of, mentions_among, IsResolved}
-use Rattle.md_tree.specs.Grammar.{Handed, IsGrammatical, IsReadAs, IsChecked}
-use Rattle.md_tree.specs.Refusal.{EndsUnresolved, IsRefusal}
-use Rattle.md_pattern.specs.Steps.{is_complete}
-use Rattle.md_tree.specs.Machine.{Reads, Course, Runs, Steps, beginning}
-use Rattle.md_tree.specs.Walk.{Unbroken}
-use Rattle.md_tree.specs.Resolve.{RefersNowhere, IsUnresolvedBy, IsUnresolved}
+use Rattle.md_tree.specs.Refusal.{EndsUnresolved}
+use Rattle.md_tree.specs.Resolve.{RefersNowhere}
 use Rattle.md_tree.proofs.OneTree.{flatten_one}
 use Rattle.md_tree.proofs.Listing.{listed, resolved-listed, all-resolved, got-listed}
 use Rattle.md_tree.proofs.Trees.{Runs-append}
-use Rattle.md_base.specs.Tree.{Forest, flatten}
-use Rattle.md_pattern.specs.Facts.{facts_at}
-use Rattle.md_tree.specs.Numbers.{numbered, number_for, facts_with}
 use Rattle.md_tree.proofs.NumbersPut.{numbered-listed}
 use Rattle.md_tree.proofs.Endings.{LeaveOpen-undone, outside-undone, IsWalked}
 use Rattle.md_tree.proofs.LeastNodes.{somewhere}
@@ -38,8 +26,7 @@ pub Runs-more : (holds : Reads) (events : List Event) (index : ℕ) (d : Event) 
     Steps holds (get_or events index d) from to → Runs holds (take (suc index) events) beginning to
 Runs-more holds events index d from to inside runs step =
     subst (λ es. Runs holds es beginning to) (sym (take-suc events index d inside))
-    (Runs-append holds (take index events) (get_or events index d ∷ []) beginning from to
-    runs (to, step, refl))
+    (Runs-append holds _ _ beginning from to runs (to, step, refl))
 
 -- ---- the end
 pub IsRefusal-undone : (given : Handed) (course : Course) →
@@ -67,18 +54,6 @@ document_one given mentions walked checked =
     flatten_one Data somewhere checked.0 walked.forest
     (IsReadAs.flattened checked.1 ∙ sym walked.flattened)
 
-got_inside : (mentions : List Mention) (index : ℕ) (mention : Mention) →
-    slice_get mentions index ≡ Some mention →
-    index < length mentions
-got_inside mentions index mention e = by_cases (slice_get_cases mentions index).1
-  where
-    by_cases : ((x : Mention) × (index < length mentions) × (slice_get mentions index ≡ Some x)
-        × (get_or mentions index x ≡ x))
-        ⊎ ((length mentions ≤ index) × (slice_get mentions index ≡ None)) →
-        index < length mentions
-    by_cases (inl here) = here.1
-    by_cases (inr past) = let clash : Some mention ≡ None = sym e ∙ past.1 in cc
-
 -- an unresolved mention, among the mentions of the document
 module _ (given : Handed) (mentioned : List Mentioned) (index : ℕ) (mention : Mention)
     (walked : IsWalked given mentioned)
@@ -88,8 +63,7 @@ module _ (given : Handed) (mentioned : List Mentioned) (index : ℕ) (mention : 
 
   lost_got : slice_get all index ≡ Some mention
   lost_got =
-      got-listed all lost.0 (record { index = index; mention = mention })
-      (ap (λ ms. slice_get ms lost.0) (sym walked.mentions_are) ∙ lost.1)
+      got-listed all lost.0 _ (ap (λ ms. slice_get ms lost.0) (sym walked.mentions_are) ∙ lost.1)
 
   lost_unresolved : IsResolved given.bytes all mention → ⊥
   lost_unresolved is =
@@ -102,7 +76,7 @@ module _ (given : Handed) (mentioned : List Mentioned) (index : ℕ) (mention : 
       let resolved = subst (λ f. All (IsResolved given.bytes (mentions_of f)) (mentions_of f))
       (document_one given mentioned walked checked)
       (IsGrammatical.resolved (IsReadAs.grammatical checked.1)) in
-      let here = resolved index mention (got_inside all index mention lost_got) in
+      let here = resolved index mention (slice_get_within all index mention lost_got) in
       lost_unresolved (subst (λ m. IsResolved given.bytes all m)
       (get_or_from_slice_get all index mention mention lost_got) here)
 
@@ -123,15 +97,15 @@ refused_lost given mentioned index rule.Definition walked lost = record {
   order = tt;
   mdx = tt;
   of_node = tt;
-  lost = (lost.0, ends_unresolved given mentioned index (Reference lost.0) walked lost.1);
-  outside = lost_outside given mentioned index (Reference lost.0) walked lost.1;
+  lost = (lost.0, ends_unresolved given mentioned index _ walked lost.1);
+  outside = lost_outside given mentioned index _ walked lost.1;
 }
 refused_lost given mentioned index rule.Footnote walked lost = record {
   order = tt;
   mdx = tt;
   of_node = tt;
-  lost = (lost.0, ends_unresolved given mentioned index (Call lost.0) walked lost.1);
-  outside = lost_outside given mentioned index (Call lost.0) walked lost.1;
+  lost = (lost.0, ends_unresolved given mentioned index _ walked lost.1);
+  outside = lost_outside given mentioned index _ walked lost.1;
 }
 refused_lost given mentioned index _ walked lost = absurd lost
 
@@ -158,7 +132,7 @@ IsChecked-walked given mentioned walked resolved = (
     grammatical = record {
       shape = walked.shape;
       rules = walked.rules;
-      resolved = all-resolved given.bytes (mentions_of walked.forest)
+      resolved = all-resolved given.bytes _
           (subst (λ ms. All (IsResolved given.bytes (mentions_among ms)) (mentions_among ms))
           walked.mentions_are resolved);
     };

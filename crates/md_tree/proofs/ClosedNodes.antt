@@ -1,25 +1,11 @@
 -- A node that ends is valid, and extends its parent's spine.
 use Rattle.std.proofs.Common.{◌≡◌, ◌≢◌, true, false, Option, Some, None, List, refl, sym, ap, ◌∙◌}
 use Rattle.std.proofs.Common.{subst}
-use Rattle.md_base.specs.declared.event.Point.{Point}
-use Rattle.md_base.specs.declared.event.Name.{Name}
-use Rattle.md_pattern.specs.declared.kinds.Symbol.{Symbol}
-use Rattle.md_pattern.specs.declared.kinds.Role.{Role}
-use Rattle.md_pattern.specs.declared.kinds.Role.TheVariants.{Childless}
-use Rattle.md_pattern.specs.declared.kinds.Reading.{Reading}
-use Rattle.md_pattern.specs.declared.kinds.Reading.TheVariants.{Free}
-use Rattle.md_pattern.specs.declared.kinds.Standing.{Standing}
-use Rattle.md_pattern.specs.declared.kinds.Standing.TheVariants.{Through, Space, Solid, Mdx}
-use Rattle.md_tree.specs.declared.mention.Referral.{Referral}
-use Rattle.md_tree.specs.declared.mention.Referral.TheVariants.{Missing}
-use Rattle.md_pattern.specs.declared.state.State.{State}
-use Rattle.md_tree.specs.Machine.{Entry, Open, Outer}
-use Rattle.md_base.specs.Tree.{Forest, Empty, Node}
-use Rattle.md_pattern.specs.Spine.{spine, shown}
-use Rattle.md_pattern.specs.Shape.{EachNode, IsStanding, role_for}
-use Rattle.md_tree.specs.Rules.{place, target_at, target_after, target_of}
-use Rattle.md_pattern.specs.Steps.{may_hold, start_of, advance}
-use Rattle.md_tree.specs.Machine.{Reads, Course, ExitsWhere, entered_on}
+use Rattle.md_tree.proofs.Common.{Point, Name, Symbol, Role, Childless, Reading, Free, Standing}
+use Rattle.md_tree.proofs.Common.{Through, Space, Solid, Mdx, Referral, Missing, State, Entry, Open}
+use Rattle.md_tree.proofs.Common.{Outer, Forest, Empty, Node, spine, shown, EachNode, IsStanding}
+use Rattle.md_tree.proofs.Common.{role_for, place, target_at, target_after, target_of, may_hold}
+use Rattle.md_tree.proofs.Common.{start_of, Reads, Course, ExitsWhere, entered_on}
 use Rattle.md_tree.proofs.Spots.{Feeds, advance_role, option_map-some}
 use Rattle.md_tree.proofs.Groups.{matches_feeds}
 use Rattle.md_tree.proofs.NodesRead.{IsReadWhere, IsFine}
@@ -52,121 +38,81 @@ entry_is a b e =
       ap (λ (n : Entry). n.outer) same,
     )
 
-closed_through :
-    (holds ending : Reads) (name : Name) (start end : Point) (children : Forest) (here base : State)
-    (found inner : Referral) (outer : Option Outer) (others : List Open) (last to : Course) →
-    may_hold here.role ≡ true → entered_on Through here found
-    ≡ Some (record { state = base; target = inner; outer = outer }) →
-    Feeds base (spine children) last.state →
-    last.target ≡ target_of children inner → ExitsWhere ending outer start end others last to →
-    Closed ending Through name start end children here to.state found to.target
-closed_through holds ending name start end children here base found inner outer others last
-    to may e feeds target
-    exits =
-    let parts = entry_is (record { state = here; target = found; outer = None }) (record {
-      state = base;
-      target = inner;
-      outer = outer;
-    }) e in
-    let exit = subst (λ o. ExitsWhere ending o start end others last to) (sym parts.2) exits in
-    record {
-      apart = not_childless here.role may;
-      shaped = tt;
-      read = tt;
-      feeds = subst (λ s. Feeds here (spine children) s) (ap (λ (c : Course). c.state) (sym exit))
-          (subst (λ s. Feeds s (spine children) last.state) (sym parts.0) feeds);
-      target_is = ap (λ (c : Course). c.target) exit ∙ target
-          ∙ ap (λ t. target_of children t) (sym parts.1);
-    }
+-- a node that ends, by how its name stands
+module _ (holds ending : Reads) (name : Name) (start end : Point) (children : Forest)
+    (here base : State) (found inner : Referral) (outer : Option Outer) (others : List Open)
+    (last to : Course) (may : may_hold here.role ≡ true)
+    (fine : EachNode (IsFine holds) children base.role base.before)
+    (feeds : Feeds base (spine children) last.state)
+    (target : last.target ≡ target_of children inner)
+    (exits : ExitsWhere ending outer start end others last to) where
+  abbrev Enters : Standing → Type 0
+  Enters standing = entered_on standing here found
+      ≡ Some (record { state = base; target = inner; outer = outer })
 
-closed_space :
-    (holds ending : Reads) (name : Name) (start end : Point) (children : Forest) (here base : State)
-    (found inner : Referral) (outer : Option Outer) (others : List Open) (last to : Course) →
-    may_hold here.role ≡ true → entered_on Space here found
-    ≡ Some (record { state = base; target = inner; outer = outer }) →
-    EachNode (IsFine holds) children base.role base.before →
-    ExitsWhere ending outer start end others last to →
-    Closed ending Space name start end children here to.state found to.target
-closed_space holds ending name start end children here base found inner outer others last
-    to may e fine exits =
-    let waiting : Outer =
-    record { state = here; before = here.before; target = found; reading = Free } in
-    let parts =
-    entry_is (record { state = start_of Childless; target = Missing; outer = Some waiting })
-    (record { state = base; target = inner; outer = outer }) e in
-    let exit = subst (λ o. ExitsWhere ending o start end others last to) (sym parts.2) exits in
-    record {
-      apart = not_childless here.role may;
-      shaped = nothing_inside holds children None (subst
-          (λ (s : State). EachNode (IsFine holds) children s.role s.before) (sym parts.0) fine);
-      read = tt;
-      feeds = ap (λ (c : Course). c.state) (sym exit.2);
-      target_is = ap (λ (c : Course). c.target) exit.2;
-    }
+  abbrev Closes : Standing → Type 0
+  Closes standing = Closed ending standing name start end children here to.state found to.target
 
-closed_solid :
-    (holds ending : Reads) (name : Name) (start end : Point) (children : Forest) (here base : State)
-    (found inner : Referral) (outer : Option Outer) (others : List Open) (last to : Course)
-    (symbol : Symbol) (usual : Role) (reading : Reading) → may_hold here.role ≡ true →
-    entered_on (Solid symbol usual reading) here found
-    ≡ Some (record { state = base; target = inner; outer = outer })
-    → Feeds base (spine children) last.state → last.target ≡ target_of children inner →
-    ExitsWhere ending outer start end others last to → Closed ending
-    (Solid symbol usual reading) name start end children here to.state found to.target
-closed_solid holds ending name start end children here base found inner outer others last to
-    symbol usual reading may
-    e feeds target exits =
-    let role = role_for here.role here.before usual in
-    let m = option_map-some (λ (next : State). record {
-      state = start_of role;
-      target = Missing;
-      outer =
-          Some (record { state = next; before = here.before; target = found; reading = reading });
-    })
-    (advance here symbol) (record { state = base; target = inner; outer = outer }) e in
-    let next = m.0 in
-    let waiting : Outer =
-    record { state = next; before = here.before; target = found; reading = reading } in
-    let base_is : start_of role ≡ base = ap (λ (n : Entry). n.state) m.2 in
-    let inner_is : Missing ≡ inner = ap (λ (n : Entry). n.target) m.2 in
-    let exit = subst (λ o. ExitsWhere ending o start end others last to)
-    (ap (λ (n : Entry). n.outer) (sym m.2)) exits in
-    let target_here : last.target ≡ target_of children Missing = target
-    ∙ ap (λ t. target_of children t) (sym inner_is) in
-    record {
-      apart = not_childless here.role may;
-      shaped = matches_feeds role (spine children) last.state
-          (subst (λ s. Feeds s (spine children) last.state) (sym base_is) feeds) exit.0;
-      read = subst (λ r. ending reading r here.before start end (target_of children Missing))
-          (advance_role here next symbol m.1).0
-          (subst (λ t. ending reading next.role here.before start end t) target_here exit.1);
-      feeds = (next, m.1, ap (λ (c : Course). c.state) (sym exit.2));
-      target_is = ap (λ (c : Course). c.target) exit.2 ∙ ap
-          (λ t. target_at reading found t (place start end)) target_here;
-    }
+  closed_through : Enters Through → Closes Through
+  closed_through e =
+      let parts = entry_is (record { state = here; target = found; outer = None }) _ e in
+      let exit = subst (λ o. ExitsWhere ending o start end others last to) (sym parts.2) exits in
+      record {
+        apart = not_childless here.role may;
+        shaped = tt;
+        read = tt;
+        feeds = subst (λ s. Feeds here (spine children) s) (ap Course.state (sym exit))
+            (subst (λ s. Feeds s (spine children) last.state) (sym parts.0) feeds);
+        target_is = ap Course.target exit ∙ target ∙ ap (target_of children) (sym parts.1);
+      }
 
-pub closed : (holds ending : Reads) (standing : Standing) (name : Name) (start end : Point)
-    (children : Forest) (here base : State) (found inner : Referral) (outer : Option Outer)
-    (others : List Open) (last to : Course) →
-    may_hold here.role ≡ true → entered_on standing here found
-    ≡ Some (record { state = base; target = inner; outer = outer }) →
-    EachNode (IsFine holds) children base.role base.before →
-    Feeds base (spine children) last.state →
-    last.target ≡ target_of children inner → ExitsWhere ending outer start end others last to →
-    Closed ending standing name start end children here to.state found to.target
-closed holds ending Through name start end children here base found inner outer others last to may e
-    fine feeds target exits =
-    closed_through holds ending name start end children here base found inner outer others last to
-    may e feeds target exits
-closed holds ending Space name start end children here base found inner outer others last to may e
-    fine feeds target exits =
-    closed_space holds ending name start end children here base found inner outer others
-    last to may e fine exits
-closed holds ending (Solid symbol usual reading) name start end children here base found inner
-    outer others last to
-    may e fine feeds target exits =
-    closed_solid holds ending name start end children here base found inner outer others last to
-    symbol usual reading may e feeds target exits
-closed holds ending Mdx name start end children here base found inner outer others last to
-    may e fine feeds target
-    exits = cc
+  closed_space : Enters Space → Closes Space
+  closed_space e =
+      let waiting : Outer =
+      record { state = here; before = here.before; target = found; reading = Free } in
+      let parts = entry_is
+      (record { state = start_of Childless; target = Missing; outer = Some waiting }) _ e in
+      let exit = subst (λ o. ExitsWhere ending o start end others last to) (sym parts.2) exits in
+      record {
+        apart = not_childless here.role may;
+        shaped = nothing_inside holds children None (subst
+            (λ (s : State). EachNode (IsFine holds) children s.role s.before) (sym parts.0) fine);
+        read = tt;
+        feeds = ap Course.state (sym exit.2);
+        target_is = ap Course.target exit.2;
+      }
+
+  closed_solid : (symbol : Symbol) (usual : Role) (reading : Reading) →
+      Enters (Solid symbol usual reading) → Closes (Solid symbol usual reading)
+  closed_solid symbol usual reading e =
+      let role = role_for here.role here.before usual in
+      let m = option_map-some (λ (next : State). record {
+        state = start_of role;
+        target = Missing;
+        outer =
+            Some (record { state = next; before = here.before; target = found; reading = reading });
+      }) _ _ e in
+      let next = m.0 in
+      let base_is : start_of role ≡ base = ap Entry.state m.2 in
+      let inner_is : Missing ≡ inner = ap Entry.target m.2 in
+      let exit = subst (λ o. ExitsWhere ending o start end others last to)
+      (ap Entry.outer (sym m.2)) exits in
+      let target_here : last.target ≡ target_of children Missing =
+      target ∙ ap (target_of children) (sym inner_is) in
+      record {
+        apart = not_childless here.role may;
+        shaped = matches_feeds role _ last.state
+            (subst (λ s. Feeds s (spine children) last.state) (sym base_is) feeds) exit.0;
+        read = subst (λ r. ending reading r here.before start end (target_of children Missing))
+            (advance_role here next symbol m.1).0
+            (subst (λ t. ending reading next.role here.before start end t) target_here exit.1);
+        feeds = (next, m.1, ap Course.state (sym exit.2));
+        target_is = ap Course.target exit.2
+            ∙ ap (λ t. target_at reading found t (place start end)) target_here;
+      }
+
+  pub closed : (standing : Standing) → Enters standing → Closes standing
+  closed Through e = closed_through e
+  closed Space e = closed_space e
+  closed (Solid symbol usual reading) e = closed_solid symbol usual reading e
+  closed Mdx e = cc

@@ -1,16 +1,9 @@
 -- The least nodes that a spine still needs complete it.
 use Rattle.std.proofs.Common.{◌≡◌, ◌⊎◌, inl, inr, ℕ, zero, suc, true, [], drop, refl, sym, ap, ◌∙◌}
 use Rattle.std.proofs.Common.{subst}
-use Rattle.md_pattern.specs.declared.kinds.Role.{Role}
+use Rattle.md_tree.proofs.Common.{Role, Whole, State, Forest, flatten, spine, AreShaped}
+use Rattle.md_tree.proofs.Common.{is_complete, may_hold, Course, Runs, Anything}
 use Rattle.md_pattern.specs.declared.kinds.Role.TheVariants as role
-use Rattle.md_pattern.specs.declared.state.Stage.TheVariants.{Whole}
-use Rattle.md_pattern.specs.declared.state.State.{State}
-use Rattle.md_base.specs.Tree.{Forest, flatten}
-use Rattle.md_pattern.specs.Spine.{spine}
-use Rattle.md_pattern.specs.Shape.{AreShaped}
-use Rattle.md_pattern.specs.Steps.{is_complete, may_hold}
-use Rattle.md_tree.specs.Machine.{Course, Runs}
-use Rattle.md_tree.specs.Walk.{Anything}
 use Rattle.md_tree.proofs.NodesRead.{after_nodes}
 use Rattle.md_tree.proofs.Trees.{Runs-nodes}
 use Rattle.md_tree.proofs.ClosedNodes.{not_childless}
@@ -55,8 +48,8 @@ completion_shaped state settled = by_role (childless_or state.role)
 
 completion_fed : (state : State) → IsFed state (spine (completion state))
 completion_fed state =
-    subst (λ symbols. IsFed state symbols) (sym (nodes_spine (missing state) (completes state).1))
-    (fed state (missing state) (completes state).0)
+    subst (λ symbols. IsFed state symbols) (sym (nodes_spine _ (completes state).1))
+    (fed state _ (completes state).0)
 
 -- the same as events
 pub record Completed (from : Course) : Type 0 where

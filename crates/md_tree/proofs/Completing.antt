@@ -3,18 +3,11 @@
 -- and so outwards.
 use Rattle.std.proofs.Common.{◌≡◌, true, Option, Some, None, List, [], ◌∷◌, ◌++◌, refl, sym, ap}
 use Rattle.std.proofs.Common.{◌∙◌, subst}
-use Rattle.std.specs.List.{list_all}
-use Rattle.md_base.specs.declared.event.Event.{Event}
+use Rattle.md_tree.proofs.Common.{Event, State, Forest, flatten, exiting, spine, EachNode, IsShaped}
+use Rattle.md_tree.proofs.Common.{is_complete, Reads, Outer, Open, Course, Runs, Exits, ExitsWhere}
+use Rattle.md_tree.proofs.Common.{after_exit, after_through, beginning, Anything, opening}
 use Rattle.md_pattern.specs.declared.kinds.Role.TheVariants as role
-use Rattle.md_pattern.specs.declared.state.State.{State}
-use Rattle.md_base.specs.Tree.{Forest, flatten, exiting}
-use Rattle.md_pattern.specs.Spine.{spine}
-use Rattle.md_pattern.specs.Shape.{EachNode, IsShaped}
-use Rattle.md_pattern.specs.Steps.{items_of, is_whole, is_optional, is_complete}
-use Rattle.md_tree.specs.Machine.{Reads, Outer, Open, Course, Runs, Exits, ExitsWhere, after_exit}
-use Rattle.md_tree.specs.Machine.{after_through, beginning}
-use Rattle.md_tree.specs.Walk.{Anything}
-use Rattle.md_tree.specs.Refusal.{BeginTree, opening}
+use Rattle.md_tree.specs.Refusal.{BeginTree}
 use Rattle.md_tree.proofs.SettledPatterns.{and_left}
 use Rattle.md_tree.proofs.Spots.{Feeds}
 use Rattle.md_tree.proofs.Groups.{matches_feeds, whole_stage}
@@ -55,8 +48,7 @@ leaving open_node others from None is complete waits = record {
         (after_through others from)) (sym is) refl,
   );
   opens = refl;
-  settled = λ _. whole_stage from.state.stage (and_left (is_whole from.state.stage)
-      (list_all is_optional (items_of from.state)) complete);
+  settled = λ _. whole_stage from.state.stage (and_left _ _ complete);
 }
 leaving open_node others from (Some outer) is complete waits =
     let to = after_exit outer open_node.start somewhere others from in
@@ -88,16 +80,14 @@ closing (open_node ∷ others) from opens settled waits =
     let left = leaving open_node others last open_node.outer refl inside.complete waits.0 in
     let rest = closing others left.to left.opens left.settled waits.1 in
     record {
-      more = flatten (completion from.state) ++ exiting open_node.name somewhere ∷ rest.more;
+      more = flatten _ ++ exiting open_node.name somewhere ∷ rest.more;
       to = rest.to;
-      runs = Runs-append Anything (flatten (completion from.state))
-          (exiting open_node.name somewhere ∷ rest.more)
-          from last rest.to inside.runs (
-            left.to,
-            subst (λ os. Exits Anything os open_node.name somewhere last left.to)
-                (sym opens) left.exits,
-            rest.runs,
-          );
+      runs = Runs-append Anything _ _ from last rest.to inside.runs (
+        left.to,
+        subst (λ os. Exits Anything os open_node.name somewhere last left.to)
+            (sym opens) left.exits,
+        rest.runs,
+      );
       none_open = rest.none_open;
       complete = rest.complete;
     }
@@ -127,14 +117,13 @@ IsDone-runs holds events course runs none complete =
       fine = fine;
       shape = (
         fine_shaped holds reached.nodes role.Flow None fine,
-        matches_feeds role.Flow (spine reached.nodes) course.state feeds complete,
+        matches_feeds role.Flow _ course.state feeds complete,
       );
     }
 
 -- events that are read without an error begin a document with the shape of the grammar
 pub BeginTree-runs : (holds : Reads) (events : List Event) (course : Course) →
-    Runs holds events beginning course →
-    BeginTree events
+    Runs holds events beginning course → BeginTree events
 BeginTree-runs holds events course runs =
     let settled = settled_runs holds events beginning course ((λ _. refl), tt) runs in
     let on = closing course.open_nodes course refl settled.0 settled.1 in

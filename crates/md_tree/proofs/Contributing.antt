@@ -1,17 +1,13 @@
 -- The last contributing child that the pass finds is that of the definition.
 use Rattle.std.proofs.Common.{◌≡◌, ℕ, suc, Bool, true, false, cond, Option, Some, None, refl, ap}
 use Rattle.std.proofs.Common.{◌∙◌}
-use Rattle.std.specs.Prelude.{unwrap_or}
-use Rattle.md_base.specs.Tree.{Forest, Empty, Node}
+use Rattle.md_tree.proofs.Common.{unwrap_or, Forest, Empty, Node, or_else, index_after}
+use Rattle.md_tree.proofs.Common.{contributing_over, index_if}
 use Rattle.md_base.specs.NameTests.{contributes}
-use Rattle.md_base.specs.Children.{or_else}
-use Rattle.md_pattern.specs.Partners.{index_after, last_contributing_at}
-use Rattle.md_pattern.specs.Facts.{contributing_over}
-use Rattle.md_tree.specs.Found.{index_if}
+use Rattle.md_pattern.specs.Partners.{last_contributing_at}
 
-one_more : (later : Option ℕ) (here : Bool) (index before : ℕ) →
-    unwrap_or later (cond here index before)
-    ≡ unwrap_or (or_else later (cond here (Some index) None)) before
+one_more : (later : Option ℕ) (here : Bool) (index before : ℕ) → unwrap_or later
+    (cond here index before) ≡ unwrap_or (or_else later (cond here (Some index) None)) before
 one_more None true index before = refl
 one_more None false index before = refl
 one_more (Some last) here index before = refl
@@ -20,8 +16,8 @@ contributing-over : (forest : Forest) (index before : ℕ) →
     contributing_over index forest before ≡ unwrap_or (last_contributing_at index forest) before
 contributing-over Empty index before = refl
 contributing-over (Node name start end children rest) index before =
-    let later = suc (index_after (suc index) children) in
-    contributing-over rest later (cond (contributes name) index before)
+    let later = suc (index_after _ children) in
+    contributing-over rest later (cond _ index before)
     ∙ one_more (last_contributing_at later rest) (contributes name) index before
 
 there_with : (later : Option ℕ) (here : Bool) (index : ℕ) → index_if (unwrap_or later 0) ≡ later →
@@ -37,10 +33,9 @@ there : (forest : Forest) (index : ℕ) →
     ≡ last_contributing_at (suc index) forest
 there Empty index = refl
 there (Node name start end children rest) index =
-    there_with (last_contributing_at (suc (index_after (suc (suc index)) children)) rest)
-    (contributes name) index (there rest (index_after (suc (suc index)) children))
+    there_with (last_contributing_at _ rest) _ index (there rest _)
 
 pub contributing-found : (children : Forest) (index : ℕ) →
     index_if (contributing_over (suc index) children 0) ≡ last_contributing_at (suc index) children
 contributing-found children index =
-    ap index_if (contributing-over children (suc index) 0) ∙ there children index
+    ap index_if (contributing-over children _ 0) ∙ there children index

@@ -1,18 +1,12 @@
 -- The indices of the definitions are those of events that enter one.
 use Rattle.std.proofs.Common.{◌≡◌, ℕ, suc, cond, Some, List, [], ◌∷◌, ◌++◌, length, refl, sym, ap}
 use Rattle.std.proofs.Common.{◌∙◌, append-nil}
-use Rattle.std.specs.Prelude.{slice_get}
-use Rattle.std.specs.List.{All}
-use Rattle.std.proofs.lemmas.List.Elements.{All-cons, All-append, All-nil}
-use Rattle.md_base.specs.declared.event.Point.{Point}
-use Rattle.md_base.specs.declared.event.Event.{Event}
-use Rattle.md_base.specs.declared.event.Name.{Name}
+use Rattle.md_tree.proofs.Common.{slice_get, All, All-cons, All-append, All-nil, Point, Event, Name}
+use Rattle.md_tree.proofs.Common.{Forest, Empty, Node, flatten, entering, exiting, index_after}
+use Rattle.md_tree.proofs.Common.{EntersAt, length_one}
 use Rattle.md_base.specs.declared.event.Name.TheVariants.{Definition}
-use Rattle.md_base.specs.Tree.{Forest, Empty, Node, flatten, entering, exiting}
 use Rattle.md_base.specs.NameTests.{is_link_definition}
-use Rattle.md_pattern.specs.Partners.{index_after, definition_entries}
-use Rattle.md_tree.specs.Texts.{EntersAt}
-use Rattle.md_pattern.proofs.CountedFacts.{length_one}
+use Rattle.md_pattern.specs.Partners.{definition_entries}
 use Rattle.md_tree.proofs.Entering.{get_at}
 use Rattle.md_tree.proofs.Placing.{at_entry, in_node, after_node, length_events}
 
@@ -48,14 +42,12 @@ all_definitions events (Node name start end children rest) index seen later e sa
     (own ++ definition_entries (suc exit) rest)
     (all_definitions events children (suc index) (seen ++ first ∷ []) (last
     ∷ (flatten rest ++ later)) one (in_node events seen inner (flatten rest) later first last same))
-    (All-append holds own (definition_entries (suc exit) rest)
-    (own_definition events index name start there)
-    (all_definitions events rest (suc exit) (((seen ++ first ∷ []) ++ inner) ++ last
-    ∷ []) later (length_one ((seen ++ first ∷ []) ++ inner) last
-    ∙ ap suc inside) (after_node events seen inner (flatten rest) later first last same)))
+    (All-append holds own (definition_entries _ rest) (own_definition events index name start there)
+    (all_definitions events rest (suc exit) _ later (length_one _ last
+    ∙ ap suc inside) (after_node events seen inner _ later first last same)))
 
 -- those of a document
 pub definitions-entered : (events : List Event) (forest : Forest) → flatten forest ≡ events →
     All (λ i. EntersAt events i Definition) (definition_entries 0 forest)
 definitions-entered events forest flattened =
-    all_definitions events forest 0 [] [] refl (sym flattened ∙ sym (append-nil (flatten forest)))
+    all_definitions events forest 0 [] [] refl (sym flattened ∙ sym (append-nil _))

@@ -1,42 +1,24 @@
 -- What follows of a list of events from a node that breaks a rule, and from how a walk ends:
 -- something is left open, or a whole document was read. `Checking` needs it for what `check` says.
-use Rattle.std.proofs.Common.{◌≡◌, ◌≢◌, ◌⊎◌, inl, inr, ℕ, zero, suc, Bool, true, false, Option}
-use Rattle.std.proofs.Common.{Some, None, List, [], ◌∷◌, ◌++◌, drop, refl, sym, ap, ◌∙◌, subst}
-use Rattle.std.proofs.Common.{append_assoc}
-use Rattle.std.specs.List.{list_all}
-use Rattle.md_base.specs.declared.event.Point.{Point}
-use Rattle.md_base.specs.declared.event.Name.{Name}
-use Rattle.md_base.specs.declared.event.Event.{Event}
-use Rattle.md_pattern.specs.declared.kinds.Role.TheVariants.{Flow, Childless}
-use Rattle.md_pattern.specs.declared.kinds.Reading.TheVariants.{Free}
-use Rattle.md_pattern.specs.declared.kinds.Standing.{Standing}
-use Rattle.md_pattern.specs.declared.kinds.Standing.TheVariants.{Through, Space, Solid, Mdx}
-use Rattle.md_tree.specs.declared.mention.Referral.{Referral}
-use Rattle.md_tree.specs.declared.mention.Referral.TheVariants.{Missing}
-use Rattle.md_tree.specs.declared.mention.Mentioned.{Mentioned}
-use Rattle.md_tree.specs.declared.rule.Rule.{Rule}
-use Rattle.md_pattern.specs.declared.state.State.{State}
-use Rattle.md_tree.specs.Machine.{Open}
-use Rattle.md_tree.specs.Machine.{Outer}
-use Rattle.md_base.specs.Tree.{Forest, Empty, Node, flatten, entering, exiting}
-use Rattle.md_pattern.specs.Standing.{standing_of}
-use Rattle.md_pattern.specs.Spine.{spine}
-use Rattle.md_pattern.specs.Pattern.{pattern_of}
-use Rattle.md_pattern.specs.Shape.{IsShaped, AreShaped, inner_role, inner_before}
-use Rattle.md_tree.specs.Rules.{broken_rule, reading_of, MeetRules, target_of}
-use Rattle.md_tree.specs.Grammar.{Handed, IsGrammatical, IsReadAs, IsChecked}
-use Rattle.md_tree.specs.Refusal.{Level, opening, role_in, before_in, symbol_after, Begins}
-use Rattle.md_tree.specs.Refusal.{EndsInGroup, LeaveOpen, EndsBroken}
-use Rattle.md_pattern.specs.Steps.{is_complete, is_whole, is_optional, items_of, start_of}
-use Rattle.md_tree.specs.Machine.{Reads, Course, Runs, Exits, ExitsWhere, after_exit, entered_on}
-use Rattle.md_tree.specs.Machine.{beginning}
-use Rattle.md_tree.specs.Walk.{Unbroken, Broken, BreaksWhere, BreaksAtExit}
-use Rattle.md_tree.specs.Mentions.{mentions_of}
+use Rattle.std.proofs.Common.{true≢false, ◌≡◌, ◌≢◌, ◌⊎◌, inl, inr, ℕ, zero, suc, Bool, true, false}
+use Rattle.std.proofs.Common.{Option, Some, None, List, [], ◌∷◌, ◌++◌, drop, refl, sym, ap, ◌∙◌}
+use Rattle.std.proofs.Common.{subst, append_assoc}
+use Rattle.md_tree.proofs.Common.{none-some, list_all, Point, Name, Event, Flow, Free, Standing}
+use Rattle.md_tree.proofs.Common.{Through, Space, Solid, Mdx, Referral, Missing, Mentioned, Rule}
+use Rattle.md_tree.proofs.Common.{State, Open, Outer, Forest, Empty, Node, flatten, exiting}
+use Rattle.md_tree.proofs.Common.{standing_of, spine, pattern_of, IsShaped, AreShaped, inner_role}
+use Rattle.md_tree.proofs.Common.{inner_before, broken_rule, reading_of, MeetRules, target_of}
+use Rattle.md_tree.proofs.Common.{Handed, IsGrammatical, IsReadAs, IsChecked, Level, role_in}
+use Rattle.md_tree.proofs.Common.{symbol_after, EndsInGroup, EndsBroken, is_complete, is_whole}
+use Rattle.md_tree.proofs.Common.{is_optional, items_of, start_of, Reads, Course, Runs, Exits}
+use Rattle.md_tree.proofs.Common.{ExitsWhere, after_exit, entered_on, beginning, Unbroken}
+use Rattle.md_tree.proofs.Common.{BreaksWhere, BreaksAtExit, mentions_of}
+use Rattle.md_tree.specs.Refusal.{Begins, LeaveOpen}
+use Rattle.md_tree.specs.Walk.{Broken}
 use Rattle.md_tree.proofs.Listing.{listed, mentions_over-listed}
 use Rattle.md_tree.proofs.SettledPatterns.{and_both}
 use Rattle.md_tree.proofs.Spots.{Feeds}
 use Rattle.md_tree.proofs.HeldGroups.{EndsInGroup-feeds}
-use Rattle.md_tree.proofs.NodesRead.{after_nodes}
 use Rattle.md_tree.proofs.Trees.{Feeds-context}
 use Rattle.md_tree.proofs.Completing.{IsDone-runs, BeginTree-runs}
 use Rattle.md_tree.proofs.OpenPaths.{path_none, Stands, Stands-context, Reached}
@@ -47,132 +29,117 @@ use Rattle.md_tree.proofs.Verdicts.{Runs-same, Runs-checked, Reached-runs}
 
 -- ---- a node that breaks a rule
 
-exits_broken_where :
-    (bytes : List ℕ) (names : List (List ℕ × List ℕ)) (broken : Rule) (outer : Option Outer)
-    (start point : Point) (others : List Open) (course : Course) →
-    BreaksWhere bytes names broken outer start point course →
-    (next : Course) × ExitsWhere (Broken bytes names broken) outer start point others course next
-exits_broken_where bytes names broken None start point others course breaks = absurd breaks
-exits_broken_where bytes names broken (Some outer) start point others course breaks =
-    (after_exit outer start point others course, (breaks.0, breaks.1, refl))
+module _ (bytes : List ℕ) (names : List (List ℕ × List ℕ)) (broken : Rule) where
+  exits_broken_where : (outer : Option Outer) (start point : Point) (others : List Open)
+      (course : Course) → BreaksWhere bytes names broken outer start point course →
+      (next : Course) × ExitsWhere (Broken bytes names broken) outer start point others course next
+  exits_broken_where None start point others course breaks = absurd breaks
+  exits_broken_where (Some outer) start point others course breaks =
+      (after_exit outer start point others course, (breaks.0, breaks.1, refl))
 
-exits_broken : (bytes : List ℕ) (names : List (List ℕ × List ℕ)) (broken : Rule)
-    (opens : List Open) (name : Name)
-    (point : Point) (course : Course) → BreaksAtExit bytes names broken opens name point course →
-    (next : Course) × Exits (Broken bytes names broken) opens name point course next
-exits_broken bytes names broken [] name point course breaks = absurd breaks
-exits_broken bytes names broken (open_node ∷ others) name point course breaks =
-    let inside = exits_broken_where bytes names broken open_node.outer open_node.start point
-    others course breaks.1 in
-    (inside.0, (breaks.0, inside.1))
+  exits_broken : (opens : List Open) (name : Name)
+      (point : Point) (course : Course) → BreaksAtExit bytes names broken opens name point course →
+      (next : Course) × Exits (Broken bytes names broken) opens name point course next
+  exits_broken [] name point course breaks = absurd breaks
+  exits_broken (open_node ∷ others) name point course breaks =
+      let inside = exits_broken_where open_node.outer open_node.start point
+      others course breaks.1 in
+      (inside.0, (breaks.0, inside.1))
 
-none_some : {A : Type 0} (x : A) → None ≡ Some x → ⊥
-none_some x e = cc
+  broken_there : (standing : Standing) (name : Name) (start end : Point) (children : Forest)
+      (here after base : State) (found inner target : Referral)
+      (waiting : Option Outer) (course : Course) → entered_on standing here found
+      ≡ Some (record { state = base; target = inner; outer = waiting }) →
+      BreaksWhere bytes names broken waiting start end course →
+      Closed (Broken bytes names broken) standing name start end children here after found target →
+      broken_rule bytes names (reading_of standing) here.role here.before start end
+      (target_of children Missing) ≡ Some broken
+  broken_there Through name start end children here after base found inner target
+      waiting course e breaks closed =
+      let parts = entry_is (record { state = here; target = found; outer = None }) (record {
+        state = base;
+        target = inner;
+        outer = waiting;
+      }) e in
+      absurd (subst (λ o. BreaksWhere bytes names broken o start end course) (sym parts.2) breaks)
+  broken_there Space name start end children here after base found inner target waiting course e
+      breaks closed =
+      let free : Outer =
+      record { state = here; before = here.before; target = found; reading = Free } in
+      let parts =
+      entry_is _ _ e in
+      absurd (none-some broken
+      (subst (λ o. BreaksWhere bytes names broken o start end course) (sym parts.2) breaks).1)
+  broken_there (Solid symbol usual reading) name start end children here after base found inner
+      target waiting course e breaks closed =
+      closed.read
+  broken_there Mdx name start end children here after base found inner target
+      waiting course e breaks closed = cc
 
-broken_there : (bytes : List ℕ) (names : List (List ℕ × List ℕ)) (broken : Rule)
-    (standing : Standing) (name : Name) (start end : Point) (children : Forest)
-    (here after base : State) (found inner target : Referral)
-    (waiting : Option Outer) (course : Course) → entered_on standing here found
-    ≡ Some (record { state = base; target = inner; outer = waiting }) →
-    BreaksWhere bytes names broken waiting start end course →
-    Closed (Broken bytes names broken) standing name start end children here after found target →
-    broken_rule bytes names (reading_of standing) here.role here.before start end
-    (target_of children Missing) ≡ Some broken
-broken_there bytes names broken Through name start end children here after base found inner target
-    waiting course e breaks closed =
-    let parts = entry_is (record { state = here; target = found; outer = None }) (record {
-      state = base;
-      target = inner;
-      outer = waiting;
-    }) e in
-    absurd (subst (λ o. BreaksWhere bytes names broken o start end course) (sym parts.2) breaks)
-broken_there bytes names broken Space name start end children here after base found inner
-    target waiting course e
-    breaks closed =
-    let free : Outer =
-    record { state = here; before = here.before; target = found; reading = Free } in
-    let parts =
-    entry_is (record { state = start_of Childless; target = Missing; outer = Some free })
-    (record { state = base; target = inner; outer = waiting }) e in
-    absurd (none_some broken
-    (subst (λ o. BreaksWhere bytes names broken o start end course) (sym parts.2) breaks).1)
-broken_there bytes names broken (Solid symbol usual reading) name start end children here
-    after base found inner
-    target waiting course e breaks closed =
-    closed.read
-broken_there bytes names broken Mdx name start end children here after base found inner target
-    waiting course e breaks closed = cc
+  events_ended : (a c : List Event) (x y : Event) →
+      (((a ++ x ∷ []) ++ c) ++ y ∷ []) ≡ a ++ (x ∷ c ++ y ∷ [])
+  events_ended a c x y = append_assoc _ c (y ∷ []) ∙ append_assoc a (x ∷ []) _
 
-events_ended : (a c : List Event) (x y : Event) →
-    (((a ++ x ∷ []) ++ c) ++ y ∷ []) ≡ a ++ (x ∷ c ++ y ∷ [])
-events_ended a c x y = append_assoc (a ++ x ∷ []) c (y ∷ []) ∙ append_assoc a (x ∷ []) (c ++ y ∷ [])
+  breaks_left : (seen : List Event) (name : Name) (point : Point) (course next : Course) →
+      (left : Left (Unbroken bytes names) (Broken bytes names broken) seen name point course next) →
+      BreaksAtExit bytes names broken course.open_nodes name point course →
+      BreaksWhere bytes names broken left.open_node.outer left.open_node.start point course
+  breaks_left seen name point course next left breaks =
+      (subst (λ os. BreaksAtExit bytes names broken os name point course) left.opens_are breaks).1
 
-breaks_left : (bytes : List ℕ) (names : List (List ℕ × List ℕ)) (broken : Rule) (seen : List Event)
-    (name : Name) (point : Point) (course next : Course) → (left : Left (Unbroken bytes names)
-    (Broken bytes names broken) seen name point course next) →
-    BreaksAtExit bytes names broken course.open_nodes name point course →
-    BreaksWhere bytes names broken left.open_node.outer left.open_node.start point course
-breaks_left bytes names broken seen name point course next left breaks =
-    (subst (λ os. BreaksAtExit bytes names broken os name point course) left.opens_are breaks).1
-
--- the node that ends breaks the rule
-pub EndsBroken-exit :
-    (bytes : List ℕ) (names : List (List ℕ × List ℕ)) (broken : Rule) (seen : List Event)
-    (name : Name) (point : Point) (course : Course) → Reached (Unbroken bytes names) seen course →
-    BreaksAtExit bytes names broken course.open_nodes name point course →
-    EndsBroken bytes names (seen ++ exiting name point ∷ []) broken
-EndsBroken-exit bytes names broken seen name point course reached breaks =
-    let holds = Unbroken bytes names in
-    let ending = Broken bytes names broken in
-    let exits = exits_broken bytes names broken course.open_nodes name point course breaks in
-    let next = exits.0 in
-    let left = Reached-left holds ending seen name point course next reached exits.1 in
-    let level = left.level in
-    let closed = Left-closed holds ending seen name point course next left in
-    let outer = Stands-context left.path left.others left.around left.found left.stands in
-    let context = Feeds-context left.around left.here (spine level.before) left.feeds in
-    let role_here = context.0 ∙ outer.0 in
-    let before_here = context.1 ∙ ap (λ b. symbol_after b level.before) outer.1 in
-    let node = Node level.name level.start point left.nodes Empty in
-    let inner = fine_shaped holds left.nodes
-    (inner_role (standing_of level.name) left.here.role left.here.before)
-    (inner_before (standing_of level.name) left.here.before)
-    (Left-inner holds ending seen name point course next left) in
-    let shaped_here : AreShaped node left.here.role left.here.before =
-    ((closed.apart, closed.shaped), inner, tt) in
-    let breaks_here = broken_there bytes names broken (standing_of level.name) level.name
-    level.start point left.nodes left.here next.state left.base (target_of level.before left.found)
-    left.inner next.target left.open_node.outer course left.entered_is
-    (subst (λ s. BreaksWhere bytes names broken left.open_node.outer s point course) left.start_is
-    (breaks_left bytes names broken seen name point course next left breaks)) closed in
-    record {
-      path = left.path;
-      nodes = level.before;
-      name = level.name;
-      start = level.start;
-      end = point;
-      children = left.nodes;
-      events_are = ap (λ n. seen ++ exiting n point ∷ []) (sym left.name_is)
-          ∙ ap (λ es. es ++ exiting level.name point ∷ []) left.events_are
-          ∙ events_ended (opening left.path ++ flatten level.before) (flatten left.nodes)
-          (entering level.name level.start) (exiting level.name point);
-      path_shaped = (fine_path_shaped holds (level ∷ left.path) left.path_fine).1;
-      nodes_shaped =
-          fine_shaped holds level.before (role_in left.path) (before_in left.path) left.path_fine.0;
-      shaped = subst (λ b. AreShaped node (role_in left.path) b) before_here
-          (subst (λ r. AreShaped node r left.here.before) role_here shaped_here);
-      breaks = subst (λ b. broken_rule bytes names (reading_of (standing_of level.name))
-          (role_in left.path) b level.start point (target_of left.nodes Missing)
-          ≡ Some broken) before_here (subst (λ r. broken_rule bytes names
-          (reading_of (standing_of level.name)) r left.here.before level.start point
-          (target_of left.nodes Missing) ≡ Some broken) role_here breaks_here);
-    }
+  -- the node that ends breaks the rule
+  pub EndsBroken-exit : (seen : List Event)
+      (name : Name) (point : Point) (course : Course) → Reached (Unbroken bytes names) seen course →
+      BreaksAtExit bytes names broken course.open_nodes name point course →
+      EndsBroken bytes names (seen ++ exiting name point ∷ []) broken
+  EndsBroken-exit seen name point course reached breaks =
+      let holds = Unbroken bytes names in
+      let ending = Broken bytes names broken in
+      let exits = exits_broken course.open_nodes name point course breaks in
+      let next = exits.0 in
+      let left = Reached-left holds ending seen name point course next reached exits.1 in
+      let level = left.level in
+      let closed = Left-closed holds ending seen name point course next left in
+      let outer = Stands-context left.path left.others left.around left.found left.stands in
+      let context = Feeds-context left.around left.here (spine level.before) left.feeds in
+      let role_here = context.0 ∙ outer.0 in
+      let before_here = context.1 ∙ ap (λ b. symbol_after b level.before) outer.1 in
+      let node = Node level.name level.start point left.nodes Empty in
+      let inner = fine_shaped holds left.nodes (inner_role _ left.here.role left.here.before)
+      (inner_before _ left.here.before)
+      (Left-inner holds ending seen name point course next left) in
+      let shaped_here : AreShaped node left.here.role left.here.before =
+      ((closed.apart, closed.shaped), inner, tt) in
+      let breaks_here = broken_there (standing_of level.name) level.name level.start point
+      left.nodes left.here next.state left.base (target_of level.before left.found) left.inner
+      next.target left.open_node.outer course left.entered_is (subst
+      (λ s. BreaksWhere bytes names broken left.open_node.outer s point course) left.start_is
+      (breaks_left seen name point course next left breaks)) closed in
+      record {
+        path = left.path;
+        nodes = level.before;
+        name = level.name;
+        start = level.start;
+        end = point;
+        children = left.nodes;
+        events_are = ap (λ n. seen ++ exiting n point ∷ []) (sym left.name_is)
+            ∙ ap (λ es. es ++ exiting level.name point ∷ []) left.events_are ∙ events_ended _ _ _ _;
+        path_shaped = (fine_path_shaped holds (level ∷ left.path) left.path_fine).1;
+        nodes_shaped =
+            fine_shaped holds level.before _ _ left.path_fine.0;
+        shaped = subst (λ b. AreShaped node (role_in left.path) b) before_here
+            (subst (λ r. AreShaped node r left.here.before) role_here shaped_here);
+        breaks = subst (λ b. broken_rule bytes names (reading_of (standing_of level.name))
+            (role_in left.path) b level.start point (target_of left.nodes Missing)
+            ≡ Some broken) before_here (subst (λ r. broken_rule bytes names
+            (reading_of (standing_of level.name)) r left.here.before level.start point
+            (target_of left.nodes Missing) ≡ Some broken) role_here breaks_here);
+      }
 
 -- ---- the end
 
 begins : (holds : Reads) (events : List Event) (course : Course) →
-    (reached : Reached holds events course) →
-    Begins events reached.path reached.nodes
+    (reached : Reached holds events course) → Begins events reached.path reached.nodes
 begins holds events course reached =
     let outer =
     Stands-context reached.path course.open_nodes reached.base reached.found reached.stands in
@@ -185,8 +152,7 @@ begins holds events course reached =
     }
 
 path_some : (path : List Level) (open_node : Open) (others : List Open) (state : State)
-    (target : Referral) →
-    Stands path (open_node ∷ others) state target → path ≢ []
+    (target : Referral) → Stands path (open_node ∷ others) state target → path ≢ []
 path_some [] open_node others state target stands = absurd stands
 path_some (level ∷ path) open_node others state target stands = λ e. cc
 
@@ -201,7 +167,7 @@ not_whole state flow incomplete true e =
     let out : list_all is_optional (items_of state) ≡ true =
     subst (λ r. list_all is_optional (drop state.position (pattern_of r))
     ≡ true) (sym flow) (flow_optional state.position) in
-    let complete = and_both (is_whole state.stage) (list_all is_optional (items_of state)) e out in
+    let complete = and_both _ _ e out in
     let clash : true ≡ false = sym complete ∙ incomplete in clash
 not_whole state flow incomplete false e = refl
 
@@ -211,24 +177,21 @@ IsLeftOpen events = (path : List Level) × (nodes : Forest) × Begins events pat
     × ((path ≢ []) ⊎ ((path ≡ []) × EndsInGroup (spine nodes)))
 
 leaves_group : (holds : Reads) (events : List Event) (course : Course) →
-    (reached : Reached holds events course) →
-    (reached.path ≡ []) → reached.base ≡ start_of Flow →
+    (reached : Reached holds events course) → (reached.path ≡ []) → reached.base ≡ start_of Flow →
     is_complete course.state ≡ false → IsLeftOpen events
 leaves_group holds events course reached none base incomplete =
     let feeds = subst (λ s. Feeds s (spine reached.nodes) course.state) base reached.feeds in
-    let flow = (Feeds-context (start_of Flow) course.state (spine reached.nodes) feeds).0 in
-    let open_group = not_whole course.state flow incomplete (is_whole course.state.stage) refl in (
+    let flow = (Feeds-context _ course.state _ feeds).0 in
+    let open_group = not_whole course.state flow incomplete _ refl in (
       reached.path,
       reached.nodes,
       begins holds events course reached,
-      inr (none, EndsInGroup-feeds Flow (spine reached.nodes) course.state feeds open_group),
+      inr (none, EndsInGroup-feeds Flow _ course.state feeds open_group),
     )
 
 leave_open : (holds : Reads) (events : List Event) (course : Course) (opens : List Open) →
-    course.open_nodes ≡ opens →
-    (reached : Reached holds events course) →
-    (course.open_nodes ≡ [] → is_complete course.state ≡ false) →
-    IsLeftOpen events
+    course.open_nodes ≡ opens → (reached : Reached holds events course) →
+    (course.open_nodes ≡ [] → is_complete course.state ≡ false) → IsLeftOpen events
 leave_open holds events course [] e reached undone =
     let none = path_none reached.path reached.base reached.found
     (subst (λ os. Stands reached.path os reached.base reached.found) e reached.stands) in
@@ -250,9 +213,6 @@ LeaveOpen-undone holds events course runs undone = (
       (Reached-runs holds events course runs) undone,
 )
 
-true_false : (b : Bool) → b ≡ true → b ≡ false → ⊥
-true_false b e f = cc
-
 -- and no document of the grammar is read so
 pub outside-undone : (given : Handed) (course : Course) →
     Runs (Unbroken given.bytes given.names) given.events beginning course →
@@ -262,10 +222,9 @@ outside-undone given course runs undone checked =
     let document = Runs-checked given checked.0 (IsReadAs.flattened checked.1)
     (IsGrammatical.shape (IsReadAs.grammatical checked.1))
     (IsGrammatical.rules (IsReadAs.grammatical checked.1)) in
-    let same = Runs-same holds holds given.events beginning course
-    (after_nodes checked.0 document.0 beginning) runs document.1 in
-    true_false (is_complete course.state) (ap (λ (c : Course). is_complete c.state) same
-    ∙ document.2) (undone (ap (λ (c : Course). c.open_nodes) same))
+    let same = Runs-same holds holds given.events beginning course _ runs document.1 in
+    true≢false (sym (ap (λ (c : Course). is_complete c.state) same ∙ document.2)
+    ∙ undone (ap (λ (c : Course). c.open_nodes) same))
 
 -- all has ended: the document that was read
 pub record IsWalked (given : Handed) (mentions : List Mentioned) : Type 0 where
@@ -283,8 +242,7 @@ IsWalked-done given course runs none complete =
     let done = IsDone-runs holds given.events course runs none complete in
     let rules = fine_meets given.bytes given.names done.forest Flow None done.fine in
     let document = Runs-checked given done.forest done.flattened done.shape rules in
-    let same = Runs-same holds holds given.events beginning course
-    (after_nodes done.forest document.0 beginning) runs document.1 in
+    let same = Runs-same holds holds given.events beginning course _ runs document.1 in
     record {
       forest = done.forest;
       flattened = done.flattened;

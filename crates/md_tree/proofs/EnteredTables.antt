@@ -1,29 +1,13 @@
 -- The tables of a document of the grammar have a table's shape.
-use Rattle.std.proofs.Common.{◌≡◌, ℕ, suc, Option, Some, None, ◌∷◌, ◌++◌, sym, ap, ◌∙◌, subst}
-use Rattle.std.specs.Prelude.{slice_get}
-use Rattle.std.specs.List.{All}
-use Rattle.std.proofs.lemmas.List.Elements.{All-cons, All-append, All-nil}
-use Rattle.md_base.specs.declared.event.Event.{Event}
-use Rattle.md_base.specs.declared.event.Name.{Name}
-use Rattle.md_base.specs.declared.event.Name.TheVariants.{GfmTable}
-use Rattle.md_pattern.specs.declared.kinds.Symbol.{Symbol}
-use Rattle.md_pattern.specs.declared.kinds.Role.{Role}
+use Rattle.std.proofs.Common.{◌≡◌, ℕ, Option, Some, None, sym, ap, ◌∙◌, subst}
+use Rattle.md_tree.proofs.Common.{slice_get, All, Event, Name, GfmTable, Symbol, Role, Forest}
+use Rattle.md_tree.proofs.Common.{standing_of, EachNode, IsShapedNode, IsStanding, AreShaped}
+use Rattle.md_tree.proofs.Common.{inner_role, inner_before, Handed, IsChecked, IsReadAs}
+use Rattle.md_tree.proofs.Common.{IsGrammatical, EntersAt, children_of, IsEnteredAt, IsTable}
 use Rattle.md_pattern.specs.declared.kinds.Role.TheVariants as role
-use Rattle.md_base.specs.Tree.{Forest, Empty, Node, entering}
-use Rattle.md_pattern.specs.Standing.{standing_of}
-use Rattle.md_pattern.specs.Spine.{spine, shown}
-use Rattle.md_pattern.specs.Shape.{EachNode, IsShapedNode, IsStanding, AreShaped, inner_role}
-use Rattle.md_pattern.specs.Shape.{inner_before, last_symbol}
-use Rattle.md_tree.specs.Grammar.{Handed, IsChecked, IsReadAs, IsGrammatical}
-use Rattle.md_tree.specs.Texts.{EntersAt}
-use Rattle.md_tree.specs.Entered.{children_of, IsEnteredAt}
-use Rattle.md_tree.specs.Tables.{IsTable}
 use Rattle.md_tree.proofs.OneTree.{flatten_one}
-use Rattle.md_pattern.specs.Partners.{index_after}
-use Rattle.md_pattern.specs.Facts.{tables_with, tables_after}
-use Rattle.md_tree.proofs.EventRows.{Row, entry_row, exit_row, rows_of}
-use Rattle.md_tree.proofs.Entering.{past_row, inside_rows}
-use Rattle.md_tree.proofs.Entering.{event_there, children_there}
+use Rattle.md_tree.proofs.EventRows.{rows_all, Row, rows_of}
+use Rattle.md_tree.proofs.Entering.{past_row, inside_rows, event_there, children_there}
 
 -- a table has its shape
 abbrev IsTableRow : Row → Type 0
@@ -31,11 +15,9 @@ IsTableRow row = row.event.name ≡ GfmTable → (children : Forest) →
     row.children ≡ Some children → IsTable children
 
 entry_shape : (name : Name) (children : Forest) (around : Role) (before : Option Symbol) →
-    IsStanding (standing_of name) around before children →
-    EachNode IsShapedNode children (inner_role (standing_of name) around before)
-    (inner_before (standing_of name) before) → name ≡ GfmTable → (other : Forest) →
-    Some children ≡ Some other →
-    IsTable other
+    IsStanding (standing_of name) around before children → EachNode IsShapedNode children
+    (inner_role (standing_of name) around before) (inner_before (standing_of name) before) →
+    name ≡ GfmTable → (other : Forest) → Some children ≡ Some other → IsTable other
 entry_shape name children around before stands shaped is other e =
     let one : children ≡ other = cc in
     let table : IsTable children = (
@@ -48,22 +30,15 @@ entry_shape name children around before stands shaped is other e =
 
 rows_shaped : (forest : Forest) (index tables : ℕ) (around : Role) (before : Option Symbol) →
     AreShaped forest around before → All IsTableRow (rows_of index tables forest)
-rows_shaped Empty index tables around before shaped = All-nil IsTableRow
-rows_shaped (Node name start end children rest) index tables around before shaped =
-    let st = standing_of name in
-    let exit_index = index_after (suc index) children in
-    let more = tables_with name (tables_after tables children) in
-    let entry : Row = entry_row index tables name (entering name start) children in
-    let exit : Row = exit_row exit_index index name start end in
-    let exit_table : IsTableRow exit = λ is other e. cc in
-    All-cons IsTableRow entry (rows_of (suc index) tables children ++ exit
-    ∷ rows_of (suc exit_index) more rest)
-    (entry_shape name children around before shaped.0.1 shaped.1)
-    (All-append IsTableRow (rows_of (suc index) tables children) (exit
-    ∷ rows_of (suc exit_index) more rest) (rows_shaped children (suc index) tables
-    (inner_role st around before) (inner_before st before) shaped.1)
-    (All-cons IsTableRow exit (rows_of (suc exit_index) more rest) exit_table (rows_shaped rest
-    (suc exit_index) more around (last_symbol before (shown st (spine children))) shaped.2)))
+rows_shaped forest index tables around before shaped =
+    rows_all IsTableRow
+    (λ index tables nodes. (r : Role) × (b : Option Symbol) × AreShaped nodes r b)
+    (λ index tables name start end children rest holds. (
+      entry_shape name children holds.0 holds.1 holds.2.0.1 holds.2.1,
+      λ is other e. cc,
+      (_, _, holds.2.1),
+      (holds.0, _, holds.2.2),
+    )) forest index tables (around, before, shaped)
 
 -- where a document of the grammar enters a table, its children have a table's shape
 pub IsTable-entered : (given : Handed) (index : ℕ) → IsChecked given →

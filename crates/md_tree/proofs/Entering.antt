@@ -1,34 +1,22 @@
 -- What stands at an index of a document's events is what the tree says of the node that is entered
 -- there.
-use Rattle.std.proofs.Common.{◌≡◌, ◌⊎◌, inl, inr, ℕ, suc, ◌+◌, ◌<◌, ◌≤◌, true, cond, Some, None}
-use Rattle.std.proofs.Common.{List, [], ◌∷◌, ◌++◌, length, get_or, refl, sym, ap, ◌∙◌, subst}
-use Rattle.std.proofs.Common.{append_assoc, append-nil, arith}
-use Rattle.std.specs.Prelude.{map, option_map, slice_get}
-use Rattle.std.specs.List.{All}
-use Rattle.std.proofs.lemmas.List.{get_or-map, map-append, length-map}
-use Rattle.std.proofs.lemmas.List.Elements.{All-cons, All-append, All-nil}
-use Rattle.std.proofs.lemmas.Option.{slice_get_cases, slice_get-get_or, slice_get-map}
-use Rattle.std.proofs.lemmas.Option.{get_or_from_slice_get}
-use Rattle.md_base.specs.declared.event.AlignKind.{AlignKind}
-use Rattle.md_base.specs.declared.event.Point.{Point}
-use Rattle.md_base.specs.declared.event.Name.{Name}
-use Rattle.md_base.specs.declared.event.Kind.TheVariants.{Enter}
-use Rattle.md_base.specs.declared.event.Event.{Event}
-use Rattle.md_pattern.specs.declared.facts.Fact.{Fact}
-use Rattle.md_base.specs.Tree.{Forest, Empty, Node, flatten, entering}
-use Rattle.md_base.specs.NameTests.{is_table}
-use Rattle.md_pattern.specs.Alignments.{alignments}
-use Rattle.md_tree.specs.Grammar.{Handed}
-use Rattle.md_tree.specs.Texts.{EntersAt}
-use Rattle.md_tree.specs.Entered.{children_of, IsEnteredAt, EntersNode}
-use Rattle.md_pattern.specs.Partners.{index_after, partners_of}
+use Rattle.std.proofs.Common.{◌≡◌, ℕ, suc, ◌+◌, ◌<◌, true, cond, Some, None, List, [], ◌∷◌, ◌++◌}
+use Rattle.std.proofs.Common.{length, get_or, refl, sym, ap, ◌∙◌, subst, append_assoc, append-nil}
+use Rattle.std.proofs.Common.{arith}
+use Rattle.md_tree.proofs.Common.{slice_get_within, map, option_map, slice_get, All, get_or-map}
+use Rattle.md_tree.proofs.Common.{map-append, length-map, All-cons, All-append, All-nil}
+use Rattle.md_tree.proofs.Common.{slice_get-get_or, slice_get-map, get_or_from_slice_get, AlignKind}
+use Rattle.md_tree.proofs.Common.{Point, Name, Enter, Event, Fact, Forest, Empty, Node, flatten}
+use Rattle.md_tree.proofs.Common.{entering, is_table, alignments, Handed, EntersAt, children_of}
+use Rattle.md_tree.proofs.Common.{IsEnteredAt, EntersNode, index_after, partner_alone, tables_with}
+use Rattle.md_tree.proofs.Common.{tables_after, fact_at, facts_of, facts_at, tables_at}
+use Rattle.md_tree.proofs.Common.{facts-flatten}
+use Rattle.md_pattern.specs.Partners.{partners_of}
 use Rattle.md_pattern.specs.Columns.{tables_of}
-use Rattle.md_pattern.specs.Facts.{partner_alone, tables_with, tables_after, fact_at, facts_of}
-use Rattle.md_pattern.specs.Facts.{facts_at, tables_at}
 use Rattle.md_pattern.proofs.CountedFacts.{length_table, length_tables}
-use Rattle.md_pattern.proofs.Passing.{facts-flatten, tables-flatten}
-use Rattle.md_tree.proofs.EventRows.{Row, entry_row, exit_row, rows_of, event_rows, children_rows}
-use Rattle.md_tree.proofs.EventRows.{fact_rows, numbered_rows, numbered_get}
+use Rattle.md_pattern.proofs.Passing.{tables-flatten}
+use Rattle.md_tree.proofs.EventRows.{rows_all, Row, entry_row, exit_row, rows_of, event_rows}
+use Rattle.md_tree.proofs.EventRows.{children_rows, fact_rows, numbered_rows, numbered_get}
 
 -- what is found at an entry, with the alignments of the tables
 abbrev pub IsFound : List (List AlignKind) → Row → Type 0
@@ -42,7 +30,7 @@ pub get_at : {A : Type 0} (xs ys : List A) (y : A) (n : ℕ) → length xs ≡ n
     slice_get (xs ++ y ∷ ys) n ≡ Some y
 get_at [] ys y n e = subst (λ i. slice_get (y ∷ ys) i ≡ Some y) e refl
 get_at (x ∷ xs) ys y n e =
-    subst (λ i. slice_get (x ∷ (xs ++ y ∷ ys)) i ≡ Some y) e (get_at xs ys y (length xs) refl)
+    subst (λ i. slice_get (x ∷ (xs ++ y ∷ ys)) i ≡ Some y) e (get_at xs ys y _ refl)
 
 table_there : (name : Name) (before later : List (List AlignKind)) (own : List AlignKind) (n : ℕ) →
     length before ≡ n → is_table name ≡ true →
@@ -52,19 +40,14 @@ table_there name before later own n e is =
     ∙ get_at before later own n e
 
 entry_found : (ended : List (List AlignKind)) (index tables : ℕ) (name : Name) (start : Point)
-    (children : Forest) →
-    (is_table name ≡ true →
+    (children : Forest) → (is_table name ≡ true →
     slice_get ended (tables_after tables children) ≡ Some (alignments children)) →
     IsFound ended (entry_row index tables name (entering name start) children)
 entry_found ended index tables name start children there other e =
     let one : children ≡ other = cc in
     subst (λ nodes. (t : ℕ) × (fact_at index tables name children ≡ fact_at index t name nodes)
     × (is_table name ≡ true → slice_get ended (tables_after t nodes) ≡ Some (alignments nodes)))
-    one (
-      tables,
-      refl,
-      there,
-    )
+    one (tables, refl, there)
 
 rows_found : (ended before later : List (List AlignKind)) (forest : Forest) (index tables : ℕ) →
     length before ≡ tables → ended ≡ before ++ (tables_of forest ++ later) →
@@ -97,37 +80,22 @@ rows_found ended before later (Node name start end children rest) index tables e
     (All-append (IsFound ended) (rows_of (suc index) tables children) (last
     ∷ rows_of (suc exit) more rest) (rows_found ended before (own
     ++ (after_rest ++ later)) children (suc index) tables e is_inside)
-    (All-cons (IsFound ended) last (rows_of (suc exit) more rest) last_found
+    (All-cons (IsFound ended) last (rows_of _ more rest) last_found
     (rows_found ended ((before ++ inner) ++ own) later rest (suc exit) more (length_table name
-    (before ++ inner) (alignments children) (tables_after tables children) counted) is_rest)))
+    _ _ _ counted) is_rest)))
 
 -- an entry has children
 abbrev HasChildren : Row → Type 0
 HasChildren row = row.event.kind ≡ Enter → (children : Forest) × (row.children ≡ Some children)
 
 rows_have : (forest : Forest) (index tables : ℕ) → All HasChildren (rows_of index tables forest)
-rows_have Empty index tables = All-nil HasChildren
-rows_have (Node name start end children rest) index tables =
-    let exit = index_after (suc index) children in
-    let entry : Row = entry_row index tables name (entering name start) children in
-    let last : Row = exit_row exit index name start end in
-    let last_has : HasChildren last = λ e. cc in
-    let later = rows_of (suc exit) (tables_with name (tables_after tables children)) rest in
-    All-cons HasChildren entry (rows_of (suc index) tables children ++ last
-    ∷ later) (λ e. (children, refl))
-    (All-append HasChildren (rows_of (suc index) tables children) (last
-    ∷ later) (rows_have children (suc index) tables) (All-cons HasChildren last later last_has
-    (rows_have rest (suc exit) (tables_with name (tables_after tables children)))))
+rows_have forest index tables = rows_all HasChildren (λ index tables nodes. Unit {0})
+    (λ index tables name start end children rest holds.
+    (λ e. (children, refl), λ e. cc, tt, tt)) forest index tables tt
 
 pub got_inside : {A : Type 0} (xs : List A) (index : ℕ) (x : A) →
     slice_get xs index ≡ Some x → index < length xs
-got_inside {A = A} xs index x e = by_cases (slice_get_cases xs index).1
-  where
-    by_cases : ((y : A) × (index < length xs) × (slice_get xs index ≡ Some y)
-        × (get_or xs index y ≡ y)) ⊎ ((length xs ≤ index) × (slice_get xs index ≡ None)) →
-        index < length xs
-    by_cases (inl here) = here.1
-    by_cases (inr past) = let clash : Some x ≡ None = sym e ∙ past.1 in cc
+got_inside xs index x e = slice_get_within xs index x e
 
 -- what is got at an index of a list that another is mapped to
 pub got_mapped : {A B : Type 0} (f : A → B) (xs : List A) (ys : List B) (index : ℕ) (x : A)
@@ -143,9 +111,8 @@ mapped_long f xs ys same = sym (length-map xs f) ∙ ap length same
 
 -- the partners, wherever the index is
 pub partners_there : (forest : Forest) (events : List Event) (facts : List Fact) (index : ℕ) →
-    flatten forest ≡ events → facts ≡ facts_at events →
-    option_map (λ (f : Fact). f.partner) (slice_get facts index)
-    ≡ slice_get (partners_of 0 forest) index
+    flatten forest ≡ events → facts ≡ facts_at events → option_map (λ (f : Fact). f.partner)
+    (slice_get facts index) ≡ slice_get (partners_of 0 forest) index
 partners_there forest events facts index flattened is =
     sym (slice_get-map (λ (f : Fact). f.partner) facts index)
     ∙ ap (λ fs. slice_get (map (λ (f : Fact). f.partner) fs) index)
@@ -159,11 +126,10 @@ partners_there forest events facts index flattened is =
         let exit = index_after (suc index) children in
         let more = tables_with name (tables_after tables children) in
         ap (λ ps. exit ∷ ps)
-        (map-append (λ (f : Fact). f.partner) (facts_of (suc index) tables children)
-        (partner_alone index ∷ facts_of (suc exit) more rest)
+        (map-append (λ (f : Fact). f.partner) (facts_of (suc index) tables children) _
         ∙ ap (λ ps. ps ++ index ∷ map (λ (f : Fact). f.partner) (facts_of (suc exit) more rest))
-        (partners children (suc index) tables)
-        ∙ ap (λ ps. partners_of (suc index) children ++ index ∷ ps) (partners rest (suc exit) more))
+        (partners children _ tables)
+        ∙ ap (λ ps. partners_of (suc index) children ++ index ∷ ps) (partners rest _ more))
 
 -- at an index of a document's events
 module _ (given : Handed) (index : ℕ) (name : Name)
@@ -183,7 +149,7 @@ module _ (given : Handed) (index : ℕ) (name : Name)
   pub inside_rows : (forest : Forest) → flatten forest ≡ given.events →
       index < length (rows_of 0 0 forest)
   inside_rows forest flattened =
-      let long = mapped_long (λ (r : Row). r.event) (rows_of 0 0 forest) given.events
+      let long = mapped_long (λ (r : Row). r.event) _ given.events
       (event_rows forest 0 0 ∙ flattened) in
       let inside = got_inside given.events index event enters.1 in
       omega arith
@@ -199,7 +165,7 @@ module _ (given : Handed) (index : ℕ) (name : Name)
       Row.children (get_or (rows_of 0 0 forest) index past_row) ≡ Some children
   children_there forest flattened children got =
       got_mapped (λ (r : Row). r.children) (rows_of 0 0 forest) (children_of forest) index past_row
-      (Some children) (children_rows forest 0 0) (inside_rows forest flattened) got
+      _ (children_rows forest 0 0) (inside_rows forest flattened) got
 
   pub EntersNode-entered : (forest : Forest) → flatten forest ≡ given.events →
       EntersNode given index
@@ -228,7 +194,7 @@ module _ (given : Handed) (index : ℕ) (name : Name)
       let inside = inside_rows forest entered.1 in
       let ended = tables_at given.events in
       let is_ended : ended ≡ [] ++ (tables_of forest ++ []) =
-      tables-flatten forest given.events entered.1 ∙ sym (append-nil (tables_of forest)) in
+      tables-flatten forest given.events entered.1 ∙ sym (append-nil _) in
       let name_is : row.event.name ≡ name =
       ap (λ (e : Event). e.name) (event_there forest entered.1) ∙ enters.3 in
       let children_are : row.children ≡ Some children =
@@ -237,7 +203,7 @@ module _ (given : Handed) (index : ℕ) (name : Name)
       let index_is : row.index ≡ index = numbered_get rows 0 (index_after 0 forest) index past_row
       (numbered_rows forest 0 0) inside ∙ none in
       let fact_is : row.fact ≡ fact = got_mapped (λ (r : Row). r.fact) rows
-      (facts_at given.events) index past_row fact (fact_rows forest 0 0
+      _ index past_row fact (fact_rows forest 0 0
       ∙ sym (facts-flatten forest given.events entered.1)) inside got in
       let there = rows_found ended [] [] forest 0 0 refl is_ended index past_row inside
       children children_are in (
@@ -250,7 +216,7 @@ module _ (given : Handed) (index : ℕ) (name : Name)
   pub facts_at-inside : (forest : Forest) → flatten forest ≡ given.events →
       index < length (facts_at given.events)
   facts_at-inside forest flattened =
-      let long = mapped_long (λ (r : Row). r.fact) (rows_of 0 0 forest) (facts_at given.events)
+      let long = mapped_long (λ (r : Row). r.fact) _ _
       (fact_rows forest 0 0 ∙ sym (facts-flatten forest given.events flattened)) in
       let inside = inside_rows forest flattened in
       omega arith

@@ -1,19 +1,10 @@
 -- The events of a document in rows, each with what is found at it, its node's children and place.
 use Rattle.std.proofs.Common.{◌≡◌, ℕ, zero, suc, ◌+◌, ◌<◌, Option, Some, None, List, [], ◌∷◌, ◌++◌}
 use Rattle.std.proofs.Common.{length, get_or, refl, sym, ap, ◌∙◌, subst, arith}
-use Rattle.std.specs.Prelude.{map}
-use Rattle.std.proofs.lemmas.List.{map-append}
-use Rattle.md_base.specs.declared.event.Point.{Point}
-use Rattle.md_base.specs.declared.event.Position.{Position}
-use Rattle.md_base.specs.declared.event.Name.{Name}
-use Rattle.md_base.specs.declared.event.Event.{Event}
-use Rattle.md_pattern.specs.declared.facts.Fact.{Fact}
-use Rattle.md_base.specs.Tree.{Forest, Empty, Node, flatten, entering, exiting}
-use Rattle.md_tree.specs.Rules.{place}
-use Rattle.md_tree.specs.Texts.{positions_of}
-use Rattle.md_tree.specs.Entered.{children_of}
-use Rattle.md_pattern.specs.Partners.{index_after}
-use Rattle.md_pattern.specs.Facts.{partner_alone, tables_with, tables_after, fact_at, facts_of}
+use Rattle.md_tree.proofs.Common.{All, All-cons, All-append, All-nil, map, map-append, Point}
+use Rattle.md_tree.proofs.Common.{Position, Name, Event, Fact, Forest, Empty, Node, flatten}
+use Rattle.md_tree.proofs.Common.{entering, exiting, place, positions_of, children_of, index_after}
+use Rattle.md_tree.proofs.Common.{partner_alone, tables_with, tables_after, fact_at, facts_of}
 
 -- an event, its index, what is found at it, at an entry the node's children, and at an exit
 -- where the node lies
@@ -46,11 +37,38 @@ exit_row index entry name start end = record {
 abbrev pub rows_of : ℕ → ℕ → Forest → List Row
 rows_of index tables Empty = []
 rows_of index tables (Node name start end children rest) =
-    entry_row index tables name (entering name start) children
-    ∷ rows_of (suc index) tables children
+    entry_row index tables name (entering name start) children ∷ rows_of (suc index) tables children
     ++ exit_row (index_after (suc index) children) index name start end
     ∷ rows_of (suc (index_after (suc index) children))
     (tables_with name (tables_after tables children)) rest
+
+-- a claim about nodes gives what is said of each one's two rows, and passes to its children and to
+-- the nodes after it
+abbrev pub Steps : (Row → Type 0) → (ℕ → ℕ → Forest → Type 0) → Type 0
+Steps said claim =
+    (index tables : ℕ) (name : Name) (start end : Point) (children rest : Forest) →
+    claim index tables (Node name start end children rest) →
+    said (entry_row index tables name (entering name start) children)
+    × said (exit_row (index_after (suc index) children) index name start end)
+    × claim (suc index) tables children × claim (suc (index_after (suc index) children))
+    (tables_with name (tables_after tables children)) rest
+
+-- so it is said of all rows
+pub rows_all : (said : Row → Type 0) (claim : ℕ → ℕ → Forest → Type 0) → Steps said claim →
+    (forest : Forest) (index tables : ℕ) → claim index tables forest →
+    All said (rows_of index tables forest)
+rows_all said claim step Empty index tables holds = All-nil said
+rows_all said claim step (Node name start end children rest) index tables holds =
+    let exit = index_after (suc index) children in
+    let more = tables_with name (tables_after tables children) in
+    let parts = step index tables name start end children rest holds in
+    let last = exit_row exit index name start end in
+    All-cons said _ (rows_of (suc index) tables children ++ last ∷ rows_of (suc exit) more rest)
+    parts.0 (All-append said (rows_of (suc index) tables children)
+    (last ∷ rows_of (suc exit) more rest)
+    (rows_all said claim step children (suc index) tables parts.2)
+    (All-cons said last (rows_of (suc exit) more rest) parts.1
+    (rows_all said claim step rest (suc exit) more parts.3)))
 
 -- a column of the rows, if the claim holds for each node
 module _ {A : Type 0} (of_row : Row → A) (column : ℕ → ℕ → Forest → List A)
@@ -65,16 +83,15 @@ module _ {A : Type 0} (of_row : Row → A) (column : ℕ → ℕ → Forest → 
       map of_row (rows_of index tables forest) ≡ column index tables forest
   column_rows Empty index tables = sym (at_end index tables)
   column_rows (Node name start end children rest) index tables =
-      let entry = of_row (entry_row index tables name (entering name start) children) in
-      let exit = exit_row (index_after (suc index) children) index name start end in
+      let entry = of_row (entry_row index tables name _ children) in
+      let exit = exit_row (index_after _ children) index name start end in
       let more = tables_with name (tables_after tables children) in
-      let later = suc (index_after (suc index) children) in
+      let later = suc (index_after _ children) in
       ap (λ xs. entry ∷ xs)
-      (map-append of_row (rows_of (suc index) tables children) (exit ∷ rows_of later more rest)
+      (map-append of_row (rows_of _ tables children) (exit ∷ rows_of later more rest)
       ∙ ap (λ xs. xs ++ of_row exit ∷ map of_row (rows_of later more rest)) (column_rows children
-      (suc index) tables) ∙ ap (λ xs. column (suc index) tables children ++ of_row exit ∷ xs)
-      (column_rows rest later more))
-      ∙ sym (at_node index tables name start end children rest)
+      _ tables) ∙ ap (λ xs. column (suc index) tables children ++ of_row exit ∷ xs)
+      (column_rows rest later more)) ∙ sym (at_node index tables name start end children rest)
 
 pub event_rows : (forest : Forest) (index tables : ℕ) →
     map (λ (r : Row). r.event) (rows_of index tables forest) ≡ flatten forest
@@ -102,35 +119,26 @@ Numbered index [] next = index ≡ next
 Numbered index (row ∷ rows) next = (row.index ≡ index) × Numbered (suc index) rows next
 
 numbered_append : (xs ys : List Row) (index middle next : ℕ) → Numbered index xs middle →
-    Numbered middle ys next →
-    Numbered index (xs ++ ys) next
+    Numbered middle ys next → Numbered index (xs ++ ys) next
 numbered_append [] ys index middle next p q = subst (λ n. Numbered n ys next) (sym p) q
 numbered_append (row ∷ xs) ys index middle next p q =
-    (p.0, numbered_append xs ys (suc index) middle next p.1 q)
+    (p.0, numbered_append xs ys _ middle next p.1 q)
 
 pub numbered_rows : (forest : Forest) (index tables : ℕ) →
     Numbered index (rows_of index tables forest) (index_after index forest)
 numbered_rows Empty index tables = refl
 numbered_rows (Node name start end children rest) index tables =
-    let exit = index_after (suc index) children in (
+    let exit = index_after _ children in (
       refl,
-      numbered_append (rows_of (suc index) tables children) (exit_row exit index name start end
-          ∷ rows_of (suc exit) (tables_with name (tables_after tables children)) rest)
-          (suc index) exit
-          (index_after (suc exit) rest)
-          (numbered_rows children (suc index) tables) (
-            refl,
-            numbered_rows rest (suc exit) (tables_with name (tables_after tables children)),
-          ),
+      numbered_append _ _ _ exit _ (numbered_rows children _ tables) (refl, numbered_rows rest _ _),
     )
 
 pub numbered_get : (rows : List Row) (index next i : ℕ) (d : Row) →
-    Numbered index rows next → i < length rows →
-    Row.index (get_or rows i d) ≡ index + i
+    Numbered index rows next → i < length rows → Row.index (get_or rows i d) ≡ index + i
 numbered_get [] index next i d p inside = absurd (omega arith)
 numbered_get (row ∷ rows) index next zero d p inside =
     let none : index + 0 ≡ index = omega arith in p.0 ∙ sym none
 numbered_get (row ∷ rows) index next (suc i) d p inside =
     let one : suc index + i ≡ index + suc i = omega arith in
     let within : i < length rows = omega arith in
-    numbered_get rows (suc index) next i d p.1 within ∙ one
+    numbered_get rows _ next i d p.1 within ∙ one

@@ -1,24 +1,16 @@
 -- What is found on a spine, in the words of the definitions: the place of the first node.
 use Rattle.std.proofs.Common.{◌≡◌, ℕ, Bool, true, false, cond, Option, Some, None, refl, ap, ◌∙◌}
-use Rattle.std.specs.Prelude.{option_map, unwrap_or}
-use Rattle.md_base.specs.declared.event.Name.{Name}
+use Rattle.md_tree.proofs.Common.{option_map, unwrap_or, Name, Point, Position, Wanted, Forest}
+use Rattle.md_tree.proofs.Common.{Empty, Node, is_transparent, is_heading_mark, is_item_value}
+use Rattle.md_tree.proofs.Common.{is_label_text, is_reference, is_definition_label}
+use Rattle.md_tree.proofs.Common.{is_footnote_label, or_else, first_on_spine, lie, place, wanted_by}
+use Rattle.md_tree.proofs.Common.{first_place, reads, is_reader}
 use Rattle.md_base.specs.declared.event.Name.TheVariants as name_variants
 use name_variants.{HeadingAtx, ListOrdered, ListItem, ListItemPrefix, Link, Image, Label}
 use name_variants.{GfmFootnoteCall, Definition, GfmFootnoteDefinition, GfmFootnoteDefinitionPrefix}
-use Rattle.md_base.specs.declared.event.Point.{Point}
-use Rattle.md_base.specs.declared.event.Position.{Position}
-use Rattle.md_pattern.specs.declared.seeking.Wanted.{Wanted}
 use Rattle.md_pattern.specs.declared.seeking.Wanted.TheVariants as want
-use Rattle.md_base.specs.Tree.{Forest, Empty, Node}
-use Rattle.md_base.specs.NameTests.{is_transparent, is_heading_mark, is_item, is_item_prefix}
-use Rattle.md_base.specs.NameTests.{is_item_value, is_label, is_label_text, is_reference}
-use Rattle.md_base.specs.NameTests.{is_definition_label, is_footnote_prefix, is_footnote_label}
-use Rattle.md_base.specs.Children.{or_else, first_on_spine}
-use Rattle.md_base.proofs.Lies.{lie}
-use Rattle.md_tree.specs.Rules.{place}
-use Rattle.md_pattern.specs.Seeking.{wanted_by}
-use Rattle.md_tree.specs.Reads.{first_place, number_in, label_in, reads, is_reader}
-use Rattle.md_tree.proofs.SearchSteps.{spot, reference, At, Held}
+use Rattle.md_tree.specs.Reads.{label_in}
+use Rattle.md_tree.proofs.SearchSteps.{spot, reference, At, Held, is_holder, finds}
 
 none_through : {A : Type 0} (t : Bool) → or_else {A = A} (cond t None None) None ≡ None
 none_through true = refl
@@ -31,7 +23,7 @@ no_reference tell (Node name start end children rest) =
     ap (λ o. or_else (cond (is_transparent name) o None)
     (first_on_spine (λ other. false) tell rest)) (no_reference tell children)
     ∙ ap (λ o. or_else (cond (is_transparent name) None None) o) (no_reference tell rest)
-    ∙ none_through (is_transparent name)
+    ∙ none_through _
 
 map_or_else : (o p : Option Position) →
     or_else (option_map Some o) (option_map Some p) ≡ option_map Some (or_else o p)
@@ -46,9 +38,8 @@ map_here false true here inside = refl
 map_here false false here inside = refl
 
 -- the place of the first node
-places_mapped : (test : Name → Bool) (forest : Forest) →
-    first_on_spine test (λ start end inner. Some (place start end)) forest
-    ≡ option_map Some (first_place test forest)
+places_mapped : (test : Name → Bool) (forest : Forest) → first_on_spine test
+    (λ start end inner. Some (place start end)) forest ≡ option_map Some (first_place test forest)
 places_mapped test Empty = refl
 places_mapped test (Node name start end children rest) =
     ap (λ o. or_else (cond (test name) (Some (Some (place start end))) (cond (is_transparent name) o
@@ -73,9 +64,8 @@ abbrev here_place : Point → Point → Forest → Option Position
 here_place start end inner = Some (place start end)
 
 -- what is found where there is no reference
-alone : (o : Option (Option Position)) (forest : Forest) →
-    unwrap_or (first_on_spine (λ name. false) here_place forest) (unwrap_or o None)
-    ≡ unwrap_or o None
+alone : (o : Option (Option Position)) (forest : Forest) → unwrap_or
+    (first_on_spine (λ name. false) here_place forest) (unwrap_or o None) ≡ unwrap_or o None
 alone o forest = ap (λ r. unwrap_or r (unwrap_or o None)) (no_reference here_place forest)
 
 place_found : (test : Name → Bool) (forest : Forest) →
@@ -83,48 +73,27 @@ place_found : (test : Name → Bool) (forest : Forest) →
     (unwrap_or (first_on_spine test here_place forest) None) ≡ first_place test forest
 place_found test forest =
     alone (first_on_spine test here_place forest) forest
-    ∙ ap (λ o. unwrap_or o None) (places_mapped test forest)
-    ∙ unwrap_mapped (first_place test forest) None ∙ or_none (first_place test forest)
+    ∙ ap (λ o. unwrap_or o None) (places_mapped test forest) ∙ unwrap_mapped _ None ∙ or_none _
 
 -- what a search of a name's own spine finds
 abbrev pub found_in : Name → Forest → Option Position
 found_in name children = unwrap_or (reference (wanted_by name) children)
     (unwrap_or (spot (wanted_by name) children) None)
 
-in_item : (name : Name) (children : Forest) → is_item name ≡ true →
-    found_in name children ≡ number_in children
-in_item ListItem children h = alone (spot want.Prefix children) children
-in_item _ children h = absurd (lie h)
-
-in_prefix : (name : Name) (children : Forest) → is_item_prefix name ≡ true →
-    found_in name children ≡ first_place is_item_value children
-in_prefix ListItemPrefix children h = place_found is_item_value children
-in_prefix _ children h = absurd (lie h)
-
-in_label : (name : Name) (children : Forest) → is_label name ≡ true →
-    found_in name children ≡ first_place is_label_text children
-in_label Label children h = place_found is_label_text children
-in_label _ children h = absurd (lie h)
-
-in_footnote : (name : Name) (children : Forest) → is_footnote_prefix name ≡ true →
-    found_in name children ≡ first_place is_footnote_label children
-in_footnote GfmFootnoteDefinitionPrefix children h = place_found is_footnote_label children
-in_footnote _ children h = absurd (lie h)
+in_holder : (w : Wanted) (name : Name) (start end : Point) (children : Forest) →
+    is_holder w name ≡ true → found_in name children ≡ finds w start end children
+in_holder want.Item ListItem start end children h = alone (spot want.Prefix children) children
+in_holder want.Prefix ListItemPrefix start end children h = place_found is_item_value children
+in_holder want.Media Label start end children h = place_found is_label_text children
+in_holder want.Label Label start end children h = place_found is_label_text children
+in_holder want.FootnotePrefix GfmFootnoteDefinitionPrefix start end children h =
+    place_found is_footnote_label children
+in_holder _ _ start end children h = absurd (lie h)
 
 pub held : (at : At) (w : Wanted) (name : Name) (start end : Point) (children : Forest)
     (inner : ℕ) → at inner ≡ found_in name children → Held at w name start end children inner
-held at want.Item name start end children inner e = λ passes. e ∙ in_item name children passes
-held at want.Prefix name start end children inner e = λ passes. e ∙ in_prefix name children passes
-held at want.Media name start end children inner e = λ passes. e ∙ in_label name children passes
-held at want.Label name start end children inner e = λ passes. e ∙ in_label name children passes
-held at want.FootnotePrefix name start end children inner e =
-    λ passes. e ∙ in_footnote name children passes
-held at want.Nothing name start end children inner e = tt
-held at want.Mark name start end children inner e = tt
-held at want.Value name start end children inner e = tt
-held at want.LabelText name start end children inner e = tt
-held at want.DefinitionLabel name start end children inner e = tt
-held at want.FootnoteLabel name start end children inner e = tt
+held at w name start end children inner e =
+    λ passes. e ∙ in_holder w name start end children passes
 
 pub reader_finds : (name : Name) (children : Forest) → is_reader name ≡ true →
     found_in name children ≡ reads name children

@@ -1,23 +1,16 @@
 -- In a settled pattern, the first item that takes a symbol is the right one.
 use Rattle.std.proofs.Common.{◌≡◌, ℕ, Bool, true, false, not, ◌||◌, cond, Some, None, List, [], ◌∷◌}
 use Rattle.std.proofs.Common.{◌++◌, length, refl, sym, subst, arith}
-use Rattle.std.specs.List.{list_all}
-use Rattle.md_pattern.specs.declared.kinds.Symbol.{Symbol}
-use Rattle.md_pattern.specs.declared.kinds.Item.{Item}
-use Rattle.md_pattern.specs.declared.kinds.Item.TheVariants.{Once, Maybe, Many}
-use Rattle.md_pattern.specs.Pattern.{class_of, takes, Fits, IsCount}
-use Rattle.md_pattern.specs.Steps.{is_optional}
-use Rattle.md_tree.proofs.SettledPatterns.{is_many, and_left, and_right, only_many, leaves_order}
-use Rattle.md_tree.proofs.SettledPatterns.{settled, only_many_after, and_both}
+use Rattle.md_tree.proofs.Common.{list_all, Symbol, Item, Once, Maybe, Many, class_of, takes, Fits}
+use Rattle.md_tree.proofs.Common.{IsCount, is_optional}
+use Rattle.md_tree.proofs.SettledPatterns.{is_many, and_left, and_right, only_many, settled}
+use Rattle.md_tree.proofs.SettledPatterns.{only_many_after, and_both}
 use Rattle.md_tree.proofs.TakenFits.{kept, left_after}
 
 many_taken : (item : Item) (taken : Bool) → taken ≡ true →
-    (is_many item || not taken) ≡ true → (n : ℕ) →
-    IsCount item n
+    (is_many item || not taken) ≡ true → (n : ℕ) → IsCount item n
 many_taken (Many class) taken t e n = tt
-many_taken (Once class) taken t e n =
-    absurd (subst (λ b. (false || not b) ≡ true → ⊥) (sym t) (λ f. cc) e)
-many_taken (Maybe class) taken t e n =
+many_taken _ taken t e n =
     absurd (subst (λ b. (false || not b) ≡ true → ⊥) (sym t) (λ f. cc) e)
 
 -- where each item that takes it may be there any number of times, a first symbol may go
@@ -33,25 +26,21 @@ one_less_own item items symbol symbols (first ∷ own) others many again e all c
     let same : first ≡ symbol = cc in
     let rest : symbols ≡ own ++ others = cc in
     let taken : takes (class_of item) symbol ≡ true = subst (λ s. takes (class_of item) s
-    ≡ true) same
-    (and_left (takes (class_of item) first) (list_all (takes (class_of item)) own) all) in (
+    ≡ true) same (and_left _ _ all) in (
       own,
       others,
       rest,
-      and_right (takes (class_of item) first) (list_all (takes (class_of item)) own) all,
-      many_taken item (takes (class_of item) symbol) taken many (length own),
+      and_right _ _ all,
+      many_taken item _ taken many _,
       fit,
     )
 
 one_less : (items : List Item) (symbol : Symbol) (symbols : List Symbol) →
-    only_many symbol items ≡ true →
-    Fits items (symbol ∷ symbols) → Fits items symbols
+    only_many symbol items ≡ true → Fits items (symbol ∷ symbols) → Fits items symbols
 one_less [] symbol symbols many fit = cc
 one_less (item ∷ items) symbol symbols many fit =
-    one_less_own item items symbol symbols fit.0 fit.1 (and_left (is_many item
-    || not (takes (class_of item) symbol)) (only_many symbol items) many)
-    (one_less items symbol symbols (and_right (is_many item
-    || not (takes (class_of item) symbol)) (only_many symbol items) many)) fit.2 fit.3 fit.4 fit.5
+    one_less_own item items symbol symbols fit.0 fit.1 (and_left _ _ many)
+    (one_less items symbol symbols (and_right _ _ many)) fit.2 fit.3 fit.4 fit.5
 
 no_more : (own others symbols : List Symbol) → length own ≡ 0 →
     symbols ≡ own ++ others → others ≡ symbols
@@ -61,26 +50,23 @@ no_more (x ∷ own) others symbols e f = absurd (omega arith)
 -- an item that takes the symbol
 fits_here : (item : Item) (items : List Item) (symbol : Symbol) (symbols own others : List Symbol) →
     takes (class_of item) symbol ≡ true → settled (item ∷ items) ≡ true →
-    symbol ∷ symbols ≡ own ++ others →
-    list_all (takes (class_of item)) own ≡ true → IsCount item (length own) → Fits items others →
-    Fits (kept item items) symbols
+    symbol ∷ symbols ≡ own ++ others → list_all (takes (class_of item)) own ≡ true →
+    IsCount item (length own) → Fits items others → Fits (kept item items) symbols
 fits_here (Many class) items symbol symbols [] others taken ok e all count fit = (
   [],
   symbols,
   refl,
   refl,
   tt,
-  one_less items symbol symbols (only_many_after (Many class) items symbol taken
-      (and_left (list_all (leaves_order (Many class)) items) (settled items) ok))
+  one_less items symbol symbols (only_many_after (Many class) items symbol taken (and_left _ _ ok))
       (subst (λ s. Fits items s) (sym e) fit),
 )
 fits_here (Many class) items symbol symbols (first ∷ own) others taken ok e all count fit =
     let rest : symbols ≡ own ++ others = cc in
-    (own, others, rest, and_right (takes class first) (list_all (takes class) own) all, tt, fit)
+    (own, others, rest, and_right _ _ all, tt, fit)
 fits_here (Maybe class) items symbol symbols [] others taken ok e all count fit =
     one_less items symbol symbols (only_many_after (Maybe class) items symbol taken
-    (and_left (list_all (leaves_order (Maybe class)) items) (settled items) ok))
-    (subst (λ s. Fits items s) (sym e) fit)
+    (and_left _ _ ok)) (subst (λ s. Fits items s) (sym e) fit)
 fits_here (Maybe class) items symbol symbols (first ∷ own) others taken ok e all count fit =
     let rest : symbols ≡ own ++ others = cc in
     subst (λ s. Fits items s) (no_more own others symbols (omega arith) rest) fit
@@ -94,7 +80,7 @@ settled_kept : (item : Item) (items : List Item) → settled (item ∷ items) �
     settled (kept item items) ≡ true
 settled_kept (Many class) items ok = ok
 settled_kept (Maybe class) items ok =
-    and_right (list_all (leaves_order (Maybe class)) items) (settled items) ok
+    and_right _ _ ok
 settled_kept (Once class) items ok = ok
 
 -- the rest of the pattern takes the rest of the symbols
@@ -108,27 +94,14 @@ skips : (item : Item) (items : List Item) (symbol : Symbol) (symbols : List Symb
     takes (class_of item) symbol ≡ false → IsCount item 0 → GoesOn items symbol symbols →
     GoesOn (item ∷ items) symbol symbols
 skips (Once class) items symbol symbols t count on = absurd (omega arith)
-skips (Maybe class) items symbol symbols t count on =
+skips item items symbol symbols t count on =
     record {
       left = on.left;
-      is_left = subst (λ b. cond b (Some items) (left_after items symbol)
+      is_left = subst (λ b. cond b (Some (kept item items)) (left_after items symbol)
           ≡ Some on.left) (sym t) on.is_left;
       fits = on.fits;
       ok = on.ok;
     }
-skips (Many class) items symbol symbols t count on =
-    record {
-      left = on.left;
-      is_left = subst (λ b. cond b (Some (Many class ∷ items)) (left_after items symbol)
-          ≡ Some on.left) (sym t) on.is_left;
-      fits = on.fits;
-      ok = on.ok;
-    }
-
-settled_rest : (item : Item) (items : List Item) → settled (item ∷ items) ≡ true →
-    settled items ≡ true
-settled_rest item items ok =
-    and_right (not (is_optional item) || list_all (leaves_order item) items) (settled items) ok
 
 fits_past : (item : Item) (items : List Item) (symbol : Symbol) (symbols own others : List Symbol) →
     takes (class_of item) symbol ≡ false → symbol ∷ symbols ≡ own ++ others →
@@ -140,8 +113,7 @@ fits_past item items symbol symbols [] others t e all count fit again =
 fits_past item items symbol symbols (first ∷ own) others t e all count fit again =
     let same : first ≡ symbol = cc in
     let taken : takes (class_of item) symbol ≡ true = subst (λ s. takes (class_of item) s
-    ≡ true) same
-    (and_left (takes (class_of item) first) (list_all (takes (class_of item)) own) all) in
+    ≡ true) same (and_left _ _ all) in
     let clash : true ≡ false = cc in cc
 
 fits_on_taken : (item : Item) (items : List Item) (symbol : Symbol) (symbols : List Symbol) →
@@ -165,20 +137,18 @@ pub fits_on : (items : List Item) (symbol : Symbol) (symbols : List Symbol) → 
 fits_on [] symbol symbols ok fit = cc
 fits_on (item ∷ items) symbol symbols ok fit =
     fits_on_taken item items symbol symbols ok fit
-    (fits_on items symbol symbols (settled_rest item items ok)) (takes (class_of item) symbol) refl
+    (fits_on items symbol symbols (and_right _ _ ok)) _ refl
 
 all_out : (item : Item) (items : List Item) (own others : List Symbol) → [] ≡ own ++ others →
     IsCount item (length own) → Fits items others →
-    (Fits items [] → list_all is_optional items ≡ true) →
-    list_all is_optional (item ∷ items) ≡ true
+    (Fits items [] → list_all is_optional items ≡ true) → list_all is_optional (item ∷ items) ≡ true
 all_out item items [] others e count fit again =
-    and_both (is_optional item) (list_all is_optional items) (optional item count)
-    (again (subst (λ s. Fits items s) (sym e) fit))
+    and_both _ _ (optional item count) (again (subst (λ s. Fits items s) (sym e) fit))
   where
     optional : (item : Item) → IsCount item 0 → is_optional item ≡ true
     optional (Once class) c = absurd (omega arith)
     optional (Maybe class) c = refl
-    optional (Many class) c = refl
+    optional _ c = refl
 all_out item items (x ∷ own) others e count fit again = cc
 
 pub nothing_fits : (items : List Item) → Fits items [] → list_all is_optional items ≡ true

@@ -1,22 +1,13 @@
 -- Reading a spine symbol by symbol matches it against its pattern.
-use Rattle.std.proofs.Common.{◌≡◌, ◌⊎◌, inl, inr, suc, true, Some, List, [], ◌∷◌, ◌++◌, refl, sym}
-use Rattle.std.proofs.Common.{ap, ◌∙◌, subst}
-use Rattle.std.specs.List.{list_all}
-use Rattle.std.specs.Prelude.{option_map}
-use Rattle.md_pattern.specs.declared.kinds.Symbol.{Symbol}
+use Rattle.std.proofs.Common.{MatchOption, ◌≡◌, ◌⊎◌, inl, inr, suc, true, Some, List, [], ◌∷◌, ◌++◌}
+use Rattle.std.proofs.Common.{refl, sym, ap, ◌∙◌, subst}
+use Rattle.md_tree.proofs.Common.{list_all, option_map, Symbol, Role, Item, Stage, Whole, Marker}
+use Rattle.md_tree.proofs.Common.{Numeric, Hexadecimal, Setext, State, pattern_of, Fits, IsTail}
+use Rattle.md_tree.proofs.Common.{IsGrouped, Matches, begun_by, next_stage, is_optional, items_of}
+use Rattle.md_tree.proofs.Common.{is_whole, is_complete, start_of}
 use Rattle.md_pattern.specs.declared.kinds.Symbol.TheVariants as symbol_variants
 use symbol_variants.{ReferenceMarker, ReferenceNumeric, ReferenceHexadecimal, ReferenceValue}
 use symbol_variants.{SetextText, SetextUnderline, LineEnding}
-use Rattle.md_pattern.specs.declared.kinds.Role.{Role}
-use Rattle.md_pattern.specs.declared.kinds.Item.{Item}
-use Rattle.md_pattern.specs.declared.state.Stage.{Stage}
-use Rattle.md_pattern.specs.declared.state.Stage.TheVariants.{Whole, Marker, Numeric, Hexadecimal}
-use Rattle.md_pattern.specs.declared.state.Stage.TheVariants.{Setext}
-use Rattle.md_pattern.specs.declared.state.State.{State}
-use Rattle.md_pattern.specs.Pattern.{pattern_of, Fits}
-use Rattle.md_pattern.specs.Spine.{IsTail, IsGrouped, Matches}
-use Rattle.md_pattern.specs.Steps.{begun_by, next_stage, is_optional, items_of, is_whole}
-use Rattle.md_pattern.specs.Steps.{is_complete, start_of}
 use Rattle.md_tree.proofs.SettledPatterns.{and_left, and_right, and_both, pattern_settled}
 use Rattle.md_tree.proofs.TakenFits.{left_after, fits_nothing, fits_back}
 use Rattle.md_tree.proofs.Spots.{At, spot_after, option_map-some, at_items, Goes, Feeds}
@@ -42,38 +33,17 @@ after_numeric : (tail : List Symbol) → IsTailFrom Numeric tail →
 after_numeric tail (inl e) = inr (inl (ap (λ t. ReferenceNumeric ∷ t) e))
 after_numeric tail (inr e) = inr (inr (ap (λ t. ReferenceNumeric ∷ t) e))
 
-pub some_stage : (a b : Stage) → Some a ≡ Some b → a ≡ b
-some_stage a b e = cc
-
-IsTailFrom-cons : (stage : Stage) (symbol : Symbol) (next : Stage) (tail : List Symbol) →
-    next_stage stage symbol ≡ Some next → IsTailFrom next tail → IsTailFrom stage (symbol ∷ tail)
-IsTailFrom-cons Whole symbol next tail e t = cc
-IsTailFrom-cons Marker ReferenceNumeric next tail e t =
-    after_numeric tail (subst (λ st. IsTailFrom st tail) (sym (some_stage Numeric next e)) t)
-IsTailFrom-cons Marker ReferenceValue next tail e t =
-    inl (ap (λ t. ReferenceValue ∷ t)
-    (subst (λ st. IsTailFrom st tail) (sym (some_stage Whole next e)) t))
-IsTailFrom-cons Marker _ next tail e t = cc
-IsTailFrom-cons Numeric ReferenceHexadecimal next tail e t =
-    inr (ap (λ t. ReferenceHexadecimal ∷ t)
-    (subst (λ st. IsTailFrom st tail) (sym (some_stage Hexadecimal next e)) t))
-IsTailFrom-cons Numeric ReferenceValue next tail e t =
-    inl (ap (λ t. ReferenceValue ∷ t)
-    (subst (λ st. IsTailFrom st tail) (sym (some_stage Whole next e)) t))
-IsTailFrom-cons Numeric _ next tail e t = cc
-IsTailFrom-cons Hexadecimal ReferenceValue next tail e t =
-    ap (λ t. ReferenceValue ∷ t)
-    (subst (λ st. IsTailFrom st tail) (sym (some_stage Whole next e)) t)
-IsTailFrom-cons Hexadecimal _ next tail e t = cc
-IsTailFrom-cons Setext LineEnding next tail e t =
-    let u = subst (λ st. IsTailFrom st tail) (sym (some_stage Setext next e)) t in
-    (suc u.0, ap (λ t. LineEnding ∷ t) u.1)
-IsTailFrom-cons Setext SetextUnderline next tail e t = (
-  0,
-  ap (λ t. SetextUnderline ∷ t)
-      (subst (λ st. IsTailFrom st tail) (sym (some_stage Whole next e)) t),
-)
-IsTailFrom-cons Setext _ next tail e t = cc
+IsTailFrom-cons : (stage : Stage) (symbol : Symbol) (tail : List Symbol) →
+    MatchOption (next_stage stage symbol) ⊥ (λ next. IsTailFrom next tail) →
+    IsTailFrom stage (symbol ∷ tail)
+IsTailFrom-cons Marker ReferenceNumeric tail t = after_numeric tail t
+IsTailFrom-cons Marker ReferenceValue tail t = inl (ap (λ s. ReferenceValue ∷ s) t)
+IsTailFrom-cons Numeric ReferenceHexadecimal tail t = inr (ap (λ s. ReferenceHexadecimal ∷ s) t)
+IsTailFrom-cons Numeric ReferenceValue tail t = inl (ap (λ s. ReferenceValue ∷ s) t)
+IsTailFrom-cons Hexadecimal ReferenceValue tail t = ap (λ s. ReferenceValue ∷ s) t
+IsTailFrom-cons Setext LineEnding tail t = (suc t.0, ap (λ s. LineEnding ∷ s) t.1)
+IsTailFrom-cons Setext SetextUnderline tail t = (0, ap (λ s. SetextUnderline ∷ s) t)
+IsTailFrom-cons _ _ tail t = absurd t
 
 -- the pattern takes a symbol, or the symbol continues a group
 pub spot_whole : (items left : List Item) (next : Stage) (symbol : Symbol) →
@@ -81,15 +51,15 @@ pub spot_whole : (items left : List Item) (next : Stage) (symbol : Symbol) →
     (left_after items symbol ≡ Some left) × (begun_by symbol ≡ next)
 spot_whole items left next symbol e =
     let m =
-    option_map-some (λ is. At is (begun_by symbol)) (left_after items symbol) (At left next) e in
-    let same = at_items m.0 left (begun_by symbol) next m.2 in
+    option_map-some (λ is. At is (begun_by symbol)) _ _ e in
+    let same = at_items m.0 left _ next m.2 in
     (m.1 ∙ ap Some same.0, same.1)
 
 pub spot_inside : (items left : List Item) (stage next : Stage) (symbol : Symbol) →
     option_map (λ st. At items st) (next_stage stage symbol) ≡ Some (At left next) →
     (items ≡ left) × (next_stage stage symbol ≡ Some next)
 spot_inside items left stage next symbol e =
-    let m = option_map-some (λ st. At items st) (next_stage stage symbol) (At left next) e in
+    let m = option_map-some (λ st. At items st) _ _ e in
     let same = at_items items left m.0 next m.2 in
     (same.0, m.1 ∙ ap Some same.1)
 
@@ -127,8 +97,7 @@ on_whole items left next symbol symbols e on =
 on_inside :
     (items left : List Item) (stage next : Stage) (symbol : Symbol) (symbols : List Symbol) →
     option_map (λ st. At items st) (next_stage stage symbol) ≡ Some (At left next) →
-    ReadsOn left next symbols →
-    ReadsOn items stage (symbol ∷ symbols)
+    ReadsOn left next symbols → ReadsOn items stage (symbol ∷ symbols)
 on_inside items left stage next symbol symbols e on =
     let w = spot_inside items left stage next symbol e in
     record {
@@ -136,24 +105,18 @@ on_inside items left stage next symbol symbols e on =
       others = on.others;
       firsts = on.firsts;
       parts = ap (λ s. symbol ∷ s) on.parts;
-      tail_ok = IsTailFrom-cons stage symbol next on.tail w.1 on.tail_ok;
+      tail_ok = IsTailFrom-cons stage symbol on.tail (subst
+          (λ o. MatchOption o ⊥ (λ n. IsTailFrom n on.tail)) (sym w.1) on.tail_ok);
       grouped = on.grouped;
       fits = subst (λ is. Fits is on.firsts) (sym w.0) on.fits;
     }
 
 on_any : (stage : Stage) (items left : List Item) (next : Stage) (symbol : Symbol)
-    (symbols : List Symbol) →
-    spot_after items stage symbol ≡ Some (At left next) → ReadsOn left next symbols →
-    ReadsOn items stage (symbol ∷ symbols)
+    (symbols : List Symbol) → spot_after items stage symbol ≡ Some (At left next) →
+    ReadsOn left next symbols → ReadsOn items stage (symbol ∷ symbols)
 on_any Whole items left next symbol symbols e on = on_whole items left next symbol symbols e on
-on_any Marker items left next symbol symbols e on =
-    on_inside items left Marker next symbol symbols e on
-on_any Numeric items left next symbol symbols e on =
-    on_inside items left Numeric next symbol symbols e on
-on_any Hexadecimal items left next symbol symbols e on =
-    on_inside items left Hexadecimal next symbol symbols e on
-on_any Setext items left next symbol symbols e on =
-    on_inside items left Setext next symbol symbols e on
+on_any stage items left next symbol symbols e on =
+    on_inside items left stage next symbol symbols e on
 
 goes_back : (items left : List Item) (stage : Stage) (symbols : List Symbol) →
     Goes items stage symbols (At left Whole) → list_all is_optional left ≡ true →
@@ -174,10 +137,7 @@ goes_back items left stage (symbol ∷ symbols) g out =
 
 pub whole_stage : (stage : Stage) → is_whole stage ≡ true → stage ≡ Whole
 whole_stage Whole e = refl
-whole_stage Marker e = cc
-whole_stage Numeric e = cc
-whole_stage Hexadecimal e = cc
-whole_stage Setext e = cc
+whole_stage _ e = cc
 
 -- a spine that matches is read to an end
 pub Feeds-matches : (role : Role) (spine : List Symbol) → Matches role spine →
@@ -185,26 +145,24 @@ pub Feeds-matches : (role : Role) (spine : List Symbol) → Matches role spine �
 Feeds-matches role spine matches =
     let whole =
     goes_whole (pattern_of role) matches.0 spine (pattern_settled role) matches.1 matches.2 in
-    let feeds = Feeds-from_goes (start_of role) spine (At whole.0 Whole) whole.1 in
+    let feeds = Feeds-from_goes _ spine _ whole.1 in
     let end = feeds.0 in
-    let same = at_items (items_of end) whole.0 end.stage Whole feeds.2 in (
+    let same = at_items _ whole.0 end.stage Whole feeds.2 in (
       end,
       feeds.1,
-      and_both (is_whole end.stage) (list_all is_optional (items_of end)) (ap is_whole same.1)
+      and_both _ _ (ap is_whole same.1)
           (subst (λ is. list_all is_optional is ≡ true) (sym same.0) whole.2),
     )
 
 -- a spine that is read to an end matches
 pub matches_feeds : (role : Role) (spine : List Symbol) (end : State) →
-    Feeds (start_of role) spine end →
-    is_complete end ≡ true → Matches role spine
+    Feeds (start_of role) spine end → is_complete end ≡ true → Matches role spine
 matches_feeds role spine end feeds complete =
-    let whole = whole_stage end.stage
-    (and_left (is_whole end.stage) (list_all is_optional (items_of end)) complete) in
-    let out = and_right (is_whole end.stage) (list_all is_optional (items_of end)) complete in
+    let whole = whole_stage end.stage (and_left _ _ complete) in
+    let out = and_right _ _ complete in
     let goes = subst (λ st. Goes (pattern_of role) Whole spine (At (items_of end) st)) whole
-    (Goes-from_feeds (start_of role) spine end feeds) in
-    let on = goes_back (pattern_of role) (items_of end) Whole spine goes out in (
+    (Goes-from_feeds _ spine end feeds) in
+    let on = goes_back _ _ Whole spine goes out in (
       on.firsts,
       subst (λ s. IsGrouped on.firsts s)
           (sym (on.parts ∙ ap (λ t. t ++ on.others) on.tail_ok)) on.grouped,

@@ -1,23 +1,15 @@
 -- Where a group is open, the spine that has been read ends in it.
-use Rattle.std.proofs.Common.{◌≡◌, inl, inr, ℕ, zero, suc, false, Some, List, [], ◌∷◌, ◌++◌}
-use Rattle.std.proofs.Common.{replicate, refl, ap, ◌∙◌, subst, append_assoc, append-nil}
-use Rattle.std.specs.Prelude.{option_map}
-use Rattle.md_pattern.specs.declared.kinds.Symbol.{Symbol}
+use Rattle.std.proofs.Common.{MatchOption, ◌≡◌, inl, inr, ℕ, zero, suc, false, Some, List, [], ◌∷◌}
+use Rattle.std.proofs.Common.{◌++◌, replicate, refl, ap, ◌∙◌, subst, append_assoc, append-nil}
+use Rattle.md_tree.proofs.Common.{option_map, Symbol, Role, Item, Stage, Whole, Marker, Numeric}
+use Rattle.md_tree.proofs.Common.{Hexadecimal, Setext, State, pattern_of, EndsInGroup, begun_by}
+use Rattle.md_tree.proofs.Common.{next_stage, items_of, is_whole, start_of}
 use Rattle.md_pattern.specs.declared.kinds.Symbol.TheVariants as symbol_variants
 use symbol_variants.{ReferenceMarker, ReferenceNumeric, ReferenceHexadecimal, ReferenceValue}
-use symbol_variants.{SetextText, SetextUnderline, LineEnding}
-use Rattle.md_pattern.specs.declared.kinds.Role.{Role}
-use Rattle.md_pattern.specs.declared.kinds.Item.{Item}
-use Rattle.md_pattern.specs.declared.state.Stage.{Stage}
-use Rattle.md_pattern.specs.declared.state.Stage.TheVariants.{Whole, Marker, Numeric, Hexadecimal}
-use Rattle.md_pattern.specs.declared.state.Stage.TheVariants.{Setext}
-use Rattle.md_pattern.specs.declared.state.State.{State}
-use Rattle.md_pattern.specs.Pattern.{pattern_of}
+use symbol_variants.{SetextText, LineEnding}
 use Rattle.md_pattern.specs.Spine.{IsBegunGroup}
-use Rattle.md_tree.specs.Refusal.{EndsInGroup}
-use Rattle.md_pattern.specs.Steps.{begun_by, next_stage, items_of, is_whole, start_of}
 use Rattle.md_tree.proofs.Spots.{At, spot_after, Goes, at_items, Feeds, Goes-from_feeds}
-use Rattle.md_tree.proofs.Groups.{some_stage, spot_whole, spot_inside}
+use Rattle.md_tree.proofs.Groups.{spot_whole, spot_inside}
 
 -- what has been read of a group
 abbrev pub IsHeld : Stage → List Symbol → Type 0
@@ -36,32 +28,16 @@ one_ending_more : (n : ℕ) → replicate n LineEnding ++ LineEnding ∷ [] ≡ 
 one_ending_more zero = refl
 one_ending_more (suc n) = ap (λ s. LineEnding ∷ s) (one_ending_more n)
 
-held_on : (stage : Stage) (symbol : Symbol) (next : Stage) (group : List Symbol) →
-    next_stage stage symbol ≡ Some next → IsHeld stage group → IsHeld next (group ++ symbol ∷ [])
-held_on Whole symbol next group e h = cc
-held_on Marker ReferenceNumeric next group e h =
-    subst (λ st. IsHeld st (group ++ ReferenceNumeric ∷ [])) (some_stage Numeric next e)
-    (ap (λ g. g ++ ReferenceNumeric ∷ []) h)
-held_on Marker ReferenceValue next group e h =
-    subst (λ st. IsHeld st (group ++ ReferenceValue ∷ [])) (some_stage Whole next e) tt
-held_on Marker _ next group e h = cc
-held_on Numeric ReferenceHexadecimal next group e h =
-    subst (λ st. IsHeld st (group ++ ReferenceHexadecimal ∷ [])) (some_stage Hexadecimal next e)
-    (ap (λ g. g ++ ReferenceHexadecimal ∷ []) h)
-held_on Numeric ReferenceValue next group e h =
-    subst (λ st. IsHeld st (group ++ ReferenceValue ∷ [])) (some_stage Whole next e) tt
-held_on Numeric _ next group e h = cc
-held_on Hexadecimal ReferenceValue next group e h =
-    subst (λ st. IsHeld st (group ++ ReferenceValue ∷ [])) (some_stage Whole next e) tt
-held_on Hexadecimal _ next group e h = cc
-held_on Setext LineEnding next group e h =
-    subst (λ st. IsHeld st (group ++ LineEnding ∷ [])) (some_stage Setext next e) (
-      suc h.0,
-      ap (λ g. g ++ LineEnding ∷ []) h.1 ∙ ap (λ s. SetextText ∷ s) (one_ending_more h.0),
-    )
-held_on Setext SetextUnderline next group e h =
-    subst (λ st. IsHeld st (group ++ SetextUnderline ∷ [])) (some_stage Whole next e) tt
-held_on Setext _ next group e h = cc
+held_on : (stage : Stage) (symbol : Symbol) (group : List Symbol) → IsHeld stage group →
+    MatchOption (next_stage stage symbol) (Unit {0}) (λ next. IsHeld next (group ++ symbol ∷ []))
+held_on Marker ReferenceNumeric group h = ap (λ g. g ++ ReferenceNumeric ∷ []) h
+held_on Numeric ReferenceHexadecimal group h = ap (λ g. g ++ ReferenceHexadecimal ∷ []) h
+held_on Hexadecimal ReferenceValue group h = tt
+held_on Setext LineEnding group h = (
+  suc h.0,
+  ap (λ g. g ++ LineEnding ∷ []) h.1 ∙ ap (λ s. SetextText ∷ s) (one_ending_more h.0),
+)
+held_on _ _ group h = tt
 
 -- what has been read so far ends in what is held
 pub record EndsHeld (stage : Stage) (symbols : List Symbol) : Type 0 where
@@ -84,31 +60,24 @@ held_step_whole items left next symbol read e =
 held_step_inside :
     (items left : List Item) (stage next : Stage) (symbol : Symbol) (read : List Symbol) →
     option_map (λ st. At items st) (next_stage stage symbol) ≡ Some (At left next) →
-    EndsHeld stage read →
-    EndsHeld next (read ++ symbol ∷ [])
+    EndsHeld stage read → EndsHeld next (read ++ symbol ∷ [])
 held_step_inside items left stage next symbol read e ends =
     record {
       before = ends.before;
       group = ends.group ++ symbol ∷ [];
       parts =
-          ap (λ s. s ++ symbol ∷ []) ends.parts ∙ append_assoc ends.before ends.group (symbol ∷ []);
-      held = held_on stage symbol next ends.group
-          (spot_inside items left stage next symbol e).1 ends.held;
+          ap (λ s. s ++ symbol ∷ []) ends.parts ∙ append_assoc ends.before ends.group _;
+      held = subst (λ o. MatchOption o (Unit {0}) (λ n. IsHeld n (ends.group ++ symbol ∷ [])))
+          (spot_inside items left stage next symbol e).1
+          (held_on stage symbol ends.group ends.held);
     }
 
-held_step :
-    (stage : Stage) (items left : List Item) (next : Stage) (symbol : Symbol) (read : List Symbol) →
-    spot_after items stage symbol ≡ Some (At left next) → EndsHeld stage read →
-    EndsHeld next (read ++ symbol ∷ [])
+held_step : (stage : Stage) (items left : List Item) (next : Stage) (symbol : Symbol)
+    (read : List Symbol) → spot_after items stage symbol ≡ Some (At left next) →
+    EndsHeld stage read → EndsHeld next (read ++ symbol ∷ [])
 held_step Whole items left next symbol read e ends = held_step_whole items left next symbol read e
-held_step Marker items left next symbol read e ends =
-    held_step_inside items left Marker next symbol read e ends
-held_step Numeric items left next symbol read e ends =
-    held_step_inside items left Numeric next symbol read e ends
-held_step Hexadecimal items left next symbol read e ends =
-    held_step_inside items left Hexadecimal next symbol read e ends
-held_step Setext items left next symbol read e ends =
-    held_step_inside items left Setext next symbol read e ends
+held_step stage items left next symbol read e ends =
+    held_step_inside items left stage next symbol read e ends
 
 held_all : (items left : List Item) (stage last : Stage) (symbols read : List Symbol) →
     Goes items stage symbols (At left last) → EndsHeld stage read → EndsHeld last (read ++ symbols)
@@ -121,8 +90,7 @@ held_all items left stage last [] read g ends =
     }
 held_all items left stage last (symbol ∷ symbols) read g ends =
     subst (λ s. EndsHeld last s) (append_assoc read (symbol ∷ []) symbols)
-    (held_all g.0 left g.1 last symbols (read ++ symbol
-    ∷ []) g.3 (held_step stage items g.0 g.1 symbol read g.2 ends))
+    (held_all g.0 left g.1 last symbols _ g.3 (held_step stage items g.0 g.1 symbol read g.2 ends))
 
 begun_held : (stage : Stage) (group : List Symbol) → is_whole stage ≡ false →
     IsHeld stage group → IsBegunGroup group
@@ -134,10 +102,9 @@ begun_held Setext group e h = inr (inr (inr h))
 
 -- where a group is open, the spine ends in it
 pub EndsInGroup-feeds : (role : Role) (spine : List Symbol) (end : State) →
-    Feeds (start_of role) spine end →
-    is_whole end.stage ≡ false → EndsInGroup spine
+    Feeds (start_of role) spine end → is_whole end.stage ≡ false → EndsInGroup spine
 EndsInGroup-feeds role spine end feeds open_group =
     let ends = held_all (pattern_of role) (items_of end) Whole end.stage spine []
-    (Goes-from_feeds (start_of role) spine end feeds)
+    (Goes-from_feeds _ spine end feeds)
     (record { before = []; group = []; parts = refl; held = tt }) in
     (ends.before, ends.group, ends.parts, begun_held end.stage ends.group open_group ends.held)

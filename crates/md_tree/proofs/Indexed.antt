@@ -2,40 +2,20 @@
 -- in any tree of the events, and no look-up fails.
 use Rattle.std.proofs.Common.{◌≡◌, ℕ, suc, ◌<◌, Bool, true, Option, Some, None, List, [], ◌∷◌, ◌++◌}
 use Rattle.std.proofs.Common.{length, get_or, refl, sym, ap, ◌∙◌, append-nil, arith}
-use Rattle.std.specs.Prelude.{map, option_map, slice_get, option_copied, IsSome}
+use Rattle.std.specs.Prelude.{IsSome, option_copied}
 use Rattle.std.specs.Borrow.{Bor}
-use Rattle.std.specs.List.{All}
-use Rattle.std.proofs.lemmas.List.Elements.{All-cons, All-append, All-nil}
-use Rattle.std.proofs.lemmas.Option.{slice_get-map, slice_get-get_or}
-use Rattle.md_base.specs.declared.event.Point.{Point}
-use Rattle.md_base.specs.declared.event.Position.{Position}
-use Rattle.md_base.specs.declared.event.Name.{Name}
-use Rattle.md_base.specs.declared.event.Kind.TheVariants.{Exit}
-use Rattle.md_base.specs.declared.event.Event.{Event}
-use Rattle.md_base.specs.Place.{text_between, label_between}
-use Rattle.md_pattern.specs.declared.kinds.Symbol.{Symbol}
-use Rattle.md_pattern.specs.declared.kinds.Role.{Role}
-use Rattle.md_pattern.specs.declared.kinds.Role.TheVariants.{Flow}
-use Rattle.md_pattern.specs.declared.kinds.Reading.{Reading}
+use Rattle.md_tree.proofs.Common.{map, option_map, slice_get, All, slice_get-map, slice_get-get_or}
+use Rattle.md_tree.proofs.Common.{Point, Position, Name, Exit, Event, text_between, label_between}
+use Rattle.md_tree.proofs.Common.{Symbol, Role, Flow, Reading, Standing, Solid}
+use Rattle.md_tree.proofs.Common.{Referral, Missing, Rule, Forest, flatten, entering, exiting}
+use Rattle.md_tree.proofs.Common.{standing_of, spine, shown, inner_role, inner_before, last_symbol}
+use Rattle.md_tree.proofs.Common.{place, broken_by, broken_rule, reading_of, MeetRules, target_of}
+use Rattle.md_tree.proofs.Common.{Handed, IsGrammatical, IsReadAs, IsChecked, partner_alone}
+use Rattle.md_tree.proofs.Common.{facts_at, position_from, partner_event, position_ended, ExitsAt}
+use Rattle.md_tree.proofs.Common.{positions_of, has_reading, is_text, is_identifier, length_one}
+use Rattle.md_tree.proofs.Common.{facts-flatten}
 use Rattle.md_pattern.specs.declared.kinds.Reading.TheVariants as reading
-use Rattle.md_pattern.specs.declared.kinds.Standing.{Standing}
-use Rattle.md_pattern.specs.declared.kinds.Standing.TheVariants.{Through, Space, Solid, Mdx}
-use Rattle.md_tree.specs.declared.mention.Referral.{Referral}
-use Rattle.md_tree.specs.declared.mention.Referral.TheVariants.{Missing}
-use Rattle.md_tree.specs.declared.rule.Rule.{Rule}
-use Rattle.md_base.specs.Tree.{Forest, Empty, Node, flatten, entering, exiting}
-use Rattle.md_pattern.specs.Standing.{standing_of}
-use Rattle.md_pattern.specs.Spine.{spine, shown}
-use Rattle.md_pattern.specs.Shape.{inner_role, inner_before, last_symbol}
-use Rattle.md_tree.specs.Rules.{place, broken_by, broken_rule, reading_of, MeetRules, target_of}
-use Rattle.md_tree.specs.Grammar.{Handed, IsGrammatical, IsReadAs, IsChecked}
-use Rattle.md_pattern.specs.Partners.{index_after}
-use Rattle.md_pattern.specs.Facts.{partner_alone, tables_with, tables_after, facts_at}
-use Rattle.md_tree.specs.Found.{position_from, partner_event, position_ended}
-use Rattle.md_tree.specs.Texts.{ExitsAt, positions_of, has_reading, is_text, is_identifier}
-use Rattle.md_pattern.proofs.CountedFacts.{length_one}
-use Rattle.md_pattern.proofs.Passing.{facts-flatten}
-use Rattle.md_tree.proofs.EventRows.{Row, entry_row, exit_row, rows_of, event_rows, fact_rows}
+use Rattle.md_tree.proofs.EventRows.{rows_all, Steps, Row, rows_of, event_rows, fact_rows}
 use Rattle.md_tree.proofs.EventRows.{position_rows}
 use Rattle.md_tree.proofs.Entering.{get_at, got_inside, got_mapped, mapped_long}
 use Rattle.md_tree.proofs.Placing.{at_entry, in_node, after_node, length_events}
@@ -61,52 +41,63 @@ HaveText bytes names is text =
     broken_rule bytes names (reading_of standing) around before start end target ≡ None →
     has_reading is standing ≡ true → (found : List ℕ) × (text start end ≡ Some found)
 
-rows_ended :
-    (bytes : List ℕ) (names : List (List ℕ × List ℕ)) (is : Reading → Bool) (text : Point → Point →
-    Option (List ℕ)) → HaveText bytes names is text →
-    (events : List Event) (forest : Forest) (around : Role)
-    (before : Option Symbol) → MeetRules bytes names forest around before →
-    (index tables : ℕ) (seen later : List Event) → length seen ≡ index →
-    events ≡ seen ++ (flatten forest ++ later) →
-    All (IsEnded events is text) (rows_of index tables forest)
-rows_ended bytes names is text have events Empty around before meets index
-    tables seen later e same =
-    All-nil (IsEnded events is text)
-rows_ended bytes names is text have events (Node name start end children rest) around before meets
-    index tables seen later e same =
-    let st = standing_of name in
-    let exit = index_after (suc index) children in
-    let more = tables_with name (tables_after tables children) in
-    let first = entering name start in
-    let last = exiting name end in
-    let inner = flatten children in
-    let holds = IsEnded events is text in
-    let rows_after = rows_of (suc exit) more rest in
-    let one = length_one seen first ∙ ap suc e in
-    let inside = length_events children (suc index) (seen ++ first ∷ []) one in
-    let there : slice_get events index ≡ Some first = ap (λ es. slice_get es index)
-    (at_entry events seen inner (flatten rest) later first last same)
-    ∙ get_at seen (inner ++ (last ∷ (flatten rest ++ later))) first index e in
-    let entry_ended : holds (entry_row index tables name first children) = λ exits. cc in
-    let exit_ended : holds (exit_row exit index name start end) =
-    λ exits. (
-      place start end,
-      refl,
-      ap (λ o. position_from o (Some last)) there,
-      λ reads. have st around before start end (target_of children Missing) meets.0 reads,
-    ) in
-    All-cons holds (entry_row index tables name first children) (rows_of (suc index) tables children
-    ++ exit_row exit index name start end ∷ rows_after) entry_ended
-    (All-append holds (rows_of (suc index) tables children)
-    (exit_row exit index name start end ∷ rows_after)
-    (rows_ended bytes names is text have events children (inner_role st around before)
-    (inner_before st before) meets.1 (suc index) tables (seen ++ first ∷ []) (last
-    ∷ (flatten rest ++ later)) one (in_node events seen inner (flatten rest) later first last same))
-    (All-cons holds (exit_row exit index name start end) rows_after exit_ended (rows_ended bytes
-    names is text have events rest around (last_symbol before (shown st (spine children))) meets.2
-    (suc exit) more (((seen ++ first ∷ []) ++ inner) ++ last
-    ∷ []) later (length_one ((seen ++ first ∷ []) ++ inner) last
-    ∙ ap suc inside) (after_node events seen inner (flatten rest) later first last same))))
+-- where the nodes are among the events, and that they break no rule
+abbrev Lies : List ℕ → List (List ℕ × List ℕ) → List Event → ℕ → ℕ → Forest → Type 0
+Lies bytes names events index tables nodes =
+    (around : Role) × (before : Option Symbol) × (seen : List Event) × (later : List Event)
+    × MeetRules bytes names nodes around before × (length seen ≡ index)
+    × (events ≡ seen ++ (flatten nodes ++ later))
+
+rows_ended : (bytes : List ℕ) (names : List (List ℕ × List ℕ)) (is : Reading → Bool)
+    (text : Point → Point → Option (List ℕ)) → HaveText bytes names is text →
+    (events : List Event) (forest : Forest) → Lies bytes names events 0 0 forest →
+    All (IsEnded events is text) (rows_of 0 0 forest)
+rows_ended bytes names is text have events forest lies =
+    rows_all (IsEnded events is text) (Lies bytes names events) step forest 0 0 lies
+  where
+    step : Steps (IsEnded events is text) (Lies bytes names events)
+    step index tables name start end children rest holds =
+        let st = standing_of name in
+        let around = holds.0 in
+        let before = holds.1 in
+        let seen = holds.2 in
+        let later = holds.3 in
+        let meets = holds.4 in
+        let same = holds.6 in
+        let first = entering name start in
+        let last = exiting name end in
+        let inner = flatten children in
+        let one = length_one seen first ∙ ap suc holds.5 in
+        let inside = length_events children (suc index) (seen ++ first ∷ []) one in
+        let there : slice_get events index ≡ Some first = ap (λ es. slice_get es index)
+        (at_entry events seen inner (flatten rest) later first last same)
+        ∙ get_at seen _ first index holds.5 in (
+          λ exits. cc,
+          λ exits. (
+            place start end,
+            refl,
+            ap (λ o. position_from o (Some last)) there,
+            λ reads. have st around before start end (target_of children Missing) meets.0 reads,
+          ),
+          (
+            inner_role st around before,
+            inner_before st before,
+            seen ++ first ∷ [],
+            last ∷ (flatten rest ++ later),
+            meets.1,
+            one,
+            in_node events seen inner (flatten rest) later first last same,
+          ),
+          (
+            around,
+            last_symbol before (shown st (spine children)),
+            ((seen ++ first ∷ []) ++ inner) ++ last ∷ [],
+            later,
+            meets.2,
+            length_one ((seen ++ first ∷ []) ++ inner) last ∙ ap suc inside,
+            after_node events seen inner (flatten rest) later first last same,
+          ),
+        )
 
 -- ---- names with a text
 text_where : (o : Option (List ℕ)) (judged : List ℕ → Option Rule) → broken_by o judged ≡ None →
@@ -114,44 +105,38 @@ text_where : (o : Option (List ℕ)) (judged : List ℕ → Option Rule) → bro
 text_where None judged e = cc
 text_where (Some found) judged e = (found, refl)
 
-text_read : (bytes : List ℕ) (names : List (List ℕ × List ℕ)) (reads : Reading) (around : Role)
-    (before : Option Symbol) (start end : Point) (target : Referral) →
-    broken_rule bytes names reads around before start end target ≡ None → is_text reads ≡ true →
-    (found : List ℕ) × (text_between bytes start end ≡ Some found)
-text_read bytes names reading.Text around before start end target e is =
-    text_where (text_between bytes start end) _ e
-text_read bytes names reading.LineEnding around before start end target e is =
-    text_where (text_between bytes start end) _ e
-text_read bytes names reading.Number around before start end target e is =
-    text_where (text_between bytes start end) _ e
-text_read bytes names reading.Value around before start end target e is =
-    text_where (text_between bytes start end) _ e
-text_read bytes names _ around before start end target e is = cc
+module _ (bytes : List ℕ) (names : List (List ℕ × List ℕ)) where
+  text_read : (reads : Reading) (around : Role) (before : Option Symbol) (start end : Point)
+      (target : Referral) → broken_rule bytes names reads around before start end target ≡ None →
+      is_text reads ≡ true → (found : List ℕ) × (text_between bytes start end ≡ Some found)
+  text_read reading.Text around before start end target e is =
+      text_where _ _ e
+  text_read reading.LineEnding around before start end target e is =
+      text_where _ _ e
+  text_read reading.Number around before start end target e is =
+      text_where _ _ e
+  text_read reading.Value around before start end target e is =
+      text_where _ _ e
+  text_read _ around before start end target e is = cc
 
-label_read : (bytes : List ℕ) (names : List (List ℕ × List ℕ)) (reads : Reading) (around : Role)
-    (before : Option Symbol) (start end : Point) (target : Referral) →
-    broken_rule bytes names reads around before start end target ≡ None →
-    is_identifier reads ≡ true →
-    (found : List ℕ) × (label_between bytes start end ≡ Some found)
-label_read bytes names reading.Identifier around before start end target e is =
-    text_where (label_between bytes start end) _ e
-label_read bytes names _ around before start end target e is = cc
+  label_read : (reads : Reading) (around : Role) (before : Option Symbol) (start end : Point)
+      (target : Referral) → broken_rule bytes names reads around before start end target ≡ None →
+      is_identifier reads ≡ true → (found : List ℕ) × (label_between bytes start end ≡ Some found)
+  label_read reading.Identifier around before start end target e is =
+      text_where _ _ e
+  label_read _ around before start end target e is = cc
 
 pub text_names : (bytes : List ℕ) (names : List (List ℕ × List ℕ)) →
     HaveText bytes names is_text (text_between bytes)
-text_names bytes names Through around before start end target e is = cc
-text_names bytes names Space around before start end target e is = cc
 text_names bytes names (Solid symbol usual reading) around before start end target e is =
     text_read bytes names reading around before start end target e is
-text_names bytes names Mdx around before start end target e is = cc
+text_names bytes names _ around before start end target e is = cc
 
 pub identifier_names : (bytes : List ℕ) (names : List (List ℕ × List ℕ)) →
     HaveText bytes names is_identifier (label_between bytes)
-identifier_names bytes names Through around before start end target e is = cc
-identifier_names bytes names Space around before start end target e is = cc
 identifier_names bytes names (Solid symbol usual reading) around before start end target e is =
     label_read bytes names reading around before start end target e is
-identifier_names bytes names Mdx around before start end target e is = cc
+identifier_names bytes names _ around before start end target e is = cc
 
 -- ---- at an index
 
@@ -170,9 +155,8 @@ one_position : (o : Option Position) (one other : Position) → o ≡ Some one �
     o ≡ Some other → other ≡ one
 one_position o one other e f = cc
 
-pub EndedAt-checked : (is : Reading → Bool) (text : Point → Point →
-    Option (List ℕ)) (given : Handed) (index : ℕ) (name : Name) →
-    HaveText given.bytes given.names is text →
+pub EndedAt-checked : (is : Reading → Bool) (text : Point → Point → Option (List ℕ))
+    (given : Handed) (index : ℕ) (name : Name) → HaveText given.bytes given.names is text →
     IsChecked given → ExitsAt given.events index name → has_reading is (standing_of name) ≡ true →
     EndedAt text given index
 EndedAt-checked is text given index name have checked exits reads =
@@ -196,15 +180,20 @@ EndedAt-checked is text given index name have checked exits reads =
     let in_events = got_inside events index event exits.1 in
     let inside : index < length rows = omega arith in
     let event_is : row.event ≡ event =
-    got_mapped (λ (r : Row). r.event) rows events index past event events_are
-    inside exits.1 in
+    got_mapped (λ (r : Row). r.event) rows events index past event events_are inside exits.1 in
     let fact_is : slice_get (facts_at events) index ≡ Some row.fact =
     ap (λ fs. slice_get fs index) (sym facts_are)
     ∙ slice_get-map (λ (r : Row). r.fact) rows index ∙ ap (option_map (λ (r : Row). r.fact))
     (slice_get-get_or rows index past inside) in
-    let all = rows_ended given.bytes given.names is text have events forest Flow None
-    (IsGrammatical.rules (IsReadAs.grammatical checked.1)) 0 0 [] [] refl (sym flattened
-    ∙ sym (append-nil (flatten forest))) in
+    let all = rows_ended given.bytes given.names is text have events forest (
+      Flow,
+      None,
+      [],
+      [],
+      IsGrammatical.rules (IsReadAs.grammatical checked.1),
+      refl,
+      sym flattened ∙ sym (append-nil (flatten forest)),
+    ) in
     let here = all index past inside (ap (λ (e : Event). e.kind) event_is ∙ exits.2) in
     let text_here = here.3 (ap (λ (e : Event). has_reading is (standing_of e.name)) event_is
     ∙ ap (λ n. has_reading is (standing_of n)) exits.3 ∙ reads) in
@@ -220,34 +209,45 @@ EndedAt-checked is text given index name have checked exits reads =
           flatten_one event.name event.point other forest (same ∙ sym flattened) in
           let got = ap (λ f. slice_get (positions_of f) index) (sym one) ∙ positioned in
           one_position row.position here.0 position here.1
-          (got_mapped (λ (r : Row). r.position) rows (positions_of forest) index past
-          (Some position) (position_rows forest 0 0) inside got);
+          (got_mapped (λ (r : Row). r.position) rows _ index past
+          _ (position_rows forest 0 0) inside got);
     }
 
--- what is read at the place is the text of the node in any document of the events
-pub EndedAt-text : (text : Point → Point → Option (List ℕ)) (given : Handed) (index : ℕ)
-    (ended : EndedAt text given index) (result : List ℕ) → Some ended.found ≡ Some result →
-    (forest : Forest) (position : Position) → flatten forest ≡ given.events →
-    slice_get (positions_of forest) index ≡ Some (Some position) →
-    text position.start position.end ≡ Some result
-EndedAt-text text given index ended result same forest position flattened got =
-    ap (λ (p : Position). text p.start p.end) (ended.position_is forest position flattened got)
-    ∙ ended.is_found ∙ same
+-- what the calls owe that read such a text: the place that is looked up is there, and a text is,
+-- which is that of the node in any document of the events
+pub record ReadAt (text : Point → Point → Option (List ℕ)) (given : Handed) (index : ℕ)
+    (place : Option Position) : Type 0 where
+  pub there : IsSome place
+  pub text_there : (position : Position) (read : Option (Bor (List ℕ))) → place ≡ Some position →
+      option_copied read ≡ text position.start position.end → IsSome read
+  pub text_is : (position : Position) (read : Option (Bor (List ℕ))) (result : Bor (List ℕ)) →
+      place ≡ Some position → option_copied read ≡ text position.start position.end →
+      read ≡ Some result → (forest : Forest) (other : Position) → flatten forest ≡ given.events →
+      slice_get (positions_of forest) index ≡ Some (Some other) →
+      text other.start other.end ≡ Some result.now
 
--- and of what a look-up gives
-pub EndedAt-read : (text : Point → Point → Option (List ℕ)) (given : Handed) (index : ℕ)
-    (ended : EndedAt text given index) (o : Option Position) (position : Position) →
-    o ≡ position_ended given.events (facts_at given.events) index → o ≡ Some position →
-    text position.start position.end ≡ Some ended.found
-EndedAt-read text given index ended o position is some =
-    ap (λ (p : Position). text p.start p.end) (one_position (position_ended given.events
-    (facts_at given.events) index) ended.position position ended.there (sym is ∙ some))
-    ∙ ended.is_found
-
-pub place_some : (o : Option Position) (x : Position) → o ≡ Some x → IsSome o
+place_some : (o : Option Position) (x : Position) → o ≡ Some x → IsSome o
 place_some None x e = cc
 place_some (Some o) x e = refl
 
-pub copied_some : (r : Option (Bor (List ℕ))) (x : List ℕ) → option_copied r ≡ Some x → IsSome r
+copied_some : (r : Option (Bor (List ℕ))) (x : List ℕ) → option_copied r ≡ Some x → IsSome r
 copied_some None x e = cc
 copied_some (Some r) x e = refl
+
+pub ReadAt-ended : (text : Point → Point → Option (List ℕ)) (given : Handed) (index : ℕ)
+    (place : Option Position) → EndedAt text given index →
+    place ≡ position_ended given.events (facts_at given.events) index →
+    ReadAt text given index place
+ReadAt-ended text given index place ended is =
+    let found : (position : Position) → place ≡ Some position →
+    text position.start position.end ≡ Some ended.found = λ position some.
+    ap (λ (p : Position). text p.start p.end)
+    (one_position _ ended.position position ended.there (sym is ∙ some)) ∙ ended.is_found in
+    record {
+      there = place_some place ended.position (is ∙ ended.there);
+      text_there = λ position read some copied.
+          copied_some read ended.found (copied ∙ found position some);
+      text_is = λ position read result some copied given_it forest other flattened got.
+          ap (λ (p : Position). text p.start p.end) (ended.position_is forest other flattened got)
+          ∙ ended.is_found ∙ sym (found position some) ∙ sym copied ∙ ap option_copied given_it;
+    }

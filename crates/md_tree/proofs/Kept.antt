@@ -2,40 +2,23 @@
 -- of `Checked` only look something up: what they answer is right by this.
 use Rattle.std.proofs.Common.{◌≡◌, ℕ, ◌<◌, Bool, true, Option, Some, List, length, refl, sym, ap}
 use Rattle.std.proofs.Common.{◌∙◌, subst}
-use Rattle.std.specs.Prelude.{map, slice_get}
-use Rattle.std.specs.List.{All}
-use Rattle.std.proofs.lemmas.List.{length-map}
-use Rattle.md_base.specs.declared.event.Point.{Point}
-use Rattle.md_base.specs.declared.event.Position.{Position}
-use Rattle.md_base.specs.declared.event.Name.{Name}
-use Rattle.md_base.specs.declared.event.Name.TheVariants.{Definition, GfmTable}
-use Rattle.md_tree.specs.declared.checked.Checked.TheInside.{Inside}
-use Rattle.md_pattern.specs.declared.facts.Fact.{Fact}
-use Rattle.md_pattern.specs.declared.kinds.Reading.{Reading}
-use Rattle.md_base.specs.Tree.{Forest, flatten}
-use Rattle.md_pattern.specs.Alignments.{alignments}
-use Rattle.md_tree.specs.Grammar.{Handed, IsReadAs, IsChecked}
-use Rattle.md_pattern.specs.Standing.{standing_of}
-use Rattle.md_tree.specs.Texts.{EntersAt, ExitsAt, has_reading}
-use Rattle.md_tree.specs.Entered.{IsEnteredAt, EntersNode}
-use Rattle.md_tree.specs.Checked.{handed_of, IsKept}
-use Rattle.md_pattern.specs.Facts.{facts_at, tables_at, definitions_at, fact_at}
-use Rattle.md_tree.specs.Found.{EntersSome, IsFactAt, position_ended}
-use Rattle.md_tree.specs.Indices.{AreDefinitions}
-use Rattle.md_tree.specs.Mentions.{mentions_of, mention_of}
-use Rattle.md_base.specs.declared.event.Event.{Event}
-use Rattle.md_base.specs.declared.event.Kind.TheVariants.{Exit}
-use Rattle.md_tree.specs.declared.mention.Mention.{Mention}
-use Rattle.md_tree.specs.declared.mention.Referral.{Referral}
-use Rattle.md_tree.specs.Rules.{reading_of}
-use Rattle.md_tree.specs.Numbers.{number_for, with_number, facts_with, AreNumbered, ExitsOf}
-use Rattle.md_tree.specs.Numbers.{is_of_definitions, definition_for}
-use Rattle.md_tree.specs.Numbers.{place_of}
+use Rattle.md_tree.proofs.Common.{map, slice_get, All, length-map, Point, Position, Name, GfmTable}
+use Rattle.md_tree.proofs.Common.{Inside, Fact, Reading, Forest, flatten, alignments, Handed}
+use Rattle.md_tree.proofs.Common.{IsReadAs, IsChecked, standing_of, EntersAt, ExitsAt, has_reading}
+use Rattle.md_tree.proofs.Common.{IsEnteredAt, EntersNode, handed_of, IsKept, facts_at, tables_at}
+use Rattle.md_tree.proofs.Common.{fact_at, EntersSome, position_ended, AreDefinitions, mentions_of}
+use Rattle.md_tree.proofs.Common.{mention_of, Event, Exit, Mention, Referral, reading_of}
+use Rattle.md_tree.proofs.Common.{number_for, with_number, facts_with, is_of_definitions}
+use Rattle.md_tree.proofs.Common.{definition_for, place_of}
+use Rattle.md_base.specs.declared.event.Name.TheVariants.{Definition}
+use Rattle.md_pattern.specs.Facts.{definitions_at}
+use Rattle.md_tree.specs.Found.{IsFactAt}
+use Rattle.md_tree.specs.Numbers.{AreNumbered, ExitsOf}
 use Rattle.md_tree.proofs.Numbers.{recorded-at, got-with, ended-with, length-with, kept-number}
 use Rattle.md_tree.proofs.Numbers.{number-definition}
 use Rattle.md_tree.proofs.Defining.{definitions-entered}
 use Rattle.md_pattern.proofs.Passing.{definitions-flatten}
-use Rattle.md_tree.proofs.Indexed.{HaveText, EndedAt, EndedAt-checked}
+use Rattle.md_tree.proofs.Indexed.{HaveText, EndedAt-checked, ReadAt, ReadAt-ended}
 use Rattle.md_tree.proofs.Entering.{got_inside, EntersNode-entered, found-entered, facts_at-inside}
 
 module _ (inside : Inside) (given : Handed) (index : ℕ) (kept : IsKept inside)
@@ -52,15 +35,13 @@ module _ (inside : Inside) (given : Handed) (index : ℕ) (kept : IsKept inside)
 
   -- at an entry no number is kept
   entry-got : (name : Name) → EntersAt given.events index name → (fact : Fact) →
-      slice_get inside.facts index ≡ Some fact →
-      slice_get (facts_at given.events) index ≡ Some fact
+      slice_get inside.facts index ≡ Some fact → slice_get (facts_at given.events) index ≡ Some fact
   entry-got name enters fact got =
       let here = recorded-at kept.0.0 given.events index enters.0 flattened enters.1 in
       let kept_here =
       got-with (number_for given.bytes (mentions_of kept.0.0)) (mentions_of kept.0.0)
-      (facts_at given.events) index here.0 here.1 here.2 here.3 in
-      here.2
-      ∙ ap (λ m. Some (with_number (number_for given.bytes (mentions_of kept.0.0) m) here.0))
+      _ index here.0 here.1 here.2 here.3 in
+      here.2 ∙ ap (λ m. Some (with_number (number_for given.bytes (mentions_of kept.0.0) m) here.0))
       (sym (here.4.0 enters.2))
       ∙ sym kept_here ∙ ap (λ xs. slice_get xs index) (sym facts_are) ∙ got
 
@@ -78,26 +59,22 @@ module _ (inside : Inside) (given : Handed) (index : ℕ) (kept : IsKept inside)
       (sym (definitions-kept kept.0.0 flattened))
       (definitions-entered given.events kept.0.0 flattened)
 
-  -- an exit
+  -- an exit, whose place is looked up
   pub ended-kept : (is : Reading → Bool) (text : Point → Point → Option (List ℕ)) (name : Name) →
       HaveText given.bytes given.names is text → ExitsAt given.events index name →
-      has_reading is (standing_of name) ≡ true → EndedAt text given index
-  ended-kept is text name have exits reads =
-      EndedAt-checked is text given index name have (subst IsChecked same kept.0) exits reads
-
-  -- the place that is looked up
-  pub ended-place : (found : Option Position) →
-      found ≡ position_ended inside.events.now inside.facts index →
-      found ≡ position_ended given.events (facts_at given.events) index
-  ended-place found is =
-      is ∙ ap (λ (g : Handed). position_ended g.events inside.facts index) same
+      has_reading is (standing_of name) ≡ true → (place : Option Position) →
+      place ≡ position_ended inside.events.now inside.facts index → ReadAt text given index place
+  ended-kept is text name have exits reads place place_is =
+      ReadAt-ended text given index place (EndedAt-checked is text given index name have
+      (subst IsChecked same kept.0) exits reads)
+      (place_is ∙ ap (λ (g : Handed). position_ended g.events inside.facts index) same
       ∙ ap (λ fs. position_ended given.events fs index) facts_are
-      ∙ ended-with given.events numbers (facts_at given.events) index
+      ∙ ended-with given.events numbers _ index)
 
   pub facts-inside : EntersSome given.events index → index < length inside.facts
   facts-inside enters =
       subst (λ xs. index < length xs) (sym facts_are)
-      (subst (λ n. index < n) (sym (length-with numbers (facts_at given.events)))
+      (subst (λ n. index < n) (sym (length-with numbers _))
       (facts_at-inside given index enters.0 enters.1 kept.0.0 flattened))
 
   pub node-entered : EntersSome given.events index → EntersNode given index
@@ -131,15 +108,11 @@ module _ (inside : Inside) (given : Handed) (index : ℕ) (kept : IsKept inside)
       (columns-kept enters fact got node.0 node.1))
 
   -- the number at an exit
-  pub exit-inside : (is : Name → Bool) → ExitsOf is given.events index →
-      index < length inside.facts
+  pub exit-inside : (is : Name → Bool) → ExitsOf is given.events index → index < length inside.facts
   exit-inside is exits =
       let here = recorded-at kept.0.0 given.events index exits.1.0 flattened exits.1.1 in
-      got_inside inside.facts index
-      (with_number (number_for given.bytes (mentions_of kept.0.0) here.1) here.0)
-      (ap (λ xs. slice_get xs index) facts_are
-      ∙ got-with (number_for given.bytes (mentions_of kept.0.0)) (mentions_of kept.0.0)
-      (facts_at given.events) index here.0 here.1 here.2 here.3)
+      got_inside inside.facts index _ (ap (λ xs. slice_get xs index) facts_are ∙ got-with _ _
+      _ index here.0 here.1 here.2 here.3)
 
   number-kept : (event : Event) → slice_get given.events index ≡ Some event →
       event.kind ≡ Exit → (fact : Fact) →
@@ -152,15 +125,11 @@ module _ (inside : Inside) (given : Handed) (index : ℕ) (kept : IsKept inside)
       let number = number_for given.bytes (mentions_of forest) in
       let one : recorded.1 ≡ mention = one_some recorded.1 mention (sym recorded.3 ∙ here) in
       let two : with_number (number recorded.1) recorded.0 ≡ fact =
-      one_some (with_number (number recorded.1) recorded.0) fact
-      (sym (got-with number (mentions_of forest)
-      (facts_at given.events) index recorded.0 recorded.1 recorded.2 recorded.3) ∙ ap
-      (λ xs. slice_get xs index)
+      one_some (with_number _ recorded.0) fact (sym (got-with number _
+      _ index recorded.0 recorded.1 recorded.2 recorded.3) ∙ ap (λ xs. slice_get xs index)
       (sym (subst (λ g. AreNumbered g inside.facts) same kept.1 forest flattens)) ∙ got) in
       let at_exit = recorded.4.1 exits in (
-        ap (λ (f : Fact). f.read_at) (sym two) ∙ kept-number (number recorded.1) recorded.0
-            at_exit.0
-            ∙ ap number one,
+        ap (λ (f : Fact). f.read_at) (sym two) ∙ kept-number _ recorded.0 at_exit.0 ∙ ap number one,
         (at_exit.1.0, sym one ∙ at_exit.1.1),
       )
     where

@@ -1,20 +1,13 @@
 -- The least node of each symbol that must be there, or that ends a group, has the shape of the
 -- grammar.
 use Rattle.std.proofs.Common.{◌≡◌, ◌≢◌, Bool, true, false, Option, Some, None, List, [], ◌∷◌, ◌++◌}
-use Rattle.std.proofs.Common.{refl, ap, ◌∙◌}
-use Rattle.std.specs.List.{list_all}
-use Rattle.md_base.specs.declared.event.Point.{Point}
-use Rattle.md_base.specs.declared.event.Name.{Name}
+use Rattle.std.proofs.Common.{cond, subst, refl, ap, ◌∙◌}
+use Rattle.md_tree.proofs.Common.{list_all, Point, Name, Symbol, Role, Forest, Empty, Node, spine}
+use Rattle.md_tree.proofs.Common.{IsShapedNode, AreShaped, start_of, may_hold, Matches}
 use Rattle.md_base.specs.declared.event.Name.TheVariants as name
-use Rattle.md_pattern.specs.declared.kinds.Symbol.{Symbol}
 use Rattle.md_pattern.specs.declared.kinds.Symbol.TheVariants as symbol
-use Rattle.md_pattern.specs.declared.kinds.Role.{Role}
 use Rattle.md_pattern.specs.declared.kinds.Role.TheVariants as role
-use Rattle.md_base.specs.Tree.{Forest, Empty, Node}
-use Rattle.md_pattern.specs.Spine.{spine}
-use Rattle.md_pattern.specs.Shape.{IsShapedNode, AreShaped, item_in, prefix_in, label_in}
-use Rattle.md_pattern.specs.Shape.{code_fence_after, math_fence_after, last_symbol}
-use Rattle.md_pattern.specs.Steps.{start_of, may_hold}
+use Rattle.md_pattern.specs.Shape.{item_in, prefix_in, label_in, code_fence_after, math_fence_after}
 use Rattle.md_tree.proofs.SettledPatterns.{and_left, and_right}
 use Rattle.md_tree.proofs.OpenPaths.{joined, spine-joined, EachNode-joined}
 use Rattle.md_tree.proofs.ClosedNodes.{not_childless}
@@ -57,53 +50,31 @@ least _ = Empty
 
 -- the symbol has one
 abbrev pub has_least : Symbol → Bool
-has_least symbol.ReferenceValue = true
-has_least symbol.SetextUnderline = true
-has_least symbol.FootnotePrefix = true
-has_least symbol.FootnoteLabel = true
-has_least symbol.ListItem = true
-has_least symbol.ListItemPrefix = true
-has_least symbol.ListItemMarker = true
-has_least symbol.HeadingSequence = true
-has_least symbol.CodeFence = true
-has_least symbol.MathFence = true
-has_least symbol.Label = true
-has_least symbol.LabelText = true
-has_least symbol.DefinitionLabel = true
-has_least symbol.TableHead = true
-has_least symbol.TableRow = true
-has_least symbol.TableDelimiterRow = true
-has_least _ = false
+has_least one = elim (least one) [ Empty ↦ false | _ ↦ true ]
 
 -- ---- the least nodes have the shape of the grammar
+
+-- a role whose spine may end after these symbols
+abbrev Ends : Role → List Symbol → Type 0
+Ends around symbols = (ends_after (start_of around) symbols ≡ true) × (may_hold around ≡ true)
+
 item_ends : (around : Role) (before : Option Symbol) →
-    ends_after (start_of (item_in around before)) (symbol.ListItemPrefix ∷ []) ≡ true
-item_ends role.OrderedList None = refl
-item_ends role.OrderedList (Some before) = refl
-item_ends _ before = refl
+    Ends (item_in around before) (symbol.ListItemPrefix ∷ [])
+item_ends role.OrderedList None = (refl, refl)
+item_ends role.OrderedList (Some before) = (refl, refl)
+item_ends _ before = (refl, refl)
 
-item_holds : (around : Role) (before : Option Symbol) → may_hold (item_in around before) ≡ true
-item_holds role.OrderedList None = refl
-item_holds role.OrderedList (Some before) = refl
-item_holds _ before = refl
+prefix_ends : (around : Role) → Ends (prefix_in around) (symbol.ListItemMarker ∷ [])
+prefix_ends role.FirstOrderedItem = (refl, refl)
+prefix_ends _ = (refl, refl)
 
-prefix_ends : (around : Role) →
-    ends_after (start_of (prefix_in around)) (symbol.ListItemMarker ∷ []) ≡ true
-prefix_ends role.FirstOrderedItem = refl
-prefix_ends _ = refl
+label_ends : (around : Role) → Ends (label_in around) (symbol.LabelText ∷ [])
+label_ends role.FootnoteCall = (refl, refl)
+label_ends _ = (refl, refl)
 
-prefix_holds : (around : Role) → may_hold (prefix_in around) ≡ true
-prefix_holds role.FirstOrderedItem = refl
-prefix_holds _ = refl
-
-label_ends : (around : Role) →
-    ends_after (start_of (label_in around)) (symbol.LabelText ∷ []) ≡ true
-label_ends role.FootnoteCall = refl
-label_ends _ = refl
-
-label_holds : (around : Role) → may_hold (label_in around) ≡ true
-label_holds role.FootnoteCall = refl
-label_holds _ = refl
+-- a spine without symbols may end
+bare : (around : Role) → ends_after (start_of around) [] ≡ true → Matches around []
+bare around e = matches_after around [] e
 
 code_fence_ends : (before : Option Symbol) →
     ends_after (start_of (code_fence_after before)) [] ≡ true
@@ -118,9 +89,9 @@ math_fence_ends (Some before) = refl
 prefix_shaped : (around : Role) (before : Option Symbol) → around ≢ role.Childless →
     AreShaped (least symbol.ListItemPrefix) around before
 prefix_shaped around before apart =
-    let inner = not_childless (prefix_in around) (prefix_holds around) in (
-      (apart, matches_after (prefix_in around) (symbol.ListItemMarker ∷ []) (prefix_ends around)),
-      ((inner, matches_after role.Empty [] refl), tt, tt),
+    let inner = not_childless (prefix_in around) (prefix_ends around).1 in (
+      (apart, matches_after _ _ (prefix_ends around).0),
+      ((inner, bare role.Empty refl), tt, tt),
       tt,
     )
 
@@ -129,19 +100,18 @@ item_shaped : (around : Role) (before : Option Symbol) → around ≢ role.Child
 item_shaped around before apart = (
   (
     apart,
-    matches_after (item_in around before) (symbol.ListItemPrefix ∷ []) (item_ends around before),
+    matches_after (item_in around before) (symbol.ListItemPrefix ∷ []) (item_ends around before).0,
   ),
-  prefix_shaped (item_in around before) None
-      (not_childless (item_in around before) (item_holds around before)),
+  prefix_shaped (item_in around before) None (not_childless _ (item_ends around before).1),
   tt,
 )
 
 label_shaped : (around : Role) (before : Option Symbol) → around ≢ role.Childless →
     AreShaped (least symbol.Label) around before
 label_shaped around before apart =
-    let inner = not_childless (label_in around) (label_holds around) in (
-      (apart, matches_after (label_in around) (symbol.LabelText ∷ []) (label_ends around)),
-      ((inner, matches_after role.Phrasing [] refl), tt, tt),
+    let inner = not_childless (label_in around) (label_ends around).1 in (
+      (apart, matches_after _ _ (label_ends around).0),
+      ((inner, bare role.Phrasing refl), tt, tt),
       tt,
     )
 
@@ -149,8 +119,8 @@ footnote_shaped : (around : Role) (before : Option Symbol) → around ≢ role.C
     AreShaped (least symbol.FootnotePrefix) around before
 footnote_shaped around before apart =
     let inner = not_childless role.FootnotePrefix refl in (
-      (apart, matches_after role.FootnotePrefix (symbol.FootnoteLabel ∷ []) refl),
-      ((inner, matches_after role.String [] refl), tt, tt),
+      (apart, matches_after role.FootnotePrefix _ refl),
+      ((inner, bare role.String refl), tt, tt),
       tt,
     )
 
@@ -158,64 +128,37 @@ head_shaped : (around : Role) (before : Option Symbol) → around ≢ role.Child
     AreShaped (least symbol.TableHead) around before
 head_shaped around before apart =
     let inner = not_childless role.TableHead refl in (
-      (apart, matches_after role.TableHead (symbol.TableRow ∷ symbol.TableDelimiterRow ∷ []) refl),
-      (
-        (inner, matches_after role.TableRow [] refl),
-        tt,
-        ((inner, matches_after role.TableDelimiterRow [] refl), tt, tt),
-      ),
+      (apart, matches_after role.TableHead _ refl),
+      ((inner, bare role.TableRow refl), tt, ((inner, bare role.TableDelimiterRow refl), tt, tt)),
       tt,
     )
 
 least_shaped : (one : Symbol) (around : Role) (before : Option Symbol) → around ≢ role.Childless →
     has_least one ≡ true → AreShaped (least one) around before
-least_shaped symbol.ReferenceValue around before apart e =
-    ((apart, matches_after role.Empty [] refl), tt, tt)
-least_shaped symbol.SetextUnderline around before apart e =
-    ((apart, matches_after role.Empty [] refl), tt, tt)
+least_shaped symbol.ReferenceValue _ _ apart e = ((apart, bare role.Empty refl), tt, tt)
+least_shaped symbol.SetextUnderline _ _ apart e = ((apart, bare role.Empty refl), tt, tt)
 least_shaped symbol.FootnotePrefix around before apart e = footnote_shaped around before apart
-least_shaped symbol.FootnoteLabel around before apart e =
-    ((apart, matches_after role.String [] refl), tt, tt)
+least_shaped symbol.FootnoteLabel _ _ apart e = ((apart, bare role.String refl), tt, tt)
 least_shaped symbol.ListItem around before apart e = item_shaped around before apart
 least_shaped symbol.ListItemPrefix around before apart e = prefix_shaped around before apart
-least_shaped symbol.ListItemMarker around before apart e =
-    ((apart, matches_after role.Empty [] refl), tt, tt)
-least_shaped symbol.HeadingSequence around before apart e =
-    ((apart, matches_after role.Empty [] refl), tt, tt)
+least_shaped symbol.ListItemMarker _ _ apart e = ((apart, bare role.Empty refl), tt, tt)
+least_shaped symbol.HeadingSequence _ _ apart e = ((apart, bare role.Empty refl), tt, tt)
 least_shaped symbol.CodeFence around before apart e =
-    ((apart, matches_after (code_fence_after before) [] (code_fence_ends before)), tt, tt)
+    ((apart, bare (code_fence_after before) (code_fence_ends before)), tt, tt)
 least_shaped symbol.MathFence around before apart e =
-    ((apart, matches_after (math_fence_after before) [] (math_fence_ends before)), tt, tt)
+    ((apart, bare (math_fence_after before) (math_fence_ends before)), tt, tt)
 least_shaped symbol.Label around before apart e = label_shaped around before apart
-least_shaped symbol.LabelText around before apart e =
-    ((apart, matches_after role.Phrasing [] refl), tt, tt)
-least_shaped symbol.DefinitionLabel around before apart e =
-    ((apart, matches_after role.String [] refl), tt, tt)
+least_shaped symbol.LabelText _ _ apart e = ((apart, bare role.Phrasing refl), tt, tt)
+least_shaped symbol.DefinitionLabel _ _ apart e = ((apart, bare role.String refl), tt, tt)
 least_shaped symbol.TableHead around before apart e = head_shaped around before apart
-least_shaped symbol.TableRow around before apart e =
-    ((apart, matches_after role.TableRow [] refl), tt, tt)
-least_shaped symbol.TableDelimiterRow around before apart e =
-    ((apart, matches_after role.TableDelimiterRow [] refl), tt, tt)
+least_shaped symbol.TableRow _ _ apart e = ((apart, bare role.TableRow refl), tt, tt)
+least_shaped symbol.TableDelimiterRow _ _ apart e =
+    ((apart, bare role.TableDelimiterRow refl), tt, tt)
 least_shaped _ around before apart e = cc
 
-least_spine : (one : Symbol) → has_least one ≡ true → spine (least one) ≡ one ∷ []
-least_spine symbol.ReferenceValue e = refl
-least_spine symbol.SetextUnderline e = refl
-least_spine symbol.FootnotePrefix e = refl
-least_spine symbol.FootnoteLabel e = refl
-least_spine symbol.ListItem e = refl
-least_spine symbol.ListItemPrefix e = refl
-least_spine symbol.ListItemMarker e = refl
-least_spine symbol.HeadingSequence e = refl
-least_spine symbol.CodeFence e = refl
-least_spine symbol.MathFence e = refl
-least_spine symbol.Label e = refl
-least_spine symbol.LabelText e = refl
-least_spine symbol.DefinitionLabel e = refl
-least_spine symbol.TableHead e = refl
-least_spine symbol.TableRow e = refl
-least_spine symbol.TableDelimiterRow e = refl
-least_spine _ e = cc
+least_spine : (one : Symbol) → cond (has_least one) (spine (least one)) (one ∷ []) ≡ one ∷ []
+least_spine symbol.ReferenceValue = refl
+least_spine _ = refl
 
 -- the least nodes of symbols, in sequence
 abbrev pub nodes_of : List Symbol → Forest
@@ -226,10 +169,9 @@ pub nodes_spine : (symbols : List Symbol) → list_all has_least symbols ≡ tru
     spine (nodes_of symbols) ≡ symbols
 nodes_spine [] e = refl
 nodes_spine (one ∷ symbols) e =
-    spine-joined (least one) (nodes_of symbols)
-    ∙ ap (λ s. s ++ spine (nodes_of symbols)) (least_spine one (and_left (has_least one)
-    (list_all has_least symbols) e)) ∙ ap (λ s. one ∷ s)
-    (nodes_spine symbols (and_right (has_least one) (list_all has_least symbols) e))
+    spine-joined (least one) (nodes_of symbols) ∙ ap (λ s. s ++ spine (nodes_of symbols)) (subst
+    (λ b. cond b (spine (least one)) (one ∷ []) ≡ one ∷ []) (and_left _ _ e)
+    (least_spine one)) ∙ ap (λ s. one ∷ s) (nodes_spine symbols (and_right _ _ e))
 
 pub nodes_shaped : (symbols : List Symbol) (around : Role) (before : Option Symbol) →
     around ≢ role.Childless →
@@ -237,6 +179,5 @@ pub nodes_shaped : (symbols : List Symbol) (around : Role) (before : Option Symb
 nodes_shaped [] around before apart e = tt
 nodes_shaped (one ∷ symbols) around before apart e =
     EachNode-joined IsShapedNode (least one) (nodes_of symbols) around before
-    (least_shaped one around before apart (and_left (has_least one) (list_all has_least symbols) e))
-    (nodes_shaped symbols around (last_symbol before (spine (least one))) apart
-    (and_right (has_least one) (list_all has_least symbols) e))
+    (least_shaped one around before apart (and_left _ _ e)) (nodes_shaped symbols around _ apart
+    (and_right _ _ e))

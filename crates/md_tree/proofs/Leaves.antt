@@ -2,34 +2,17 @@
 use Rattle.std.proofs.Common.{◌≡◌, ◌⊎◌, inl, inr, true, false, ℕ, suc, Option, Some, None, List}
 use Rattle.std.proofs.Common.{◌∷◌, refl, sym, ap, subst, ◌∙◌}
 use Rattle.std.specs.Prelude.{MatchOption}
-use Rattle.md_base.specs.declared.event.Point.{Point}
-use Rattle.md_base.specs.declared.event.Name.{Name}
-use Rattle.md_base.specs.declared.event.Name.TheVariants.{GfmTable}
-use Rattle.md_base.specs.NameTests.{is_table}
-use Rattle.md_base.proofs.Lies.{lie}
-use Rattle.md_tree.specs.declared.rule.Rule.{Rule}
+use Rattle.md_tree.proofs.Common.{Point, Name, GfmTable, is_table, lie, Rule, CompileError, Symbol}
+use Rattle.md_tree.proofs.Common.{Role, Reading, Free, Through, Space, Solid, standing_of, role_for}
+use Rattle.md_tree.proofs.Common.{Referral, Missing, State, place, target_at, broken_rule, Nothing}
+use Rattle.md_tree.proofs.Common.{mention_of, mentions_with, start_of, may_hold, advance}
+use Rattle.md_tree.proofs.Common.{is_complete, Reads, Outer, Entry, Course, entered, after_entry}
+use Rattle.md_tree.proofs.Common.{after_through, after_exit, Enters, ExitsWhere, Passes, Unbroken}
+use Rattle.md_tree.proofs.Common.{IsStopAtLeaf, IsStopInside}
 use Rattle.md_tree.specs.declared.rule.Rule.TheVariants as rule
-use Rattle.md_tree.specs.declared.rule.CompileError.{CompileError}
 use Rattle.md_tree.specs.declared.rule.CompileError.TheVariants as error
-use Rattle.md_pattern.specs.declared.kinds.Symbol.{Symbol}
-use Rattle.md_pattern.specs.declared.kinds.Role.{Role}
 use Rattle.md_pattern.specs.declared.kinds.Role.TheVariants as role
-use Rattle.md_pattern.specs.declared.kinds.Reading.{Reading}
 use Rattle.md_pattern.specs.declared.kinds.Reading.TheVariants as reads
-use Rattle.md_pattern.specs.declared.kinds.Reading.TheVariants.{Free}
-use Rattle.md_pattern.specs.declared.kinds.Standing.TheVariants.{Through, Space, Solid}
-use Rattle.md_pattern.specs.Standing.{standing_of}
-use Rattle.md_pattern.specs.Shape.{role_for}
-use Rattle.md_tree.specs.declared.mention.Referral.{Referral}
-use Rattle.md_tree.specs.declared.mention.Referral.TheVariants.{Missing}
-use Rattle.md_pattern.specs.declared.state.State.{State}
-use Rattle.md_tree.specs.Rules.{place, target_at, broken_rule}
-use Rattle.md_tree.specs.declared.mention.Mention.TheVariants.{Nothing}
-use Rattle.md_tree.specs.Mentions.{mention_of, mentions_with}
-use Rattle.md_pattern.specs.Steps.{start_of, may_hold, advance, is_complete}
-use Rattle.md_tree.specs.Machine.{Reads, Outer, Entry, Course, entered, after_entry, after_through}
-use Rattle.md_tree.specs.Machine.{after_exit, Enters, ExitsWhere}
-use Rattle.md_tree.specs.Walk.{Passes, Unbroken, IsStopAtLeaf, IsStopInside}
 use Rattle.md_tree.proofs.Breaks.{IsStop-inside, IsStopInside-same, StopsInside-broken}
 
 -- the course inside such a node, without the node among the open ones
@@ -45,8 +28,7 @@ inside entry from = record {
 -- where the children of a node begin, by how its name stands
 module _ (name : Name) (state : State) (target : Referral)
     (holds : may_hold state.role ≡ true) where
-  pub entered-through : standing_of name ≡ Through →
-      entered (standing_of name) state target
+  pub entered-through : standing_of name ≡ Through → entered (standing_of name) state target
       ≡ Some (record { state = state; target = target; outer = None })
   entered-through stands = rw (stands, holds) refl
 
@@ -84,8 +66,7 @@ module _ (name : Name) (start end : Point) (from : Course) (entry : Entry)
     (
       refl,
       subst (λ o. ExitsWhere holds o start end from.open_nodes
-          (after_entry entry name start from) to) (sym through)
-          same,
+          (after_entry entry name start from) to) (sym through) same,
     ),
   )
 
@@ -98,14 +79,12 @@ module _ (name : Name) (start end : Point) (from : Course) (entry : Entry)
     (
       refl,
       subst (λ o. ExitsWhere holds o start end from.open_nodes
-          (after_entry entry name start from) to) (sym outer_is)
-          exits,
+          (after_entry entry name start from) to) (sym outer_is) exits,
     ),
   )
 
-  pub IsStopAtLeaf-exit :
-      (bytes : List ℕ) (names : List (List ℕ × List ℕ)) (index : ℕ) (refusal : CompileError)
-      (outer : Outer) → entry.outer ≡ Some outer →
+  pub IsStopAtLeaf-exit : (bytes : List ℕ) (names : List (List ℕ × List ℕ)) (index : ℕ)
+      (refusal : CompileError) (outer : Outer) → entry.outer ≡ Some outer →
       IsStopInside bytes names (suc index) outer (place start end) (inside entry from) refusal →
       IsStopAtLeaf bytes names index name start end from refusal
   IsStopAtLeaf-exit bytes names index refusal outer outer_is stops =
@@ -114,11 +93,9 @@ module _ (name : Name) (start end : Point) (from : Course) (entry : Entry)
         enters,
         IsStop-inside bytes names (suc index) refusal from.open_nodes
             (record { name = name; start = start; outer = entry.outer }) outer name end
-            (after_entry entry name start from) refl refl outer_is
-            (IsStopInside-same bytes names (suc index) refusal outer (place start end) entry.state
-            entry.target from.open_nodes
-            (record { name = name; start = start; outer = entry.outer } ∷ from.open_nodes)
-            (suc from.count) from.mentions stops),
+            _ refl refl outer_is
+            (IsStopInside-same bytes names _ refusal outer _ (inside entry from)
+            (record { name = name; start = start; outer = entry.outer } ∷ from.open_nodes) stops),
       )
 
 -- a node without children that stands on no spine
@@ -139,8 +116,7 @@ no-mention _ = refl
 
 -- a node without children that stands on the spine
 module _ (name : Name) (symbol : Symbol) (usual : Role) (reading : Reading)
-    (next : State) (start end : Point)
-    (from : Course) (holds : may_hold from.state.role ≡ true)
+    (next : State) (start end : Point) (from : Course) (holds : may_hold from.state.role ≡ true)
     (stands : standing_of name ≡ Solid symbol usual reading)
     (moves : advance from.state symbol ≡ Some next) where
   abbrev outer : Outer
@@ -165,46 +141,38 @@ module _ (name : Name) (symbol : Symbol) (usual : Role) (reading : Reading)
       ap (λ m. record after { mentions = mentions_with (suc from.count) m from.mentions })
       (sym (no-mention reading))
 
-  pub Passes-solid : (bytes : List ℕ) (names : List (List ℕ × List ℕ)) (target : Referral) →
-      is_complete inner ≡ true →
-      broken_rule bytes names reading next.role from.state.before start end Missing ≡ None →
-      target ≡ target_at reading from.target Missing (place start end) →
-      Passes (Unbroken bytes names) name start end from
-      (record from { state = next; target = target; count = suc (suc from.count) })
-  Passes-solid bytes names target complete sound target_is =
-      Passes-exit name start end from begins
-      (entered-solid name from.state from.target holds symbol usual reading next stands moves)
-      (Unbroken bytes names) outer _ refl (
-        complete,
-        sound,
-        ap (λ t. record after { target = t }) target_is ∙ exits-so,
-      )
+  module _ (bytes : List ℕ) (names : List (List ℕ × List ℕ)) where
+    pub Passes-solid : (target : Referral) → is_complete inner ≡ true →
+        broken_rule bytes names reading next.role from.state.before start end Missing ≡ None →
+        target ≡ target_at reading from.target Missing (place start end) →
+        Passes (Unbroken bytes names) name start end from
+        (record from { state = next; target = target; count = suc (suc from.count) })
+    Passes-solid target complete sound target_is =
+        Passes-exit name start end from begins
+        (entered-solid name from.state from.target holds symbol usual reading next stands moves)
+        _ outer _ refl (complete, sound, ap (λ t. record after { target = t }) target_is ∙ exits-so)
 
-  stops-so : (bytes : List ℕ) (names : List (List ℕ × List ℕ)) (index : ℕ)
-      (refusal : CompileError) →
-      IsStopInside bytes names (suc index) outer (place start end) (inside begins from) refusal →
-      IsStopAtLeaf bytes names index name start end from refusal
-  stops-so bytes names index refusal =
-      IsStopAtLeaf-exit name start end from begins
-      (entered-solid name from.state from.target holds symbol usual reading next stands moves) bytes
-      names index refusal outer refl
+    stops-so : (index : ℕ) (refusal : CompileError) →
+        IsStopInside bytes names (suc index) outer (place start end) (inside begins from) refusal →
+        IsStopAtLeaf bytes names index name start end from refusal
+    stops-so index refusal =
+        IsStopAtLeaf-exit name start end from begins
+        (entered-solid name from.state from.target holds symbol usual reading next stands moves)
+        bytes names index refusal outer refl
 
-  pub IsStopAtLeaf-open : (bytes : List ℕ) (names : List (List ℕ × List ℕ)) (index : ℕ) →
-      is_complete inner ≡ false →
-      IsStopAtLeaf bytes names index name start end from (error.Event (suc index) rule.Order)
-  IsStopAtLeaf-open bytes names index unfinished =
-      stops-so bytes names index (error.Event (suc index) rule.Order) (refl, unfinished)
+    pub IsStopAtLeaf-open : (index : ℕ) → is_complete inner ≡ false →
+        IsStopAtLeaf bytes names index name start end from (error.Event (suc index) rule.Order)
+    IsStopAtLeaf-open index unfinished =
+        stops-so index (error.Event _ rule.Order) (refl, unfinished)
 
-  pub IsStopAtLeaf-broken :
-      (bytes : List ℕ) (names : List (List ℕ × List ℕ)) (index : ℕ) (broken : Rule) →
-      is_complete inner ≡ true →
-      broken_rule bytes names reading next.role from.state.before start end Missing ≡ Some broken →
-      IsStopAtLeaf bytes names index name start end from (error.Event (suc index) broken)
-  IsStopAtLeaf-broken bytes names index broken complete breaks =
-      stops-so bytes names index (error.Event (suc index) broken) (
-        refl,
-        StopsInside-broken bytes names broken outer start end (inside begins from) complete breaks,
-      )
+    pub IsStopAtLeaf-broken : (index : ℕ) (broken : Rule) → is_complete inner ≡ true → broken_rule
+        bytes names reading next.role from.state.before start end Missing ≡ Some broken →
+        IsStopAtLeaf bytes names index name start end from (error.Event (suc index) broken)
+    IsStopAtLeaf-broken index broken complete breaks =
+        stops-so index (error.Event _ broken) (
+          refl,
+          StopsInside-broken bytes names broken outer start end _ complete breaks,
+        )
 
 -- ---- a table has children
 
@@ -214,9 +182,8 @@ no-table-over GfmTable (inl through) = cc
 no-table-over GfmTable (inr space) = cc
 no-table-over _ stands = refl
 
-pub no-table-solid :
-    (name : Name) (symbol : Symbol) (usual : Role) (reading : Reading) (around : Role)
-    (before : Option Symbol) → standing_of name ≡ Solid symbol usual reading →
+pub no-table-solid : (name : Name) (symbol : Symbol) (usual : Role) (reading : Reading)
+    (around : Role) (before : Option Symbol) → standing_of name ≡ Solid symbol usual reading →
     is_complete (start_of (role_for around before usual)) ≡ true → is_table name ≡ false
 no-table-solid GfmTable symbol usual reading around before stands complete =
     lie (ap (λ r. is_complete (start_of (role_for around before r))) (usual_is stands) ∙ complete)

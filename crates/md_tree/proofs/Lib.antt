@@ -1,5 +1,6 @@
 -- That `check` accepts exactly the grammar: the way ends in `Checking`. And that what is kept of a
 -- document is what its tree says: this way ends in `Kept`.
+pub mod Common
 pub mod Breaks
 pub mod Checking
 pub mod Stopped

@@ -2,20 +2,11 @@
 -- So what is resolved among those kept is resolved among all, as the grammar requires.
 use Rattle.std.proofs.Common.{◌≡◌, ℕ, zero, suc, ◌+◌, Some, List, [], ◌∷◌, ◌++◌, refl, sym, ap, ◌∙◌}
 use Rattle.std.proofs.Common.{subst, append_assoc, append-nil, arith}
-use Rattle.std.specs.Prelude.{slice_get}
-use Rattle.std.specs.List.{All, Contains}
-use Rattle.std.proofs.lemmas.List.Elements.{All-cons, All-nil, All-head, All-tail}
-use Rattle.md_tree.specs.declared.mention.Mention.{Mention}
-use Rattle.md_tree.specs.declared.mention.Mention.TheVariants.{Nothing, Reference, Call, Definition}
-use Rattle.md_tree.specs.declared.mention.Mention.TheVariants.{FootnoteDefinition}
-use Rattle.md_tree.specs.declared.mention.Mentioned.{Mentioned}
-use Rattle.md_tree.specs.declared.mention.Referral.TheVariants.{Missing}
-use Rattle.md_base.specs.Tree.{Forest, Empty, Node}
-use Rattle.md_pattern.specs.Standing.{standing_of}
-use Rattle.md_tree.specs.Rules.{reading_of, target_of}
-use Rattle.md_pattern.specs.Partners.{index_after}
-use Rattle.md_tree.specs.Mentions.{mention_of, mentions_of, mentions_with, mentions_among}
-use Rattle.md_tree.specs.Mentions.{identifier_at, defined, footnoted, IsResolved}
+use Rattle.md_tree.proofs.Common.{slice_get, All, Contains, All-cons, All-nil, All-head, All-tail}
+use Rattle.md_tree.proofs.Common.{Mention, Nothing, Reference, Call, Definition, FootnoteDefinition}
+use Rattle.md_tree.proofs.Common.{Mentioned, Missing, Forest, Empty, Node, standing_of, reading_of}
+use Rattle.md_tree.proofs.Common.{target_of, index_after, mention_of, mentions_of, mentions_with}
+use Rattle.md_tree.proofs.Common.{mentions_among, identifier_at, defined, footnoted, IsResolved}
 use Rattle.md_tree.proofs.NodesRead.{mentions_over}
 
 -- those of these mentions that are of something, where the first is of the event at an index
@@ -29,20 +20,7 @@ with_listed : (mention : Mention) (index : ℕ) (before : List Mentioned) (later
     mentions_with index mention before ++ listed (suc index) later
     ≡ before ++ listed index (mention ∷ later)
 with_listed Nothing index before later = refl
-with_listed (Reference label) index before later = append_assoc before (record {
-  index = index;
-  mention = Reference label;
-} ∷ []) (listed (suc index) later)
-with_listed (Call label) index before later =
-    append_assoc before (record { index = index; mention = Call label }
-    ∷ []) (listed (suc index) later)
-with_listed (Definition label) index before later = append_assoc before (record {
-  index = index;
-  mention = Definition label;
-} ∷ []) (listed (suc index) later)
-with_listed (FootnoteDefinition label) index before later =
-    append_assoc before (record { index = index; mention = FootnoteDefinition label } ∷ [])
-    (listed (suc index) later)
+with_listed _ index before later = append_assoc before _ _
 
 over_listed : (forest : Forest) (index : ℕ) (before : List Mentioned) (later : List Mention) →
     mentions_over index forest before ++ listed (index_after index forest) later ≡ before
@@ -54,8 +32,7 @@ over_listed (Node name start end children rest) index before later =
     let inner = mentions_over (suc index) children before in
     let after_it = mentions_of rest ++ later in
     over_listed rest (suc exit) (mentions_with exit mention inner) later
-    ∙ with_listed mention exit inner after_it
-    ∙ over_listed children (suc index) before (mention ∷ after_it)
+    ∙ with_listed mention exit inner after_it ∙ over_listed children _ before (mention ∷ after_it)
     ∙ ap (λ ms. before ++ listed (suc index) ms)
     (sym (append_assoc (mentions_of children) (mention ∷ mentions_of rest) later))
 
@@ -71,24 +48,15 @@ pub defined_listed : (bytes : List ℕ) (mentions : List Mention) (index : ℕ) 
     defined bytes (mentions_among (listed index mentions)) ≡ defined bytes mentions
 defined_listed bytes [] index = refl
 defined_listed bytes (Definition label ∷ mentions) index =
-    ap (λ others. identifier_at bytes label ∷ others) (defined_listed bytes mentions (suc index))
-defined_listed bytes (Nothing ∷ mentions) index = defined_listed bytes mentions (suc index)
-defined_listed bytes (Reference label ∷ mentions) index = defined_listed bytes mentions (suc index)
-defined_listed bytes (Call label ∷ mentions) index = defined_listed bytes mentions (suc index)
-defined_listed bytes (FootnoteDefinition label ∷ mentions) index =
-    defined_listed bytes mentions (suc index)
+    ap (λ others. identifier_at bytes label ∷ others) (defined_listed bytes mentions _)
+defined_listed bytes (_ ∷ mentions) index = defined_listed bytes mentions (suc index)
 
 pub footnoted_listed : (bytes : List ℕ) (mentions : List Mention) (index : ℕ) →
     footnoted bytes (mentions_among (listed index mentions)) ≡ footnoted bytes mentions
 footnoted_listed bytes [] index = refl
 footnoted_listed bytes (FootnoteDefinition label ∷ mentions) index =
-    ap (λ others. identifier_at bytes label ∷ others) (footnoted_listed bytes mentions (suc index))
-footnoted_listed bytes (Nothing ∷ mentions) index = footnoted_listed bytes mentions (suc index)
-footnoted_listed bytes (Reference label ∷ mentions) index =
-    footnoted_listed bytes mentions (suc index)
-footnoted_listed bytes (Call label ∷ mentions) index = footnoted_listed bytes mentions (suc index)
-footnoted_listed bytes (Definition label ∷ mentions) index =
-    footnoted_listed bytes mentions (suc index)
+    ap (λ others. identifier_at bytes label ∷ others) (footnoted_listed bytes mentions _)
+footnoted_listed bytes (_ ∷ mentions) index = footnoted_listed bytes mentions (suc index)
 
 resolved_same : (bytes : List ℕ) (some others : List Mention) (mention : Mention) →
     defined bytes some ≡ defined bytes others → footnoted bytes some ≡ footnoted bytes others →
@@ -112,31 +80,17 @@ all_listed : (P : Mention → Type 0) → P Nothing → (mentions : List Mention
 all_listed P none [] index all = All-nil P
 all_listed P none (Nothing ∷ mentions) index all = All-cons P Nothing mentions none
     (all_listed P none mentions (suc index) all)
-all_listed P none (Reference label ∷ mentions) index all =
+all_listed P none (mention ∷ mentions) index all =
     let later = mentions_among (listed (suc index) mentions) in
-    All-cons P (Reference label) mentions (All-head P (Reference label) later all)
-    (all_listed P none mentions (suc index) (All-tail P (Reference label) later all))
-all_listed P none (Call label ∷ mentions) index all =
-    let later = mentions_among (listed (suc index) mentions) in
-    All-cons P (Call label) mentions (All-head P (Call label) later all)
-    (all_listed P none mentions (suc index) (All-tail P (Call label) later all))
-all_listed P none (Definition label ∷ mentions) index all =
-    let later = mentions_among (listed (suc index) mentions) in
-    All-cons P (Definition label) mentions (All-head P (Definition label) later all)
-    (all_listed P none mentions (suc index) (All-tail P (Definition label) later all))
-all_listed P none (FootnoteDefinition label ∷ mentions) index all =
-    let later = mentions_among (listed (suc index) mentions) in
-    All-cons P (FootnoteDefinition label) mentions (All-head P (FootnoteDefinition label) later all)
-    (all_listed P none mentions (suc index) (All-tail P (FootnoteDefinition label) later all))
+    All-cons P mention mentions (All-head P mention later all)
+    (all_listed P none mentions (suc index) (All-tail P mention later all))
 
 pub all-resolved : (bytes : List ℕ) (mentions : List Mention) →
     All (IsResolved bytes (mentions_among (listed 0 mentions)))
-    (mentions_among (listed 0 mentions)) →
-    All (IsResolved bytes mentions) mentions
+    (mentions_among (listed 0 mentions)) → All (IsResolved bytes mentions) mentions
 all-resolved bytes mentions all =
     let some = mentions_among (listed 0 mentions) in
-    λ index d inside.
-    resolved_same bytes some mentions _ (defined_listed bytes mentions 0)
+    λ index d inside. resolved_same bytes some mentions _ (defined_listed bytes mentions 0)
     (footnoted_listed bytes mentions 0)
     (all_listed (IsResolved bytes some) tt mentions 0 all index d inside)
 
@@ -169,8 +123,7 @@ got_cons : (mention : Mention) (mentions : List Mention) (index at : ℕ) (one :
     ((k : ℕ) → slice_get (listed (suc index) mentions) k ≡ Some one →
     GotListed mentions (suc index) one) →
     slice_get (record { index = index; mention = mention } ∷ listed (suc index) mentions) at
-    ≡ Some one →
-    GotListed (mention ∷ mentions) index one
+    ≡ Some one → GotListed (mention ∷ mentions) index one
 got_cons mention mentions index zero one later e = got_first mention mentions index one e
 got_cons mention mentions index (suc at) one later e =
     got_later mention mentions index one (later at e)
@@ -179,22 +132,12 @@ got_listed : (mentions : List Mention) (index at : ℕ) (one : Mentioned) →
     slice_get (listed index mentions) at ≡ Some one → GotListed mentions index one
 got_listed [] index at one e = cc
 got_listed (Nothing ∷ mentions) index at one e = got_later Nothing mentions index one
-    (got_listed mentions (suc index) at one e)
-got_listed (Reference label ∷ mentions) index at one e =
-    got_cons (Reference label) mentions index at one
-    (λ k f. got_listed mentions (suc index) k one f) e
-got_listed (Call label ∷ mentions) index at one e = got_cons (Call label) mentions index at one
-    (λ k f. got_listed mentions (suc index) k one f) e
-got_listed (Definition label ∷ mentions) index at one e =
-    got_cons (Definition label) mentions index at one
-    (λ k f. got_listed mentions (suc index) k one f) e
-got_listed (FootnoteDefinition label ∷ mentions) index at one e =
-    got_cons (FootnoteDefinition label) mentions index at one
+    (got_listed mentions _ at one e)
+got_listed (mention ∷ mentions) index at one e = got_cons mention mentions index at one
     (λ k f. got_listed mentions (suc index) k one f) e
 
 pub got-listed : (mentions : List Mention) (at : ℕ) (one : Mentioned) →
-    slice_get (listed 0 mentions) at ≡ Some one →
-    slice_get mentions one.index ≡ Some one.mention
+    slice_get (listed 0 mentions) at ≡ Some one → slice_get mentions one.index ≡ Some one.mention
 got-listed mentions at one e =
     let got = got_listed mentions 0 at one e in
     let place = got.at in

@@ -2,22 +2,16 @@
 use Rattle.std.proofs.Common.{arith, ◌≡◌, ◌⊎◌, ℕ, suc, ◌<◌, true, false, Option, Some, None, List}
 use Rattle.std.proofs.Common.{[], ◌∷◌, length, get_or, inl, inr, true≢false, refl, sym, ap, ◌∙◌}
 use Rattle.std.proofs.Common.{subst}
-use Rattle.std.specs.Prelude.{option_map, is_some, if◌then◌else◌, slice_get, Bool, Ok, Err}
-use Rattle.std.specs.List.{Contains}
+use Rattle.std.specs.Prelude.{Bool}
 use Rattle.std.specs.Option.{ok_or}
-use Rattle.std.proofs.lemmas.List.{get_or-map}
-use Rattle.std.proofs.lemmas.List.Elements.{Contains-append_right, Contains-append_cases}
-use Rattle.std.proofs.lemmas.List.Elements.{Contains-push_cases}
-use Rattle.std.proofs.lemmas.Option.{slice_get-get_or}
-use Rattle.md_base.specs.declared.event.Position.{Position}
-use Rattle.md_tree.specs.declared.mention.Mention.{Mention}
-use Rattle.md_tree.specs.declared.mention.Mention.TheVariants.{Reference, Call}
-use Rattle.md_tree.specs.declared.mention.Mentioned.{Mentioned}
-use Rattle.md_tree.specs.declared.rule.Rule.{Rule}
+use Rattle.std.proofs.lemmas.List.Elements.{Contains-append_cases, Contains-push_cases}
+use Rattle.md_tree.proofs.Common.{slice_get_within, get_or_from_slice_get, option_map, is_some}
+use Rattle.md_tree.proofs.Common.{if◌then◌else◌, slice_get, Ok, Err, Contains, get_or-map}
+use Rattle.md_tree.proofs.Common.{slice_get-get_or, Position, Mention, Reference, Call, Mentioned}
+use Rattle.md_tree.proofs.Common.{Rule, identifier_at, defined, footnoted, mentions_among}
+use Rattle.md_tree.proofs.Common.{IsResolved, is_same, which, number_of, IsUnresolvedBy}
 use Rattle.md_tree.specs.declared.rule.Rule.TheVariants as rule
-use Rattle.md_tree.specs.Mentions.{identifier_at, defined, footnoted, mentions_among, IsResolved}
-use Rattle.md_tree.specs.Numbers.{is_same, which, number_of, IsNowhere, RefersTo}
-use Rattle.md_tree.specs.Resolve.{IsUnresolvedBy}
+use Rattle.md_tree.specs.Numbers.{IsNowhere, RefersTo}
 use Rattle.md_tree.proofs.OneMoreIdentifier.{Identifier, same-is, same-self}
 
 -- ---- the target of a mention
@@ -38,115 +32,13 @@ none_mapped : (o : Option ℕ) → option_map (λ place. suc place) o ≡ None �
 none_mapped None e = refl
 none_mapped (Some place) e = cc
 
-which_there : (xs : List Identifier) (y : Identifier) (place : ℕ) →
-    which xs y ≡ Some place → Contains xs y
-which_there [] y place e = cc
-which_there (x ∷ xs) y place e = elim (is_same x y) as (λ b. is_same x y ≡ b → (if b then Some 0
-    else option_map (λ p. suc p) (which xs y)) ≡ Some place → Contains (x ∷ xs) y) [
-      | true ↦ λ t h. first_is x y xs (same-is x y t)
-      | false ↦ λ t h.
-          Contains-append_right (x ∷ []) xs y (later (which xs y) h (λ p f. which_there xs y p f))
-    ] refl e
-  where
-    later : (o : Option ℕ) → option_map (λ p. suc p) o ≡ Some place →
-        ((p : ℕ) → o ≡ Some p → Contains xs y) →
-        Contains xs y
-    later None h there = cc
-    later (Some p) h there = there p refl
-
-which_lost : (xs : List Identifier) (y : Identifier) → which xs y ≡ None → Contains xs y → ⊥
-which_lost [] y e h = none_is y h
-which_lost (x ∷ xs) y e h = elim (is_same x y) as (λ b. is_same x y ≡ b → (if b then Some 0
-    else option_map (λ p. suc p) (which xs y)) ≡ None → ⊥) [
-      | true ↦ λ t f. cc
-      | false ↦ λ t f. elim (first_or_later x y xs h) [
-        | inl a ↦ true≢false (sym (same-self x) ∙ ap (λ z. is_same x z) a ∙ t)
-        | inr b ↦ which_lost xs y (none_mapped (which xs y) f) b
-      ]
-    ] refl e
-
-pub resolved-reference :
-    (bytes : List ℕ) (mentions : List Mention) (label : Position) (number : Option ℕ) →
-    number
-    ≡ option_map (λ place. suc place) (which (defined bytes mentions) (identifier_at bytes label)) →
-    RefersTo bytes mentions (Reference label) (ok_or number rule.Definition)
-resolved-reference bytes mentions label number is =
-    subst (λ n. RefersTo bytes mentions (Reference label) (ok_or n rule.Definition)) (sym is)
-    (elim (which (defined bytes mentions) (identifier_at bytes label)) as
-    (λ o. which (defined bytes mentions) (identifier_at bytes label) ≡ o → RefersTo bytes mentions
-    (Reference label) (ok_or (option_map (λ place. suc place) o) rule.Definition)) [
-      | Some place ↦ λ t. (
-        which_there (defined bytes mentions) (identifier_at bytes label) place t,
-        sym (ap number_of t),
-      )
-      | None ↦ λ t. (refl, which_lost (defined bytes mentions) (identifier_at bytes label) t)
-    ] refl)
-
-module _ (bytes : List ℕ) (mentions : List Mention) (label : Position) (known : Bool)
-    (is : known ≡ is_some (which (footnoted bytes mentions) (identifier_at bytes label))) where
-  pub resolved-call : known ≡ true → RefersTo bytes mentions (Call label) (Ok 0)
-  resolved-call there = (
-    there_is (which (footnoted bytes mentions) (identifier_at bytes label))
-        (λ place e. which_there (footnoted bytes mentions) (identifier_at bytes label) place e)
-        (sym is ∙ there),
-    refl,
-  )
-    where
-      there_is : {P : Type 0} (o : Option ℕ) → ((place : ℕ) → o ≡ Some place → P) →
-          is_some o ≡ true → P
-      there_is None get e = cc
-      there_is (Some place) get e = get place refl
-
-  pub lost-call : known ≡ false → RefersTo bytes mentions (Call label) (Err rule.Footnote)
-  lost-call lost = (
-    refl,
-    which_lost (footnoted bytes mentions) (identifier_at bytes label)
-        (none_is_there (which (footnoted bytes mentions) (identifier_at bytes label))
-        (sym is ∙ lost)),
-  )
-    where
-      none_is_there : (o : Option ℕ) → is_some o ≡ false → o ≡ None
-      none_is_there None e = refl
-      none_is_there (Some place) e = cc
-
--- a lost mention is unresolved
-lost : (bytes : List ℕ) (mentioned : List Mentioned) (mention : Mention)
-    (at index : ℕ) (broken : Rule) →
-    slice_get mentioned at ≡ Some (record { index = index; mention = mention }) →
-    IsNowhere bytes (mentions_among mentioned) mention broken →
-    IsUnresolvedBy bytes mentioned index broken
-lost bytes mentioned (Reference label) at index broken here is =
-    subst (λ r. IsUnresolvedBy bytes mentioned index r) (sym is.0) (label, (at, here, is.1))
-lost bytes mentioned (Call label) at index broken here is =
-    subst (λ r. IsUnresolvedBy bytes mentioned index r) (sym is.0) (label, (at, here, is.1))
-lost bytes mentioned _ at index broken here is = absurd is
-
-pub IsUnresolvedBy-at :
-    (bytes : List ℕ) (mentioned : List Mentioned) (at : ℕ) (n : Mentioned) (broken : Rule) →
-    at < length mentioned →
-    IsNowhere bytes (mentions_among mentioned) (Mentioned.mention (get_or mentioned at n)) broken →
-    IsUnresolvedBy bytes mentioned (Mentioned.index (get_or mentioned at n)) broken
-IsUnresolvedBy-at bytes mentioned at n broken inside is =
-    let one = get_or mentioned at n in
-    lost bytes mentioned one.mention at one.index broken (slice_get-get_or mentioned at n inside) is
-
-pub IsResolved-at :
-    (bytes : List ℕ) (mentioned : List Mentioned) (index : ℕ) (n : Mentioned) (x : Mention) →
-    index < length mentioned →
-    IsResolved bytes (mentions_among mentioned) (Mentioned.mention (get_or mentioned index n)) →
-    IsResolved bytes (mentions_among mentioned) (get_or (mentions_among mentioned) index x)
-IsResolved-at bytes mentioned index n x inside is =
-    subst (λ m. IsResolved bytes (mentions_among mentioned) m)
-    (sym (get_or-map (λ (m : Mentioned). m.mention) mentioned index n x inside)) is
-
--- ---- one identifier for each place
 which_got : (xs : List Identifier) (y : Identifier) (place : ℕ) → which xs y ≡ Some place →
     slice_get xs place ≡ Some y
 which_got [] y place e = cc
 which_got (x ∷ xs) y place e = elim (is_same x y) as (λ b. is_same x y ≡ b → (if b then Some 0
     else option_map (λ p. suc p) (which xs y)) ≡ Some place → slice_get (x ∷ xs) place ≡ Some y) [
       | true ↦ λ t h. first (same-is x y t) h
-      | false ↦ λ t h. later (which xs y) h (λ p f. which_got xs y p f)
+      | false ↦ λ t h. later _ h (λ p f. which_got xs y p f)
     ] refl e
   where
     first : x ≡ y → Some 0 ≡ Some place → slice_get (x ∷ xs) place ≡ Some y
@@ -161,11 +53,87 @@ which_got (x ∷ xs) y place e = elim (is_same x y) as (λ b. is_same x y ≡ b 
         let one : suc p ≡ place = cc in
         subst (λ n. slice_get (x ∷ xs) n ≡ Some y) one (there p refl)
 
+which_there : (xs : List Identifier) (y : Identifier) (place : ℕ) →
+    which xs y ≡ Some place → Contains xs y
+which_there xs y place e =
+    let got = which_got xs y place e in
+    (place, slice_get_within xs place y got, get_or_from_slice_get xs place y y got)
+
+which_lost : (xs : List Identifier) (y : Identifier) → which xs y ≡ None → Contains xs y → ⊥
+which_lost [] y e h = none_is y h
+which_lost (x ∷ xs) y e h = elim (is_same x y) as (λ b. is_same x y ≡ b → (if b then Some 0
+    else option_map (λ p. suc p) (which xs y)) ≡ None → ⊥) [
+      | true ↦ λ t f. cc
+      | false ↦ λ t f. elim (first_or_later x y xs h) [
+        | inl a ↦ true≢false (sym (same-self x) ∙ ap (λ z. is_same x z) a ∙ t)
+        | inr b ↦ which_lost xs y (none_mapped _ f) b
+      ]
+    ] refl e
+
+pub resolved-reference :
+    (bytes : List ℕ) (mentions : List Mention) (label : Position) (number : Option ℕ) → number
+    ≡ option_map (λ place. suc place) (which (defined bytes mentions) (identifier_at bytes label)) →
+    RefersTo bytes mentions (Reference label) (ok_or number rule.Definition)
+resolved-reference bytes mentions label number is =
+    subst (λ n. RefersTo bytes mentions (Reference label) (ok_or n rule.Definition)) (sym is)
+    (elim (which (defined bytes mentions) (identifier_at bytes label)) as
+    (λ o. which (defined bytes mentions) (identifier_at bytes label) ≡ o → RefersTo bytes mentions
+    (Reference label) (ok_or (option_map (λ place. suc place) o) rule.Definition)) [
+      | Some place ↦ λ t. (which_there (defined bytes mentions) _ place t, sym (ap number_of t))
+      | None ↦ λ t. (refl, which_lost _ _ t)
+    ] refl)
+
+module _ (bytes : List ℕ) (mentions : List Mention) (label : Position) (known : Bool)
+    (is : known ≡ is_some (which (footnoted bytes mentions) (identifier_at bytes label))) where
+  pub resolved-call : known ≡ true → RefersTo bytes mentions (Call label) (Ok 0)
+  resolved-call there = (
+    there_is _
+        (λ place e. which_there (footnoted bytes mentions) (identifier_at bytes label) place e)
+        (sym is ∙ there),
+    refl,
+  )
+    where
+      there_is : {P : Type 0} (o : Option ℕ) → ((place : ℕ) → o ≡ Some place → P) →
+          is_some o ≡ true → P
+      there_is None get e = cc
+      there_is (Some place) get e = get place refl
+
+  pub lost-call : known ≡ false → RefersTo bytes mentions (Call label) (Err rule.Footnote)
+  lost-call lost = (refl, which_lost (footnoted bytes mentions) _ (none_is_there _ (sym is ∙ lost)))
+    where
+      none_is_there : (o : Option ℕ) → is_some o ≡ false → o ≡ None
+      none_is_there None e = refl
+      none_is_there (Some place) e = cc
+
+-- a lost mention is unresolved
+lost : (bytes : List ℕ) (mentioned : List Mentioned) (mention : Mention) (at index : ℕ)
+    (broken : Rule) → slice_get mentioned at ≡ Some (record { index = index; mention = mention }) →
+    IsNowhere bytes (mentions_among mentioned) mention broken →
+    IsUnresolvedBy bytes mentioned index broken
+lost bytes mentioned (Reference label) at index broken here is =
+    subst (λ r. IsUnresolvedBy bytes mentioned index r) (sym is.0) (label, (at, here, is.1))
+lost bytes mentioned (Call label) at index broken here is =
+    subst (λ r. IsUnresolvedBy bytes mentioned index r) (sym is.0) (label, (at, here, is.1))
+lost bytes mentioned _ at index broken here is = absurd is
+
+pub IsUnresolvedBy-at : (bytes : List ℕ) (mentioned : List Mentioned) (at : ℕ) (n : Mentioned)
+    (broken : Rule) → at < length mentioned →
+    IsNowhere bytes (mentions_among mentioned) (Mentioned.mention (get_or mentioned at n)) broken →
+    IsUnresolvedBy bytes mentioned (Mentioned.index (get_or mentioned at n)) broken
+IsUnresolvedBy-at bytes mentioned at n broken inside is =
+    let one = get_or mentioned at n in
+    lost bytes mentioned one.mention at one.index broken (slice_get-get_or mentioned at n inside) is
+
+pub IsResolved-at : (bytes : List ℕ) (mentioned : List Mentioned) (index : ℕ) (n : Mentioned)
+    (x : Mention) → index < length mentioned →
+    IsResolved bytes (mentions_among mentioned) (Mentioned.mention (get_or mentioned index n)) →
+    IsResolved bytes (mentions_among mentioned) (get_or (mentions_among mentioned) index x)
+IsResolved-at bytes mentioned index n x inside is =
+    subst (λ m. IsResolved bytes (mentions_among mentioned) m)
+    (sym (get_or-map (λ (m : Mentioned). m.mention) mentioned index n x inside)) is
+
+-- ---- one identifier for each place
 pub which-one : (xs : List Identifier) (one other : Identifier) (place : ℕ) →
-    which xs one ≡ Some place →
-    which xs other ≡ Some place → one ≡ other
+    which xs one ≡ Some place → which xs other ≡ Some place → one ≡ other
 which-one xs one other place a b =
-    same one other (sym (which_got xs one place a) ∙ which_got xs other place b)
-  where
-    same : (x y : Identifier) → Some x ≡ Some y → x ≡ y
-    same x y e = cc
+    let same = sym (which_got xs one place a) ∙ which_got xs other place b in cc

@@ -1,37 +1,24 @@
 -- Claims on nodes, one from another: that they have their shape, and that they meet the rules.
 use Rattle.std.proofs.Common.{◌≡◌, ℕ, Option, None, List, [], ◌∷◌, refl}
-use Rattle.md_base.specs.declared.event.Point.{Point}
-use Rattle.md_pattern.specs.declared.kinds.Symbol.{Symbol}
-use Rattle.md_pattern.specs.declared.kinds.Role.{Role}
-use Rattle.md_pattern.specs.declared.kinds.Standing.{Standing}
-use Rattle.md_pattern.specs.declared.kinds.Standing.TheVariants.{Through, Space, Solid, Mdx}
-use Rattle.md_tree.specs.declared.mention.Referral.{Referral}
-use Rattle.md_tree.specs.declared.mention.Referral.TheVariants.{Missing}
-use Rattle.md_base.specs.Tree.{Forest, Empty, Node}
-use Rattle.md_pattern.specs.Standing.{standing_of}
-use Rattle.md_pattern.specs.Spine.{spine, shown}
-use Rattle.md_pattern.specs.Shape.{Claim, EachNode, IsShapedNode, AreShaped, inner_role}
-use Rattle.md_pattern.specs.Shape.{inner_before, last_symbol}
-use Rattle.md_tree.specs.Rules.{reading_of, broken_rule, MeetsRules, MeetRules, target_of}
-use Rattle.md_tree.specs.Refusal.{Level, role_in, before_in, IsShapedPath}
-use Rattle.md_tree.specs.Machine.{Reads}
-use Rattle.md_tree.specs.Walk.{Anything, Unbroken}
+use Rattle.md_tree.proofs.Common.{Point, Symbol, Role, Standing, Solid}
+use Rattle.md_tree.proofs.Common.{Referral, Missing, Forest, Empty, Node, standing_of, Claim}
+use Rattle.md_tree.proofs.Common.{EachNode, IsShapedNode, AreShaped, reading_of, broken_rule}
+use Rattle.md_tree.proofs.Common.{MeetRules, target_of, Level, Reads, Anything, Unbroken}
+use Rattle.md_tree.specs.Rules.{MeetsRules}
+use Rattle.md_tree.specs.Refusal.{IsShapedPath}
 use Rattle.md_tree.proofs.NodesRead.{IsReadWhere, IsFine, AllowsFree}
 use Rattle.md_tree.proofs.Trees.{EachNode-map}
 use Rattle.md_tree.proofs.OpenPaths.{IsFinePath}
 
-reads_anything : (standing : Standing) (around : Role) (before : Option Symbol)
-    (start end : Point) (target : Referral)
-    → IsReadWhere Anything standing around before start end target
-reads_anything Through around before start end target = tt
-reads_anything Space around before start end target = tt
+reads_anything : (standing : Standing) (around : Role) (before : Option Symbol) (start end : Point)
+    (target : Referral) → IsReadWhere Anything standing around before start end target
 reads_anything (Solid symbol usual reading) around before start end target = tt
-reads_anything Mdx around before start end target = tt
+reads_anything _ around before start end target = tt
 
 pub shaped_anything : (forest : Forest) (around : Role) (before : Option Symbol) →
     EachNode IsShapedNode forest around before → EachNode (IsFine Anything) forest around before
 shaped_anything forest around before each =
-    EachNode-map IsShapedNode (IsFine Anything) (λ r b name start end children p. (
+    EachNode-map IsShapedNode _ (λ r b name start end children p. (
       p,
       reads_anything (standing_of name) r b start end (target_of children Missing),
     )) forest around before each
@@ -43,57 +30,46 @@ EachNode-both : (P Q : Claim) → (forest : Forest) (around : Role) (before : Op
 EachNode-both P Q Empty around before p q = tt
 EachNode-both P Q (Node name start end children rest) around before p q = (
   (p.0, q.0),
-  EachNode-both P Q children (inner_role (standing_of name) around before)
-      (inner_before (standing_of name) before) p.1 q.1,
-  EachNode-both P Q rest around
-      (last_symbol before (shown (standing_of name) (spine children))) p.2 q.2,
+  EachNode-both P Q children _ _ p.1 q.1,
+  EachNode-both P Q rest around _ p.2 q.2,
 )
 
-reads_unbroken :
-    (bytes : List ℕ) (names : List (List ℕ × List ℕ)) (standing : Standing) (around : Role)
-    (before : Option Symbol) (start end : Point) (target : Referral) →
-    broken_rule bytes names (reading_of standing) around before start end target ≡ None →
-    IsReadWhere (Unbroken bytes names) standing around before start end target
-reads_unbroken bytes names Through around before start end target e = tt
-reads_unbroken bytes names Space around before start end target e = tt
-reads_unbroken bytes names (Solid symbol usual reading) around before start end target e = e
-reads_unbroken bytes names Mdx around before start end target e = tt
+module _ (bytes : List ℕ) (names : List (List ℕ × List ℕ)) where
+  reads_unbroken : (standing : Standing) (around : Role)
+      (before : Option Symbol) (start end : Point) (target : Referral) →
+      broken_rule bytes names (reading_of standing) around before start end target ≡ None →
+      IsReadWhere (Unbroken bytes names) standing around before start end target
+  reads_unbroken (Solid symbol usual reading) around before start end target e = e
+  reads_unbroken _ around before start end target e = tt
 
-unbroken_reads :
-    (bytes : List ℕ) (names : List (List ℕ × List ℕ)) (standing : Standing) (around : Role)
-    (before : Option Symbol) (start end : Point) (target : Referral) →
-    IsReadWhere (Unbroken bytes names) standing around before start end target →
-    broken_rule bytes names (reading_of standing) around before start end target ≡ None
-unbroken_reads bytes names Through around before start end target e = refl
-unbroken_reads bytes names Space around before start end target e = refl
-unbroken_reads bytes names (Solid symbol usual reading) around before start end target e = e
-unbroken_reads bytes names Mdx around before start end target e = refl
+  unbroken_reads : (standing : Standing) (around : Role)
+      (before : Option Symbol) (start end : Point) (target : Referral) →
+      IsReadWhere (Unbroken bytes names) standing around before start end target →
+      broken_rule bytes names (reading_of standing) around before start end target ≡ None
+  unbroken_reads (Solid symbol usual reading) around before start end target e = e
+  unbroken_reads _ around before start end target e = refl
 
-pub fine_unbroken : (bytes : List ℕ) (names : List (List ℕ × List ℕ)) (forest : Forest)
-    (around : Role) (before : Option Symbol) → AreShaped forest around before →
-    MeetRules bytes names forest around before →
-    EachNode (IsFine (Unbroken bytes names)) forest around before
-fine_unbroken bytes names forest around before shaped meets =
-    EachNode-map (λ r b name start end children. IsShapedNode r b name start end children
-    × MeetsRules bytes names r b name start end children) (IsFine (Unbroken bytes names))
-    (λ r b name start end children p. (
-      p.0,
-      reads_unbroken bytes names (standing_of name) r b start end
-          (target_of children Missing) p.1,
-    )) forest around before
-    (EachNode-both IsShapedNode (MeetsRules bytes names) forest around before shaped meets)
+  pub fine_unbroken : (forest : Forest) (around : Role) (before : Option Symbol) →
+      AreShaped forest around before → MeetRules bytes names forest around before →
+      EachNode (IsFine (Unbroken bytes names)) forest around before
+  fine_unbroken forest around before shaped meets =
+      EachNode-map (λ r b name start end children. IsShapedNode r b name start end children
+      × MeetsRules bytes names r b name start end children) (IsFine _)
+      (λ r b name start end children p. (
+        p.0,
+        reads_unbroken (standing_of name) r b start end (target_of children Missing) p.1,
+      )) forest around before (EachNode-both IsShapedNode _ forest around before shaped meets)
 
 pub fine_shaped : (holds : Reads) (forest : Forest) (around : Role) (before : Option Symbol) →
     EachNode (IsFine holds) forest around before → AreShaped forest around before
 fine_shaped holds forest around before fine =
-    EachNode-map (IsFine holds) IsShapedNode (λ r b name start end children p. p.0)
-    forest around before fine
+    EachNode-map _ IsShapedNode (λ r b name start end children p. p.0) forest around before fine
 
 pub fine_meets : (bytes : List ℕ) (names : List (List ℕ × List ℕ)) (forest : Forest) (around : Role)
     (before : Option Symbol) → EachNode (IsFine (Unbroken bytes names)) forest around before →
     MeetRules bytes names forest around before
 fine_meets bytes names forest around before fine =
-    EachNode-map (IsFine (Unbroken bytes names)) (MeetsRules bytes names)
+    EachNode-map _ _
     (λ r b name start end children p. unbroken_reads bytes names (standing_of name) r b start end
     (target_of children Missing) p.1) forest around before fine
 
@@ -101,7 +77,7 @@ pub fine_path_shaped : (holds : Reads) (path : List Level) →
     IsFinePath holds path → IsShapedPath path
 fine_path_shaped holds [] fine = tt
 fine_path_shaped holds (level ∷ path) fine = (
-  fine_shaped holds level.before (role_in path) (before_in path) fine.0,
+  fine_shaped holds level.before _ _ fine.0,
   fine_path_shaped holds path fine.1,
 )
 

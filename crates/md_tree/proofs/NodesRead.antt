@@ -1,31 +1,14 @@
 -- A node that is fine is read: it is entered, its children are read, and it is left.
 use Rattle.std.proofs.Common.{◌≡◌, ◌≢◌, ℕ, suc, true, cond, Option, Some, None, MatchOption, List}
 use Rattle.std.proofs.Common.{refl, sym, ap, ◌∙◌, subst}
-use Rattle.std.specs.Prelude.{option_map}
-use Rattle.md_base.specs.declared.event.Point.{Point}
-use Rattle.md_base.specs.declared.event.Name.{Name}
-use Rattle.md_pattern.specs.declared.kinds.Symbol.{Symbol}
-use Rattle.md_pattern.specs.declared.kinds.Role.{Role}
-use Rattle.md_pattern.specs.declared.kinds.Role.TheVariants.{Childless}
-use Rattle.md_pattern.specs.declared.kinds.Reading.{Reading}
-use Rattle.md_pattern.specs.declared.kinds.Reading.TheVariants.{Free}
-use Rattle.md_pattern.specs.declared.kinds.Standing.{Standing}
-use Rattle.md_pattern.specs.declared.kinds.Standing.TheVariants.{Through, Space, Solid, Mdx}
-use Rattle.md_tree.specs.declared.mention.Referral.{Referral}
-use Rattle.md_tree.specs.declared.mention.Referral.TheVariants.{Missing}
-use Rattle.md_tree.specs.declared.mention.Mentioned.{Mentioned}
-use Rattle.md_pattern.specs.declared.state.State.{State}
-use Rattle.md_tree.specs.Machine.{Entry}
-use Rattle.md_base.specs.Tree.{Forest, Empty, Node, flatten}
-use Rattle.md_pattern.specs.Standing.{standing_of}
-use Rattle.md_pattern.specs.Spine.{spine, shown, Matches}
-use Rattle.md_pattern.specs.Shape.{Claim, EachNode, IsShapedNode, IsStanding, inner_role}
-use Rattle.md_pattern.specs.Shape.{inner_before, role_for}
-use Rattle.md_tree.specs.Rules.{reading_of, place, target_after, target_of}
-use Rattle.md_tree.specs.Mentions.{mention_of, mentions_with}
-use Rattle.md_pattern.specs.Partners.{index_after}
-use Rattle.md_pattern.specs.Steps.{may_hold, start_of, advance}
-use Rattle.md_tree.specs.Machine.{Reads, Course, Runs, Exits, after_entry, entered, entered_on}
+use Rattle.md_tree.proofs.Common.{option_map, Point, Name, Symbol, Role, Childless, Reading, Free}
+use Rattle.md_tree.proofs.Common.{Standing, Through, Space, Solid, Mdx, Referral, Missing}
+use Rattle.md_tree.proofs.Common.{Mentioned, State, Entry, Forest, Empty, Node, flatten}
+use Rattle.md_tree.proofs.Common.{standing_of, spine, shown, Matches, Claim, EachNode, IsShapedNode}
+use Rattle.md_tree.proofs.Common.{IsStanding, inner_role, inner_before, role_for, reading_of, place}
+use Rattle.md_tree.proofs.Common.{target_after, target_of, mention_of, mentions_with, index_after}
+use Rattle.md_tree.proofs.Common.{may_hold, start_of, advance, Reads, Course, Runs, Exits}
+use Rattle.md_tree.proofs.Common.{after_entry, entered, entered_on}
 use Rattle.md_tree.proofs.Spots.{Feeds, advance_role}
 use Rattle.md_tree.proofs.Groups.{Feeds-matches}
 
@@ -47,7 +30,7 @@ AllowsFree holds =
     (around : Role) (before : Option Symbol) (start end : Point) (target : Referral) →
     holds Free around before start end target
 
-may_hold-from : (role : Role) → role ≢ Childless → may_hold role ≡ true
+pub may_hold-from : (role : Role) → role ≢ Childless → may_hold role ≡ true
 may_hold-from Childless ne = absurd (ne refl)
 may_hold-from _ ne = refl
 
@@ -106,132 +89,102 @@ ReadsChildren holds children =
     Feeds from.state (spine children) end →
     Runs holds (flatten children) from (after_nodes children end from)
 
-node_through : (holds : Reads) (name : Name) (start end : Point) (children : Forest)
-    (from : Course) (middle : State)
-    → may_hold from.state.role ≡ true → ReadsChildren holds children →
-    EachNode (IsFine holds) children from.state.role from.state.before →
-    Feeds from.state (spine children) middle →
-    NodeRuns holds Through name start end children from middle
-node_through holds name start end children from middle may reads fine feeds =
-    let entry : Entry = record { state = from.state; target = from.target; outer = None } in
-    record {
-      inside = after_entry entry name start from;
-      last = after_nodes children middle (after_entry entry name start from);
-      enters = enters_with Through name start from entry may refl;
-      runs = reads (after_entry entry name start from) middle fine feeds;
-      exits = (refl, refl);
-    }
+-- a node that is fine, by how its name stands
+module _ (holds : Reads) (free : AllowsFree holds) (name : Name) (start end : Point)
+    (children : Forest) (from : Course) (middle : State) (may : may_hold from.state.role ≡ true)
+    (reads : ReadsChildren holds children) where
+  node_through : EachNode (IsFine holds) children from.state.role from.state.before →
+      Feeds from.state (spine children) middle →
+      NodeRuns holds Through name start end children from middle
+  node_through fine feeds =
+      let entry : Entry = record { state = from.state; target = from.target; outer = None } in
+      record {
+        inside = after_entry entry name start from;
+        last = after_nodes children middle (after_entry entry name start from);
+        enters = enters_with Through name start from entry may refl;
+        runs = reads _ middle fine feeds;
+        exits = (refl, refl);
+      }
 
-node_space : (holds : Reads) → AllowsFree holds →
-    (name : Name) (start end : Point) (children : Forest)
-    (from : Course) (middle : State) → may_hold from.state.role ≡ true →
-    ReadsChildren holds children →
-    EachNode (IsFine holds) children Childless None → children ≡ Empty → from.state ≡ middle →
-    NodeRuns holds Space name start end children from middle
-node_space holds free name start end children from middle may reads fine empty same =
-    let entry : Entry = record {
-      state = start_of Childless;
-      target = Missing;
-      outer = Some
-          (record {
-            state = from.state;
-            before = from.state.before;
-            target = from.target;
-            reading = Free;
-          });
-    }
-    in
-    record {
-      inside = after_entry entry name start from;
-      last = after_nodes children (start_of Childless) (after_entry entry name start from);
-      enters = enters_with Space name start from entry may refl;
-      runs = reads (after_entry entry name start from) (start_of Childless) fine
-          (subst (λ c. Feeds (start_of Childless) (spine c) (start_of Childless)) (sym empty) refl);
-      exits = (
-        refl,
-        (
+  node_space : EachNode (IsFine holds) children Childless None → children ≡ Empty →
+      from.state ≡ middle → NodeRuns holds Space name start end children from middle
+  node_space fine empty same =
+      let entry : Entry = record {
+        state = start_of Childless;
+        target = Missing;
+        outer = Some (record {
+          state = from.state;
+          before = from.state.before;
+          target = from.target;
+          reading = Free;
+        });
+      } in
+      record {
+        inside = after_entry entry name start from;
+        last = after_nodes children (start_of Childless) (after_entry entry name start from);
+        enters = enters_with Space name start from entry may refl;
+        runs = reads _ _ fine (subst
+            (λ c. Feeds (start_of Childless) (spine c) (start_of Childless)) (sym empty) refl);
+        exits = (
           refl,
-          free from.state.role from.state.before start end (target_of children Missing),
-          ap (λ (s : State). record {
-            state = s;
-            target = from.target;
-            open_nodes = from.open_nodes;
-            count = suc (index_after (suc from.count) children);
-            mentions = mentions_over (suc from.count) children from.mentions;
-          }) (sym same),
-        ),
-      );
-    }
+          (
+            refl,
+            free from.state.role from.state.before start end _,
+            ap (λ s. record from {
+              state = s;
+              count = suc (index_after (suc from.count) children);
+              mentions = mentions_over (suc from.count) children from.mentions;
+            }) (sym same),
+          ),
+        );
+      }
 
-node_solid : (holds : Reads) (name : Name) (start end : Point) (children : Forest)
-    (from : Course) (middle : State)
-    (symbol : Symbol) (usual : Role) (reading : Reading) → may_hold from.state.role ≡ true →
-    ReadsChildren holds children → EachNode (IsFine holds) children
-    (role_for from.state.role from.state.before usual) None →
-    Matches (role_for from.state.role from.state.before usual) (spine children) →
-    holds reading from.state.role from.state.before start end (target_of children Missing) →
-    advance from.state symbol ≡ Some middle → NodeRuns holds
-    (Solid symbol usual reading) name start end children from middle
-node_solid holds name start end children from middle symbol usual reading may reads fine
-    matches read moved =
-    let role = role_for from.state.role from.state.before usual in
-    let entry : Entry = record {
-      state = start_of role;
-      target = Missing;
-      outer = Some
-          (record {
-            state = middle;
-            before = from.state.before;
-            target = from.target;
-            reading = reading;
-          });
-    } in
-    let whole = Feeds-matches role (spine children) matches in
-    record {
-      inside = after_entry entry name start from;
-      last = after_nodes children whole.0 (after_entry entry name start from);
-      enters = enters_with (Solid symbol usual reading) name start from entry may
-          (ap (option_map (λ (next : State). record {
-            state = start_of role;
-            target = Missing;
-            outer = Some (record {
-              state = next;
-              before = from.state.before;
-              target = from.target;
-              reading = reading;
-            });
-          })) moved);
-      runs = reads (after_entry entry name start from) whole.0 fine whole.1;
-      exits = (
-        refl,
-        (
-          whole.2,
-          subst (λ r. holds reading r from.state.before start end (target_of children Missing))
-              (sym (advance_role from.state middle symbol moved).0) read,
+  node_solid : (symbol : Symbol) (usual : Role) (reading : Reading) →
+      EachNode (IsFine holds) children (role_for from.state.role from.state.before usual) None →
+      Matches (role_for from.state.role from.state.before usual) (spine children) →
+      holds reading from.state.role from.state.before start end (target_of children Missing) →
+      advance from.state symbol ≡ Some middle →
+      NodeRuns holds (Solid symbol usual reading) name start end children from middle
+  node_solid symbol usual reading fine matches read moved =
+      let role = role_for from.state.role from.state.before usual in
+      let entered_as : State → Entry = λ next. record {
+        state = start_of role;
+        target = Missing;
+        outer = Some (record {
+          state = next;
+          before = from.state.before;
+          target = from.target;
+          reading = reading;
+        });
+      } in
+      let entry = entered_as middle in
+      let whole = Feeds-matches role (spine children) matches in
+      record {
+        inside = after_entry entry name start from;
+        last = after_nodes children whole.0 (after_entry entry name start from);
+        enters = enters_with (Solid symbol usual reading) name start from entry may
+            (ap (option_map entered_as) moved);
+        runs = reads _ whole.0 fine whole.1;
+        exits = (
           refl,
-        ),
-      );
-    }
+          (
+            whole.2,
+            subst (λ r. holds reading r from.state.before start end (target_of children Missing))
+                (sym (advance_role from.state middle symbol moved).0) read,
+            refl,
+          ),
+        );
+      }
 
-pub node_runs : (holds : Reads) → AllowsFree holds →
-    (standing : Standing) (name : Name) (start end : Point)
-    (children : Forest) (from : Course) (middle : State) → from.state.role ≢ Childless →
-    IsStanding standing from.state.role from.state.before children →
-    IsReadWhere holds standing from.state.role from.state.before start end
-    (target_of children Missing) →
-    ReadsChildren holds children → EachNode (IsFine holds) children (inner_role standing
-    from.state.role from.state.before) (inner_before standing from.state.before) →
-    Feeds from.state (shown standing (spine children)) middle →
-    NodeRuns holds standing name start end children from middle
-node_runs holds free Through name start end children from middle ne stands read reads fine feeds =
-    node_through holds name start end children from middle
-    (may_hold-from from.state.role ne) reads fine feeds
-node_runs holds free Space name start end children from middle ne stands read reads fine feeds =
-    node_space holds free name start end children from middle (may_hold-from from.state.role ne)
-    reads fine stands feeds
-node_runs holds free (Solid symbol usual reading) name start end children from middle ne stands
-    read reads fine feeds =
-    node_solid holds name start end children from middle symbol usual reading
-    (may_hold-from from.state.role ne) reads fine stands read (feeds.1 ∙ ap Some feeds.2)
-node_runs holds free Mdx name start end children from middle ne stands read reads fine feeds =
-    absurd stands
+  pub node_runs : (standing : Standing) →
+      IsStanding standing from.state.role from.state.before children → IsReadWhere holds standing
+      from.state.role from.state.before start end (target_of children Missing) → EachNode
+      (IsFine holds) children (inner_role standing from.state.role from.state.before)
+      (inner_before standing from.state.before) →
+      Feeds from.state (shown standing (spine children)) middle →
+      NodeRuns holds standing name start end children from middle
+  node_runs Through stands read fine feeds = node_through fine feeds
+  node_runs Space stands read fine feeds = node_space fine stands feeds
+  node_runs (Solid symbol usual reading) stands read fine feeds =
+      node_solid symbol usual reading fine stands read (feeds.1 ∙ ap Some feeds.2)
+  node_runs Mdx stands read fine feeds = absurd stands

@@ -1,59 +1,40 @@
 -- Identifiers in an ordered map, each with its number: which of the definitions is the
 -- first that has it.
-use Rattle.std.proofs.Common.{arith, ◌≡◌, ℕ, zero, suc, ◌+◌, ◌<◌, ◌≤◌, true, false, cond, Option}
-use Rattle.std.proofs.Common.{Some, None, List, [], ◌∷◌, ◌++◌, length, get_or, drop, refl, sym, ap}
-use Rattle.std.proofs.Common.{◌∙◌, subst}
-use Rattle.std.specs.Prelude.{option_map, if◌then◌else◌, set, slice_get}
+use Rattle.std.proofs.Common.{add_assoc, arith, ◌≡◌, ℕ, zero, suc, ◌+◌, ◌<◌, ◌≤◌, true, false, cond}
+use Rattle.std.proofs.Common.{Option, Some, None, List, [], ◌∷◌, ◌++◌, length, get_or, drop, refl}
+use Rattle.std.proofs.Common.{sym, ap, ◌∙◌, subst}
+use Rattle.std.specs.Prelude.{set}
 use Rattle.std.specs.BTreeMap.{UpdatesBy}
 use Rattle.std.proofs.lemmas.List.{at_drop_more}
-use Rattle.md_base.specs.declared.event.Position.{Position}
-use Rattle.md_pattern.specs.declared.facts.Fact.{Fact}
-use Rattle.md_tree.specs.declared.mention.Mention.{Mention}
-use Rattle.md_tree.specs.declared.mention.Mention.TheVariants.{Nothing, Reference, Call, Definition}
-use Rattle.md_tree.specs.declared.mention.Mention.TheVariants.{FootnoteDefinition}
-use Rattle.md_tree.specs.declared.mention.Mentioned.{Mentioned}
-use Rattle.md_tree.specs.Mentions.{defined, defined_by, footnoted_by, mentions_among}
-use Rattle.md_tree.specs.Numbers.{is_same, which, with_number, put_number, numbered}
-use Rattle.md_tree.specs.Numbers.{found_in, NumbersFrom, IdentifiersBefore}
+use Rattle.md_tree.proofs.Common.{option_map, if◌then◌else◌, slice_get, Position, Fact, Mention}
+use Rattle.md_tree.proofs.Common.{Definition, FootnoteDefinition, Mentioned, defined, defined_by}
+use Rattle.md_tree.proofs.Common.{footnoted_by, mentions_among, is_same, which, with_number}
+use Rattle.md_tree.proofs.Common.{put_number, numbered, NumbersFrom, IdentifiersBefore}
+use Rattle.md_tree.specs.Numbers.{found_in}
 use Rattle.md_tree.proofs.OneMoreIdentifier.{Text, Identifier, identifier_of, text_cmp, Numbered}
-use Rattle.md_tree.proofs.OneMoreIdentifier.{Known}
-use Rattle.md_tree.proofs.OneMoreIdentifier.{compared}
+use Rattle.md_tree.proofs.OneMoreIdentifier.{Known, compared}
 
 -- ---- definitions from the last on
-one_later : (before place : ℕ) → suc (suc before + place) ≡ suc (before + suc place)
-one_later before place = omega arith
-
-counted_on : (before : ℕ) (places : Option ℕ) →
-    option_map (λ place. suc (suc before + place)) places
-    ≡ option_map (λ place. suc (before + place)) (option_map (λ place. suc place) places)
+counted_on : (before : ℕ) (places : Option ℕ) → option_map (λ place. suc (suc before + place))
+    places ≡ option_map (λ place. suc (before + place)) (option_map (λ place. suc place) places)
 counted_on before None = refl
-counted_on before (Some place) = ap Some (one_later before place)
-
-at_first : (before : ℕ) → suc before ≡ suc (before + 0)
-at_first before = omega arith
+counted_on before (Some place) =
+    let later : suc (suc before + place) ≡ suc (before + suc place) = omega arith in ap Some later
 
 pub NumbersFrom-put : (old new : Numbered) (text : Text) (before : ℕ) (later : List Identifier) →
     NumbersFrom old (suc before) later →
     UpdatesBy text_cmp (text_cmp text) old new (Some (suc before)) →
     NumbersFrom new before (identifier_of text ∷ later)
 NumbersFrom-put old new text before later from updates wanted =
+    let at_first : suc before ≡ suc (before + 0) = omega arith in
     updates.0 wanted
     ∙ ap (λ b. cond b (Some (suc before)) (found_in old wanted)) (compared text wanted)
     ∙ elim (is_same (identifier_of text) (identifier_of wanted)) as (λ b. cond b (Some (suc before))
-    (found_in old wanted) ≡ option_map (λ place. suc (before + place)) (if b then
-    Some 0
+    (found_in old wanted) ≡ option_map (λ place. suc (before + place)) (if b then Some 0
     else option_map (λ place. suc place) (which later (identifier_of wanted)))) [
-      | true ↦ ap Some (at_first before)
-      | false ↦ from wanted ∙ counted_on before (which later (identifier_of wanted))
+      | true ↦ ap Some at_first
+      | false ↦ from wanted ∙ counted_on before _
     ]
-
-none_before : (places : Option ℕ) →
-    option_map (λ place. suc (0 + place)) places ≡ option_map (λ place. suc place) places
-none_before None = refl
-none_before (Some place) = ap Some (plus_zero place)
-  where
-    plus_zero : (n : ℕ) → suc (0 + n) ≡ suc n
-    plus_zero n = omega arith
 
 none_more : (n : ℕ) → n ≡ 0 + n
 none_more n = omega arith
@@ -62,36 +43,23 @@ none_more n = omega arith
 pub defined-last : (bytes : List ℕ) (before : List Mentioned) (last : Mentioned) →
     length (defined bytes (mentions_among (before ++ last ∷ [])))
     ≡ length (defined bytes (mentions_among before)) + length (defined_by bytes last.mention [])
-defined-last bytes [] last = none_more (length (defined_by bytes last.mention []))
+defined-last bytes [] last = none_more _
 defined-last bytes (one ∷ before) last =
-    more one.mention (defined bytes (mentions_among (before ++ last ∷ [])))
+    more one.mention _
     ∙ ap (λ n. length (defined_by bytes one.mention []) + n) (defined-last bytes before last)
-    ∙ sums (length (defined_by bytes one.mention []))
-    (length (defined bytes (mentions_among before))) (length (defined_by bytes last.mention []))
-    ∙ ap (λ n. n + length (defined_by bytes last.mention []))
-    (sym (more one.mention (defined bytes (mentions_among before))))
+    ∙ sym (add_assoc _ _ _)
+    ∙ ap (λ n. n + length (defined_by bytes last.mention [])) (sym (more one.mention _))
   where
-    more : (mention : Mention) (later : List Identifier) →
-        length (defined_by bytes mention later)
+    more : (mention : Mention) (later : List Identifier) → length (defined_by bytes mention later)
         ≡ length (defined_by bytes mention []) + length later
-    more (Definition label) later = plus_one (length later)
-      where
-        plus_one : (n : ℕ) → suc n ≡ 1 + n
-        plus_one n = omega arith
-    more Nothing later = none_more (length later)
-    more (Reference label) later = none_more (length later)
-    more (Call label) later = none_more (length later)
-    more (FootnoteDefinition label) later = none_more (length later)
-
-    sums : (a b c : ℕ) → a + (b + c) ≡ (a + b) + c
-    sums a b c = omega arith
+    more (Definition label) later = let n = length later in omega arith
+    more _ later = none_more (length later)
 
 -- a loop over mentions knows what they define, which F gives
 pub IdentifiersBefore-at : (F : List Mentioned → List Identifier) (mentioned : List Mentioned)
     (i : ℕ) (known : Known) → i < length mentioned →
-    IdentifiersBefore known (F (drop i mentioned)) (F mentioned) →
-    (n : Mentioned) (left : List Identifier) →
-    F (get_or mentioned i n ∷ drop (i + 1) mentioned) ≡ left →
+    IdentifiersBefore known (F (drop i mentioned)) (F mentioned) → (n : Mentioned)
+    (left : List Identifier) → F (get_or mentioned i n ∷ drop (i + 1) mentioned) ≡ left →
     IdentifiersBefore known left (F mentioned)
 IdentifiersBefore-at F mentioned i known inside before n left is =
     subst (λ xs. IdentifiersBefore known xs (F mentioned))

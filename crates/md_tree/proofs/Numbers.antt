@@ -1,30 +1,17 @@
 -- What is kept of a document's events: what is found at them, with a number at each
 -- exit of a mention.
-use Rattle.std.proofs.Common.{◌≡◌, ℕ, zero, suc, true, Option, Some, None, List, [], ◌∷◌}
-use Rattle.std.proofs.Common.{◌++◌, length, refl, sym, ap, ◌∙◌, subst}
-use Rattle.std.specs.Prelude.{map, slice_get, option_map}
-use Rattle.md_base.specs.declared.event.Name.{Name}
+use Rattle.std.proofs.Common.{◌≡◌, ℕ, zero, suc, true, Option, Some, None, List, [], ◌∷◌, ◌++◌}
+use Rattle.std.proofs.Common.{length, refl, sym, ap, ◌∙◌, subst}
+use Rattle.md_tree.proofs.Common.{map, slice_get, option_map, Name, Enter, Exit, Event, Fact}
+use Rattle.md_tree.proofs.Common.{index_after, facts_at, facts_of, fact_at, partner_alone}
+use Rattle.md_tree.proofs.Common.{tables_with, tables_after, facts-flatten, standing_of, Forest}
+use Rattle.md_tree.proofs.Common.{Empty, Node, flatten, entering, exiting, lie, Referral, Missing}
+use Rattle.md_tree.proofs.Common.{Resource, Label, Mention, Nothing, reading_of, target_of}
+use Rattle.md_tree.proofs.Common.{position_from, partner_event, position_there, position_at}
+use Rattle.md_tree.proofs.Common.{position_ended, mention_of, mentions_of, number_of, with_number}
+use Rattle.md_tree.proofs.Common.{number_for, facts_with, place_of, definition_for}
+use Rattle.md_tree.proofs.Common.{is_of_definitions}
 use Rattle.md_base.specs.declared.event.Name.TheVariants.{Link, Image}
-use Rattle.md_base.specs.declared.event.Kind.TheVariants.{Enter, Exit}
-use Rattle.md_base.specs.declared.event.Event.{Event}
-use Rattle.md_pattern.specs.declared.facts.Fact.{Fact}
-use Rattle.md_pattern.specs.Partners.{index_after}
-use Rattle.md_pattern.specs.Facts.{facts_at, facts_of, fact_at, partner_alone, tables_with}
-use Rattle.md_pattern.specs.Facts.{tables_after}
-use Rattle.md_pattern.proofs.Passing.{facts-flatten}
-use Rattle.md_pattern.specs.Standing.{standing_of}
-use Rattle.md_base.specs.Tree.{Forest, Empty, Node, flatten, entering, exiting}
-use Rattle.md_base.proofs.Lies.{lie}
-use Rattle.md_tree.specs.declared.mention.Referral.{Referral}
-use Rattle.md_tree.specs.declared.mention.Referral.TheVariants.{Missing, Resource, Label}
-use Rattle.md_tree.specs.declared.mention.Mention.{Mention}
-use Rattle.md_tree.specs.declared.mention.Mention.TheVariants.{Nothing, Reference}
-use Rattle.md_tree.specs.Rules.{reading_of, target_of}
-use Rattle.md_tree.specs.Found.{position_from, partner_event, position_there, position_at}
-use Rattle.md_tree.specs.Found.{position_ended}
-use Rattle.md_tree.specs.Mentions.{mention_of, mentions_of}
-use Rattle.md_tree.specs.Numbers.{number_of, with_number, number_for, facts_with, place_of}
-use Rattle.md_tree.specs.Numbers.{definition_for, is_of_definitions}
 
 -- ---- what doesn't change by numbers
 partner_with : (number : ℕ) (fact : Fact) → Fact.partner (with_number number fact) ≡ fact.partner
@@ -51,21 +38,19 @@ by_partner events (Some one) (Some other) e = let same : one.partner ≡ other.p
 pub ended-with : (events : List Event) (numbers : List ℕ) (facts : List Fact) (index : ℕ) →
     position_ended events (facts_with numbers facts) index ≡ position_ended events facts index
 ended-with events numbers facts index =
-    ap (λ o. position_from o (slice_get events index))
-    (by_partner events (slice_get (facts_with numbers facts) index)
-    (slice_get facts index) (partner-with numbers facts index))
+    ap (λ o. position_from o (slice_get events index)) (by_partner events (slice_get _ index)
+    _ (partner-with numbers facts index))
 
 pub there-with : (events : List Event) (numbers : List ℕ) (facts : List Fact) (index : ℕ) →
     position_there events (facts_with numbers facts) index ≡ position_there events facts index
 there-with events numbers facts index =
-    ap (λ o. position_from (slice_get events index) o) (by_partner events
-    (slice_get (facts_with numbers facts) index) (slice_get facts index)
+    ap (λ o. position_from (slice_get events index) o) (by_partner events (slice_get _ index) _
     (partner-with numbers facts index))
 
 pub at-with : (events : List Event) (numbers : List ℕ) (facts : List Fact) (index : ℕ) →
     position_at events (facts_with numbers facts) index ≡ position_at events facts index
 at-with events numbers facts zero = refl
-at-with events numbers facts (suc index) = there-with events numbers facts (suc index)
+at-with events numbers facts (suc index) = there-with events numbers facts _
 
 pub length-with : (numbers : List ℕ) (facts : List Fact) →
     length (facts_with numbers facts) ≡ length facts
@@ -79,8 +64,7 @@ length-with (number ∷ numbers) (fact ∷ facts) = ap suc (length-with numbers 
 -- partner is found at it
 abbrev pub IsRecorded : Event → Fact → Mention → Type 0
 IsRecorded event fact mention =
-    (event.kind ≡ Enter → mention ≡ Nothing)
-    × (event.kind ≡ Exit → (fact.read_at ≡ 0)
+    (event.kind ≡ Enter → mention ≡ Nothing) × (event.kind ≡ Exit → (fact.read_at ≡ 0)
     × ((target : Referral) × (mention ≡ mention_of (reading_of (standing_of event.name)) target)))
 
 abbrev AreRecorded : List Event → List Fact → List Mention → Type 0
@@ -90,15 +74,11 @@ AreRecorded (event ∷ events) (fact ∷ facts) (mention ∷ mentions) =
 AreRecorded _ _ _ = ⊥
 
 recorded_append : (xs ys : List Event) (fs gs : List Fact) (ms ns : List Mention) →
-    AreRecorded xs fs ms → AreRecorded ys gs ns →
-    AreRecorded (xs ++ ys) (fs ++ gs) (ms ++ ns)
+    AreRecorded xs fs ms → AreRecorded ys gs ns → AreRecorded (xs ++ ys) (fs ++ gs) (ms ++ ns)
 recorded_append [] ys [] gs [] ns one two = two
 recorded_append (x ∷ xs) ys (f ∷ fs) gs (m ∷ ms) ns one two =
     (one.0, recorded_append xs ys fs gs ms ns one.1 two)
-recorded_append [] ys [] gs (m ∷ ms) ns one two = absurd one
-recorded_append [] ys (f ∷ fs) gs ms ns one two = absurd one
-recorded_append (x ∷ xs) ys [] gs ms ns one two = absurd one
-recorded_append (x ∷ xs) ys (f ∷ fs) gs [] ns one two = absurd one
+recorded_append _ ys _ gs _ ns one two = absurd one
 
 recorded : (forest : Forest) (index tables : ℕ) →
     AreRecorded (flatten forest) (facts_of index tables forest) (mentions_of forest)
@@ -114,11 +94,8 @@ recorded (Node name start end children rest) index tables =
     (λ e. cc, λ e. (refl, (target_of children Missing, refl))) in (
       entry_recorded,
       recorded_append (flatten children) (exiting name end ∷ flatten rest)
-          (facts_of (suc index) tables children)
-          (partner_alone index ∷ facts_of (suc exit) more rest) (mentions_of children)
-          (mention_of (reading_of (standing_of name)) (target_of children Missing)
-          ∷ mentions_of rest)
-          (recorded children (suc index) tables) (exit_recorded, recorded rest (suc exit) more),
+          (facts_of _ tables children) _ _ _
+          (recorded children _ tables) (exit_recorded, recorded rest _ more),
     )
 
 -- the three at an index
@@ -127,9 +104,8 @@ RecordedAt events facts mentions index event =
     (fact : Fact) × (mention : Mention) × (slice_get facts index ≡ Some fact)
     × (slice_get mentions index ≡ Some mention) × IsRecorded event fact mention
 
-recorded_at : (events : List Event) (facts : List Fact) (mentions : List Mention)
-    (index : ℕ) (event : Event) →
-    AreRecorded events facts mentions → slice_get events index ≡ Some event →
+recorded_at : (events : List Event) (facts : List Fact) (mentions : List Mention) (index : ℕ)
+    (event : Event) → AreRecorded events facts mentions → slice_get events index ≡ Some event →
     RecordedAt events facts mentions index event
 recorded_at [] facts mentions index event all e = cc
 recorded_at (x ∷ events) (f ∷ facts) (m ∷ mentions) zero event all e =
@@ -142,8 +118,7 @@ recorded_at (x ∷ events) [] mentions index event all e = absurd all
 recorded_at (x ∷ events) (f ∷ facts) [] index event all e = absurd all
 
 pub recorded-at : (forest : Forest) (events : List Event) (index : ℕ) (event : Event) →
-    flatten forest ≡ events →
-    slice_get events index ≡ Some event →
+    flatten forest ≡ events → slice_get events index ≡ Some event →
     RecordedAt events (facts_at events) (mentions_of forest) index event
 recorded-at forest events index event flattened here =
     recorded_at events (facts_at events) (mentions_of forest) index event
@@ -154,9 +129,8 @@ recorded-at forest events index event flattened here =
 -- what is kept at an index
 pub got-with : (number : Mention → ℕ) (mentions : List Mention) (facts : List Fact) (index : ℕ)
     (fact : Fact) (mention : Mention) → slice_get facts index ≡ Some fact →
-    slice_get mentions index ≡ Some mention →
-    slice_get (facts_with (map number mentions) facts) index
-    ≡ Some (with_number (number mention) fact)
+    slice_get mentions index ≡ Some mention → slice_get (facts_with (map number mentions) facts)
+    index ≡ Some (with_number (number mention) fact)
 got-with number [] facts index fact mention f m = cc
 got-with number (n ∷ mentions) [] index fact mention f m = cc
 got-with number (n ∷ mentions) (g ∷ facts) zero fact mention f m =
@@ -177,17 +151,16 @@ pub place-number : (place : Option ℕ) → place_of (number_of place) ≡ place
 place-number None = refl
 place-number (Some place) = refl
 
-pub number-definition :
-    (bytes : List ℕ) (mentions : List Mention) (name : Name) (target : Referral) →
-    is_of_definitions name ≡ true →
-    place_of (number_for bytes mentions (mention_of (reading_of (standing_of name)) target))
-    ≡ definition_for bytes mentions (mention_of (reading_of (standing_of name)) target)
+pub number-definition : (bytes : List ℕ) (mentions : List Mention) (name : Name)
+    (target : Referral) → is_of_definitions name ≡ true → place_of
+    (number_for bytes mentions (mention_of (reading_of (standing_of name)) target)) ≡ definition_for
+    bytes mentions (mention_of (reading_of (standing_of name)) target)
 number-definition bytes mentions Link Missing is = refl
 number-definition bytes mentions Link Resource is = refl
 number-definition bytes mentions Link (Label label) is =
-    place-number (definition_for bytes mentions (Reference label))
+    place-number _
 number-definition bytes mentions Image Missing is = refl
 number-definition bytes mentions Image Resource is = refl
 number-definition bytes mentions Image (Label label) is =
-    place-number (definition_for bytes mentions (Reference label))
+    place-number _
 number-definition bytes mentions _ target is = absurd (lie is)

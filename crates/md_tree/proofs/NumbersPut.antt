@@ -1,15 +1,9 @@
 -- Numbers written one by one are those of the list.
 use Rattle.std.proofs.Common.{◌≡◌, ℕ, suc, ◌≤◌, List, [], ◌∷◌, ◌++◌, length, refl, sym, ap, ◌∙◌}
 use Rattle.std.proofs.Common.{append_assoc, append-nil, arith}
-use Rattle.std.specs.Prelude.{map}
-use Rattle.md_pattern.specs.declared.facts.Fact.{Fact}
-use Rattle.md_tree.specs.declared.mention.Mention.{Mention}
-use Rattle.md_tree.specs.declared.mention.Mention.TheVariants.{Nothing, Reference, Call, Definition}
-use Rattle.md_tree.specs.declared.mention.Mention.TheVariants.{FootnoteDefinition}
-use Rattle.md_tree.specs.Mentions.{mentions_among, identifier_at}
-use Rattle.md_tree.specs.Numbers.{which, number_of, with_number, put_number, numbered}
-use Rattle.md_tree.specs.Numbers.{number_for}
-use Rattle.md_tree.specs.Numbers.{facts_with}
+use Rattle.md_tree.proofs.Common.{length_one, map, Fact, Mention, Nothing, Reference}
+use Rattle.md_tree.proofs.Common.{mentions_among, identifier_at, which, number_of, with_number}
+use Rattle.md_tree.proofs.Common.{put_number, numbered, number_for, facts_with}
 use Rattle.md_tree.proofs.Listing.{listed, defined_listed}
 use Rattle.md_tree.proofs.Numbering.{put-none, put-past}
 
@@ -20,11 +14,8 @@ module _ (number : Mention → ℕ) (none : number Nothing ≡ 0) where
       ≡ numbered number (listed (suc index) mentions) (put_number index (number mention) facts)
   one_listed Nothing mentions index facts =
       ap (λ fs. numbered number (listed (suc index) mentions) fs)
-      (sym (put-none facts index (number Nothing) none))
-  one_listed (Reference label) mentions index facts = refl
-  one_listed (Call label) mentions index facts = refl
-  one_listed (Definition label) mentions index facts = refl
-  one_listed (FootnoteDefinition label) mentions index facts = refl
+      (sym (put-none facts index _ none))
+  one_listed _ mentions index facts = refl
 
   past_listed : (mentions : List Mention) (index : ℕ) (facts : List Fact) → length facts ≤ index →
       numbered number (listed index mentions) facts ≡ facts
@@ -32,40 +23,31 @@ module _ (number : Mention → ℕ) (none : number Nothing ≡ 0) where
   past_listed (mention ∷ mentions) index facts past =
       let more : length facts ≤ suc index = omega (arith, past) in
       one_listed mention mentions index facts
-      ∙ ap (λ fs. numbered number (listed (suc index) mentions) fs)
-      (put-past facts index (number mention) past)
-      ∙ past_listed mentions (suc index) facts more
+      ∙ ap (λ fs. numbered number (listed (suc index) mentions) fs) (put-past facts index _ past)
+      ∙ past_listed mentions _ facts more
 
   put_after : (before facts : List Fact) (n index : ℕ) → length before ≡ index →
       put_number index n (before ++ facts) ≡ before ++ put_number 0 n facts
   put_after [] facts n index e = ap (λ i. put_number i n facts) (sym e)
   put_after (fact ∷ before) facts n index e =
       ap (λ i. put_number i n (fact ∷ (before ++ facts))) (sym e)
-      ∙ ap (λ fs. fact ∷ fs) (put_after before facts n (length before) refl)
+      ∙ ap (λ fs. fact ∷ fs) (put_after before facts n _ refl)
 
   all_listed : (mentions : List Mention) (index : ℕ) (before facts : List Fact) →
-      length before ≡ index →
-      numbered number (listed index mentions) (before ++ facts)
+      length before ≡ index → numbered number (listed index mentions) (before ++ facts)
       ≡ before ++ facts_with (map number mentions) facts
   all_listed [] index before facts e = refl
   all_listed (mention ∷ mentions) index before [] e =
+      let within : length before ≡ index → length before ≤ index = λ same. omega (arith, same) in
       ap (λ fs. numbered number (listed index (mention ∷ mentions)) fs) (append-nil before)
       ∙ past_listed (mention ∷ mentions) index before (within e) ∙ sym (append-nil before)
-    where
-      within : length before ≡ index → length before ≤ index
-      within e = omega (arith, e)
   all_listed (mention ∷ mentions) index before (fact ∷ facts) e =
       let here = with_number (number mention) fact in
       one_listed mention mentions index (before ++ fact ∷ facts)
       ∙ ap (λ fs. numbered number (listed (suc index) mentions) fs)
-      (put_after before (fact ∷ facts) (number mention)
-      index e ∙ sym (append_assoc before (here ∷ []) facts))
-      ∙ all_listed mentions (suc index) (before ++ here ∷ []) facts (longer before here index e)
-      ∙ append_assoc before (here ∷ []) (facts_with (map number mentions) facts)
-    where
-      longer : (xs : List Fact) (x : Fact) (n : ℕ) → length xs ≡ n → length (xs ++ x ∷ []) ≡ suc n
-      longer [] x n e = ap suc e
-      longer (y ∷ xs) x n e = ap suc (longer xs x (length xs) refl) ∙ ap suc e
+      (put_after before (fact ∷ facts) _ index e ∙ sym (append_assoc before _ facts))
+      ∙ all_listed mentions _ _ facts (length_one before here ∙ ap suc e)
+      ∙ append_assoc before (here ∷ []) _
 
 -- two ways to number that are alike
 module _ (one other : Mention → ℕ) (alike : (mention : Mention) → one mention ≡ other mention) where
@@ -81,15 +63,11 @@ pub numbered-listed : (bytes : List ℕ) (mentions : List Mention) (facts : List
 numbered-listed bytes mentions facts =
     let some = mentions_among (listed 0 mentions) in
     all_listed (number_for bytes some) refl mentions 0 [] facts refl
-    ∙ ap (λ numbers. facts_with numbers facts)
-    (alike_all (number_for bytes some) (number_for bytes mentions) alike mentions)
+    ∙ ap (λ numbers. facts_with numbers facts) (alike_all _ _ alike mentions)
   where
     alike : (mention : Mention) → number_for bytes (mentions_among (listed 0 mentions)) mention
         ≡ number_for bytes mentions mention
-    alike Nothing = refl
     alike (Reference label) =
         ap (λ ds. number_of (which ds (identifier_at bytes label)))
         (defined_listed bytes mentions 0)
-    alike (Definition label) = refl
-    alike (Call label) = refl
-    alike (FootnoteDefinition label) = refl
+    alike _ = refl

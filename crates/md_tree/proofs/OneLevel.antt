@@ -2,27 +2,15 @@
 use denote.Enum.Bare.{sameb}
 use Rattle.std.proofs.Common.{◌≡◌, Bool, true, false, ◌||◌, cond, Option, List, [], ◌∷◌, ◌++◌, refl}
 use Rattle.std.proofs.Common.{sym, ap, ◌∙◌, subst}
-use Rattle.std.specs.List.{list_all}
-use Rattle.std.proofs.lemmas.List.Folds.{list_all-append}
-use Rattle.md_pattern.specs.contracts.kinds.Symbol.{the_type}
-use Rattle.md_base.specs.declared.event.AlignKind.{AlignKind}
-use Rattle.md_base.specs.declared.event.Name.{Name}
-use Rattle.md_base.specs.declared.event.Name.TheVariants.{GfmTableHead, GfmTableDelimiterCellValue}
-use Rattle.md_pattern.specs.declared.kinds.Symbol.{Symbol}
+use Rattle.md_tree.proofs.Common.{list_all, list_all-append, the_type, AlignKind, Name}
+use Rattle.md_tree.proofs.Common.{GfmTableHead, GfmTableDelimiterCellValue, Symbol, Role, Standing}
+use Rattle.md_tree.proofs.Common.{Through, Space, Solid, Mdx, Forest, Empty, Node, is_transparent}
+use Rattle.md_tree.proofs.Common.{is_table_head, is_delimiter_row, standing_of, spine, shown}
+use Rattle.md_tree.proofs.Common.{EachNode, IsShapedNode, IsStanding, inner_role, inner_before}
+use Rattle.md_tree.proofs.Common.{alignment_of, alignments, in_each}
 use Rattle.md_pattern.specs.declared.kinds.Symbol.TheVariants as symbol
-use Rattle.md_pattern.specs.declared.kinds.Role.{Role}
-use Rattle.md_pattern.specs.declared.kinds.Standing.{Standing}
-use Rattle.md_pattern.specs.declared.kinds.Standing.TheVariants.{Through, Space, Solid, Mdx}
-use Rattle.md_base.specs.Tree.{Forest, Empty, Node}
-use Rattle.md_base.specs.NameTests.{is_transparent, is_table_head, is_delimiter_row}
 use Rattle.md_base.specs.NameTests.{leads_to_values}
 use Rattle.md_base.specs.Is.{is as is_named}
-use Rattle.md_pattern.specs.Standing.{standing_of}
-use Rattle.md_pattern.specs.Spine.{spine, shown}
-use Rattle.md_pattern.specs.Shape.{EachNode, IsShapedNode, IsStanding, inner_role, inner_before}
-use Rattle.md_pattern.specs.Shape.{last_symbol}
-use Rattle.md_pattern.specs.Alignments.{alignment_of, alignments}
-use Rattle.md_tree.specs.Tables.{in_each}
 use Rattle.md_tree.proofs.SettledPatterns.{and_left, and_right}
 
 -- ---- names by their symbols
@@ -61,8 +49,7 @@ at_node name children =
     (cond (leads_to_values name) (alignments children) [])
 
 node_through : (value leads transparent : Bool) (own inner found : List AlignKind) →
-    value ≡ false → leads ≡ true →
-    transparent ≡ true → inner ≡ found →
+    value ≡ false → leads ≡ true → transparent ≡ true → inner ≡ found →
     cond value own (cond leads inner []) ≡ cond transparent found []
 node_through value leads transparent own inner found v l t same =
     ap (λ b. cond b own (cond leads inner [])) v ∙ ap (λ b. cond b inner []) l ∙ same
@@ -92,48 +79,49 @@ module _ (test : Name → Bool) (only : Name) (one : Symbol) (p : Symbol → Boo
       (around : Role) (before : Option Symbol) → EachNode IsShapedNode forest around before →
       list_all p (spine forest) ≡ true → alignments forest ≡ in_each test found forest
 
+  -- a transparent name
+  seen_through : (name : Name) (children : Forest) → Named name →
+      is_through (standing_of name) ≡ true → alignments children ≡ in_each test found children →
+      at_node name children ≡ cond (is_transparent name) (in_each test found children) []
+  seen_through name children names through same =
+      node_through (is_named GfmTableDelimiterCellValue name) (leads_to_values name)
+      (is_transparent name) (alignment_of children ∷ []) (alignments children) _
+      (names.value ∙ no_value (standing_of name) through)
+      (names.leads ∙ ap (λ b. b || (is_table_head name || is_delimiter_row name)) through)
+      (names.transparent ∙ through) same
+    where
+      no_value : (standing : Standing) → is_through standing ≡ true →
+          has_symbol symbol.TableDelimiterValue standing ≡ false
+      no_value (Solid seen usual reading) e = cc
+      no_value _ e = refl
+
   -- a name that doesn't pass the test
   other_node : (name : Name) (children : Forest) (around : Role) (before : Option Symbol) →
-      Named name →
-      Level children → (standing : Standing) → standing_of name ≡ standing →
-      has_symbol one standing ≡ false →
-      IsStanding standing around before children →
+      Named name → Level children → (standing : Standing) → standing_of name ≡ standing →
+      has_symbol one standing ≡ false → IsStanding standing around before children →
       EachNode IsShapedNode children (inner_role standing around before)
       (inner_before standing before) → list_all p (shown standing (spine children)) ≡ true →
       at_node name children ≡ cond (is_transparent name) (in_each test found children) []
   other_node name children around before names again Through is none stands shaped all =
-      node_through (is_named GfmTableDelimiterCellValue name) (leads_to_values name)
-      (is_transparent name) (alignment_of children
-      ∷ []) (alignments children) (in_each test found children) (names.value
-      ∙ ap (has_symbol symbol.TableDelimiterValue) is) (names.leads
-      ∙ ap (λ s. is_through s || (is_table_head name || is_delimiter_row name)) is)
-      (names.transparent ∙ ap is_through is) (again around before shaped all)
+      seen_through name children names (ap is_through is) (again around before shaped all)
   other_node name children around before names again Space is none stands shaped all =
-      node_through (is_named GfmTableDelimiterCellValue name) (leads_to_values name)
-      (is_transparent name) (alignment_of children
-      ∷ []) (alignments children) (in_each test found children) (names.value
-      ∙ ap (has_symbol symbol.TableDelimiterValue) is) (names.leads
-      ∙ ap (λ s. is_through s || (is_table_head name || is_delimiter_row name)) is)
-      (names.transparent
-      ∙ ap is_through is) (ap alignments stands ∙ ap (in_each test found) (sym stands))
+      seen_through name children names (ap is_through is)
+      (ap alignments stands ∙ ap (in_each test found) (sym stands))
   other_node name children around before names again (Solid seen usual reading) is
       none stands shaped all =
-      let apart = others seen (and_left (p seen) true all) none in
+      let apart = others seen (and_left _ _ all) none in
       let leads =
       names.leads ∙ ap (λ s. is_through s || (is_table_head name || is_delimiter_row name)) is
       ∙ ap (λ b. b || is_delimiter_row name) (names.head ∙ ap (has_symbol symbol.TableHead) is)
       ∙ ap (λ b. sameb the_type symbol.TableHead seen || b) (names.row
       ∙ ap (has_symbol symbol.TableDelimiterRow) is) ∙ apart.1 in
-      node_apart (is_named GfmTableDelimiterCellValue name) (leads_to_values name)
-      (is_transparent name) (alignment_of children
-      ∷ []) (alignments children) (in_each test found children) (names.value
+      node_apart _ _ _ _ _ _ (names.value
       ∙ ap (has_symbol symbol.TableDelimiterValue) is ∙ apart.0) leads
       (names.transparent ∙ ap is_through is)
   other_node name children around before names again Mdx is none stands shaped all = absurd stands
 
   any_node : (name : Name) (children : Forest) (around : Role) (before : Option Symbol) →
-      Level children →
-      IsStanding (standing_of name) around before children →
+      Level children → IsStanding (standing_of name) around before children →
       EachNode IsShapedNode children (inner_role (standing_of name) around before)
       (inner_before (standing_of name) before) →
       list_all p (shown (standing_of name) (spine children)) ≡ true →
@@ -141,25 +129,21 @@ module _ (test : Name → Bool) (only : Name) (one : Symbol) (p : Symbol → Boo
       ≡ cond passed (found children) (cond (is_transparent name) (in_each test found children) [])
   any_node name children around before again stands shaped all true is =
       let same : name ≡ only = test_is name is in
-      ap (λ n. at_node n children) same
-      ∙ own around before children
+      ap (λ n. at_node n children) same ∙ own around before children
       (subst (λ n. IsStanding (standing_of n) around before children) same stands)
       (subst (λ n. EachNode IsShapedNode children (inner_role (standing_of n) around before)
       (inner_before (standing_of n) before)) same shaped)
   any_node name children around before again stands shaped all false is =
-      other_node name children around before (named name) again (standing_of name) refl
-      (sym (test_symbol name)
+      other_node name children around before (named name) again _ refl (sym (test_symbol name)
       ∙ is) stands shaped all
 
   pub level : (forest : Forest) → Level forest
   level Empty around before shaped all = refl
   level (Node name start end children rest) around before shaped all =
       let st = standing_of name in
-      let both = sym (list_all-append p (shown st (spine children)) (spine rest)) ∙ all in
+      let both = sym (list_all-append p _ _) ∙ all in
       let here = any_node name children around before (level children) shaped.0.1 shaped.1
-      (and_left (list_all p (shown st (spine children))) (list_all p (spine rest)) both)
-      (test name) refl in
-      let after = level rest around (last_symbol before (shown st (spine children))) shaped.2
-      (and_right (list_all p (shown st (spine children))) (list_all p (spine rest)) both) in
+      (and_left _ _ both) _ refl in
+      let after = level rest around _ shaped.2 (and_right _ _ both) in
       ap (λ xs. xs ++ alignments rest) here ∙ ap (λ ys. cond (test name) (found children)
       (cond (is_transparent name) (in_each test found children) []) ++ ys) after

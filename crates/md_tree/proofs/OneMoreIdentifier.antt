@@ -1,7 +1,7 @@
 -- Identifiers that are the same, and a set of them with one more.
-use Rattle.std.proofs.Common.{◌≡◌, ℕ, suc, Bool, true, false, cond, Option, Some, None}
-use Rattle.std.proofs.Common.{List, ◌∷◌, refl, ap, ◌∙◌}
-use Rattle.std.specs.Prelude.{option_map, is_some, ◌||◌, string_bytes, String, if◌then◌else◌}
+use Rattle.std.proofs.Common.{◌≡◌, ℕ, suc, Bool, true, false, cond, Option, Some, None, List, ◌∷◌}
+use Rattle.std.proofs.Common.{refl, ap, ◌∙◌}
+use Rattle.std.specs.Prelude.{◌||◌, string_bytes, String}
 use Rattle.std.specs.Option.{option_cmp}
 use Rattle.std.specs.String.{string_cmp}
 use Rattle.std.specs.Ordering.{is_eq}
@@ -11,7 +11,8 @@ use Rattle.std.specs.BTreeMap.{BTreeMap}
 use Rattle.std.specs.BTreeSet.{BTreeSet, contains, Updates}
 use Rattle.std.proofs.lemmas.Map.Text.{is_eq-slice_cmp}
 use Rattle.std.proofs.lemmas.Slice.Eq.{bytes_eq-Decides}
-use Rattle.md_tree.specs.Numbers.{is_same, which, IdentifiersBefore}
+use Rattle.md_tree.proofs.Common.{option_map, is_some, if◌then◌else◌, is_same, which}
+use Rattle.md_tree.proofs.Common.{IdentifiersBefore}
 
 abbrev pub Text : Type 0
 Text = Option (String Global)
@@ -57,12 +58,10 @@ module _ (old new : Known) (text : Text) (left all : List Identifier)
     (updates : Updates text_cmp old new text true) where
   pub IdentifiersBefore-put : IdentifiersBefore new left all
   IdentifiersBefore-put wanted =
-      ap (λ b. b || is_some (which left (identifier_of wanted)))
-      (updates.0 wanted
+      ap (λ b. b || is_some (which left (identifier_of wanted))) (updates.0 wanted
       ∙ ap (λ b. cond b true (contains text_cmp old wanted)) (compared text wanted))
       ∙ moved (is_same (identifier_of text) (identifier_of wanted)) (contains text_cmp old wanted)
-      (which left (identifier_of wanted))
-      ∙ before wanted
+      (which left _) ∙ before wanted
     where
       moved : (b known : Bool) (o : Option ℕ) → cond b true known || is_some o
           ≡ known || is_some (if b then Some 0 else option_map (λ place. suc place) o)
@@ -70,4 +69,4 @@ module _ (old new : Known) (text : Text) (left all : List Identifier)
       moved true false o = refl
       moved false true o = refl
       moved false false None = refl
-      moved false false (Some place) = refl
+      moved false false _ = refl

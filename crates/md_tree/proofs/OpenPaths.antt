@@ -1,25 +1,12 @@
 -- The open nodes of a course are those of a path: where a course stands after some events.
 use Rattle.std.proofs.Common.{◌≡◌, Bool, true, false, cond, Option, Some, None, List, [], ◌∷◌, ◌++◌}
 use Rattle.std.proofs.Common.{refl, sym, ap, ◌∙◌, subst, append_assoc}
-use Rattle.md_base.specs.declared.event.Event.{Event}
-use Rattle.md_pattern.specs.declared.kinds.Symbol.{Symbol}
-use Rattle.md_pattern.specs.declared.kinds.Role.{Role}
-use Rattle.md_pattern.specs.declared.kinds.Role.TheVariants.{Flow, Childless}
-use Rattle.md_pattern.specs.declared.kinds.Reading.TheVariants.{Free}
-use Rattle.md_pattern.specs.declared.kinds.Standing.{Standing}
-use Rattle.md_pattern.specs.declared.kinds.Standing.TheVariants.{Through, Space, Solid, Mdx}
-use Rattle.md_tree.specs.declared.mention.Referral.{Referral}
-use Rattle.md_tree.specs.declared.mention.Referral.TheVariants.{Missing}
-use Rattle.md_pattern.specs.declared.state.State.{State}
-use Rattle.md_tree.specs.Machine.{Entry, Open, Outer}
-use Rattle.md_base.specs.Tree.{Forest, Empty, Node, flatten, entering, exiting}
-use Rattle.md_pattern.specs.Standing.{standing_of}
-use Rattle.md_pattern.specs.Spine.{spine, shown}
-use Rattle.md_pattern.specs.Shape.{Claim, EachNode, inner_role, inner_before, last_symbol, role_for}
-use Rattle.md_tree.specs.Rules.{place, target_after, target_of}
-use Rattle.md_tree.specs.Refusal.{Level, opening, role_in, before_in, symbol_after}
-use Rattle.md_pattern.specs.Steps.{may_hold, start_of, advance}
-use Rattle.md_tree.specs.Machine.{Reads, Course, entered, entered_on, beginning}
+use Rattle.md_tree.proofs.Common.{Event, Symbol, Role, Flow, Standing, Solid, Mdx, Referral}
+use Rattle.md_tree.proofs.Common.{Missing, State, Entry, Open, Outer, Forest, Empty, Node, flatten}
+use Rattle.md_tree.proofs.Common.{entering, exiting, standing_of, spine, shown, Claim, EachNode}
+use Rattle.md_tree.proofs.Common.{inner_role, inner_before, last_symbol, role_for, target_of, Level}
+use Rattle.md_tree.proofs.Common.{opening, role_in, before_in, symbol_after, start_of, Reads}
+use Rattle.md_tree.proofs.Common.{Course, entered, entered_on, beginning}
 use Rattle.md_tree.proofs.Spots.{Feeds, option_map-some}
 use Rattle.md_tree.proofs.NodesRead.{IsFine}
 use Rattle.md_tree.proofs.Trees.{Feeds-context}
@@ -50,14 +37,13 @@ pub target_of-joined : (forest others : Forest) (found : Referral) →
     target_of (joined forest others) found ≡ target_of others (target_of forest found)
 target_of-joined Empty others found = refl
 target_of-joined (Node name start end children rest) others found =
-    target_of-joined rest others
-    (target_after (standing_of name) found (target_of children) (place start end))
+    target_of-joined rest others _
 
 last_symbol-append : (before : Option Symbol) (symbols others : List Symbol) →
     last_symbol before (symbols ++ others) ≡ last_symbol (last_symbol before symbols) others
 last_symbol-append before [] others = refl
 last_symbol-append before (symbol ∷ symbols) others =
-    last_symbol-append (Some symbol) symbols others
+    last_symbol-append _ symbols others
 
 pub EachNode-joined :
     (P : Claim) (forest others : Forest) (around : Role) (before : Option Symbol) →
@@ -132,17 +118,6 @@ pub entered_context : (standing : Standing) (state : State) (target : Referral) 
     entered_on standing state target ≡ Some entry →
     (entry.state.role ≡ inner_role standing state.role state.before)
     × (entry.state.before ≡ inner_before standing state.before)
-entered_context Through state target entry e =
-    let same = some_entry (record { state = state; target = target; outer = None }) entry e in
-    (ap (λ (n : Entry). n.state.role) (sym same), ap (λ (n : Entry). n.state.before) (sym same))
-entered_context Space state target entry e =
-    let same = some_entry (record {
-      state = start_of Childless;
-      target = Missing;
-      outer =
-          Some (record { state = state; before = state.before; target = target; reading = Free });
-    }) entry e in
-    (ap (λ (n : Entry). n.state.role) (sym same), ap (λ (n : Entry). n.state.before) (sym same))
 entered_context (Solid symbol usual reading) state target entry e =
     let m = option_map-some (λ (next : State). record {
       state = start_of (role_for state.role state.before usual);
@@ -153,9 +128,12 @@ entered_context (Solid symbol usual reading) state target entry e =
         target = target;
         reading = reading;
       });
-    }) (advance state symbol) entry e in
+    }) _ entry e in
     (ap (λ (n : Entry). n.state.role) (sym m.2), ap (λ (n : Entry). n.state.before) (sym m.2))
 entered_context Mdx state target entry e = cc
+entered_context _ state target entry e =
+    let same = some_entry _ entry e in
+    (ap (λ (n : Entry). n.state.role) (sym same), ap (λ (n : Entry). n.state.before) (sym same))
 
 -- the context of the innermost open node's children
 level_context :
@@ -166,14 +144,10 @@ level_context :
     (state.role ≡ role_in (level ∷ path)) × (state.before ≡ before_in (level ∷ path))
 level_context path level around here state found target outer r b feeds e =
     let st = standing_of level.name in
-    let on = may_hold_true (may_hold here.role) (entered_on st here found) (record {
-      state = state;
-      target = target;
-      outer = outer;
-    }) e in
+    let on = may_hold_true _ _ _ e in
     let inner =
-    entered_context st here found (record { state = state; target = target; outer = outer }) on.1 in
-    let context = Feeds-context around here (spine level.before) feeds in
+    entered_context st here found _ on.1 in
+    let context = Feeds-context around here _ feeds in
     let role_here : here.role ≡ role_in path = context.0 ∙ r in
     let before_here : here.before ≡ symbol_after (before_in path) level.before = context.1
     ∙ ap (λ b. last_symbol b (spine level.before)) b in (
@@ -190,12 +164,10 @@ Stands-context [] (open_node ∷ others) state target stands = absurd stands
 Stands-context (level ∷ path) [] state target stands = absurd stands
 Stands-context (level ∷ path) (open_node ∷ others) state target stands =
     let outer = Stands-context path others stands.0 stands.1 stands.3 in
-    level_context path level stands.0 stands.2 state (target_of level.before stands.1) target
-    open_node.outer outer.0
+    level_context path level stands.0 stands.2 state _ target open_node.outer outer.0
     outer.1 stands.4 stands.7
 
 pub path_none : (path : List Level) (state : State) (target : Referral) →
-    Stands path [] state target →
-    (path ≡ []) × (state ≡ start_of Flow)
+    Stands path [] state target → (path ≡ []) × (state ≡ start_of Flow)
 path_none [] state target stands = (refl, stands.0)
 path_none (level ∷ path) state target stands = absurd stands

@@ -2,25 +2,13 @@
 -- finds the position in the tree: `reads` of `Checked` depends on it.
 use Rattle.std.proofs.Common.{◌≡◌, ℕ, suc, ◌+◌, Some, List, [], ◌∷◌, ◌++◌, length, get_or, refl}
 use Rattle.std.proofs.Common.{sym, ap, ◌∙◌, subst, append_assoc, append-nil, arith}
-use Rattle.std.specs.Prelude.{slice_get}
-use Rattle.std.specs.List.{All}
-use Rattle.std.proofs.lemmas.List.Elements.{All-cons, All-append, All-nil}
-use Rattle.md_base.specs.declared.event.Name.{Name}
-use Rattle.md_base.specs.declared.event.Point.{Point}
-use Rattle.md_base.specs.declared.event.Event.{Event}
-use Rattle.md_pattern.specs.declared.facts.Fact.{Fact}
-use Rattle.md_base.specs.Tree.{Forest, Empty, Node, flatten, entering, exiting}
-use Rattle.md_tree.specs.Rules.{place}
-use Rattle.md_tree.specs.Grammar.{Handed}
-use Rattle.md_tree.specs.Texts.{EntersAt}
-use Rattle.md_tree.specs.Entered.{IsEnteredAt}
-use Rattle.md_pattern.specs.Partners.{index_after}
-use Rattle.md_pattern.specs.Facts.{partner_alone, tables_with, tables_after, fact_at, facts_of}
-use Rattle.md_pattern.specs.Facts.{facts_at}
-use Rattle.md_tree.specs.Found.{position_from, partner_event, position_there, position_at}
-use Rattle.md_pattern.proofs.CountedFacts.{length_one, length_facts, regrouped}
-use Rattle.md_pattern.proofs.Passing.{facts-flatten}
-use Rattle.md_tree.proofs.EventRows.{Row, entry_row, exit_row, rows_of, numbered_rows, numbered_get}
+use Rattle.md_tree.proofs.Common.{slice_get, All, Name, Point, Event, Fact, Forest, Empty, Node}
+use Rattle.md_tree.proofs.Common.{flatten, entering, exiting, place, Handed, EntersAt, IsEnteredAt}
+use Rattle.md_tree.proofs.Common.{index_after, partner_alone, tables_with, tables_after, fact_at}
+use Rattle.md_tree.proofs.Common.{facts_of, facts_at, position_from, partner_event, position_there}
+use Rattle.md_tree.proofs.Common.{position_at, length_one, facts-flatten}
+use Rattle.md_pattern.proofs.CountedFacts.{length_facts, regrouped}
+use Rattle.md_tree.proofs.EventRows.{rows_all, Row, rows_of, numbered_rows, numbered_get}
 use Rattle.md_tree.proofs.Entering.{get_at, past_row, inside_rows, children_there}
 use Rattle.md_tree.proofs.Searching.{AllAt}
 
@@ -28,13 +16,13 @@ use Rattle.md_tree.proofs.Searching.{AllAt}
 module _ {A : Type 0} (xs before inner rest later : List A) (entry exit : A) (is : xs ≡ before
     ++ ((entry ∷ (inner ++ (exit ∷ rest))) ++ later)) where
   pub at_entry : xs ≡ before ++ (entry ∷ (inner ++ (exit ∷ (rest ++ later))))
-  at_entry = is ∙ ap (λ ys. before ++ (entry ∷ ys)) (append_assoc inner (exit ∷ rest) later)
+  at_entry = is ∙ ap (λ ys. before ++ (entry ∷ ys)) (append_assoc inner _ later)
 
   pub in_node : xs ≡ (before ++ entry ∷ []) ++ (inner ++ (exit ∷ (rest ++ later)))
-  in_node = at_entry ∙ sym (append_assoc before (entry ∷ []) (inner ++ (exit ∷ (rest ++ later))))
+  in_node = at_entry ∙ sym (append_assoc before _ _)
 
   at_exit : xs ≡ ((before ++ entry ∷ []) ++ inner) ++ (exit ∷ (rest ++ later))
-  at_exit = in_node ∙ sym (append_assoc (before ++ entry ∷ []) inner (exit ∷ (rest ++ later)))
+  at_exit = in_node ∙ sym (append_assoc _ inner _)
 
   pub after_node : xs ≡ (((before ++ entry ∷ []) ++ inner) ++ exit ∷ []) ++ (rest ++ later)
   after_node =
@@ -48,76 +36,66 @@ length_events (Node name start end children rest) index events e =
     let last = exiting name end in
     let inside = length_events children (suc index) (events ++ first ∷ [])
     (length_one events first ∙ ap suc e) in
-    ap length (sym (regrouped events (flatten children) (flatten rest) first last))
-    ∙ length_events rest (suc (index_after (suc index) children))
-    (((events ++ first ∷ []) ++ flatten children) ++ last
-    ∷ []) (length_one ((events ++ first ∷ []) ++ flatten children) last ∙ ap suc inside)
+    ap length (sym (regrouped events _ _ first last)) ∙ length_events rest _
+    _ (length_one _ last ∙ ap suc inside)
 
-node_there : (events : List Event) (facts : List Fact) (index : ℕ) (fact : Fact) (name : Name)
-    (start end : Point) →
-    slice_get events index ≡ Some (entering name start) → slice_get facts index ≡ Some fact →
-    slice_get events fact.partner ≡ Some (exiting name end) →
-    position_there events facts index ≡ Some (place start end)
-node_there events facts index fact name start end first found last =
-    ap (λ o. position_from o (partner_event events (slice_get facts index))) first
-    ∙ ap (λ o. position_from (Some (entering name start)) (partner_event events o)) found
-    ∙ ap (λ o. position_from (Some (entering name start)) o) last
+module _ (events : List Event) (facts : List Fact) where
+  node_there : (index : ℕ) (fact : Fact) (name : Name) (start end : Point) →
+      slice_get events index ≡ Some (entering name start) → slice_get facts index ≡ Some fact →
+      slice_get events fact.partner ≡ Some (exiting name end) →
+      position_there events facts index ≡ Some (place start end)
+  node_there index fact name start end first found last =
+      ap (λ o. position_from o (partner_event events (slice_get facts index))) first
+      ∙ ap (λ o. position_from (Some (entering name start)) (partner_event events o)) found
+      ∙ ap (λ o. position_from (Some (entering name start)) o) last
 
-all_there : (events : List Event) (facts : List Fact) (forest : Forest) (index tables : ℕ)
-    (before later : List Event)
-    (found more : List Fact) → length before ≡ index → length found ≡ index →
-    events ≡ before ++ (flatten forest ++ later) →
-    facts ≡ found ++ (facts_of index tables forest ++ more) →
-    AllAt (position_there events facts) index forest
-all_there events facts Empty index tables before later found more e f is are = tt
-all_there events facts (Node name start end children rest) index tables before later
-    found more e f is are =
-    let exit = index_after (suc index) children in
-    let first = entering name start in
-    let last = exiting name end in
-    let fact = fact_at index tables name children in
-    let other = partner_alone index in
-    let ended = tables_with name (tables_after tables children) in
-    let inner = flatten children in
-    let facts_inside = facts_of (suc index) tables children in
-    let facts_after = facts_of (suc exit) ended rest in
-    let one = length_one before first ∙ ap suc e in
-    let two = length_one found fact ∙ ap suc f in
-    let inside = length_events children (suc index) (before ++ first ∷ []) one in
-    let facts_to = length_facts children (suc index) tables (found ++ fact ∷ []) two in (
-      node_there events facts index fact name start end
-          (ap (λ es. slice_get es index)
-          (at_entry events before inner (flatten rest) later first last is)
-          ∙ get_at before (inner ++ (last ∷ (flatten rest ++ later))) first index e)
-          (ap (λ fs. slice_get fs index)
-          (at_entry facts found facts_inside facts_after more fact other are)
-          ∙ get_at found (facts_inside ++ (other ∷ (facts_after ++ more))) fact index f)
-          (ap (λ es. slice_get es exit)
-          (at_exit events before inner (flatten rest) later first last is)
-          ∙ get_at ((before ++ first ∷ []) ++ inner) (flatten rest ++ later) last exit inside),
-      all_there events facts children (suc index) tables (before ++ first ∷ []) (last
-          ∷ (flatten rest ++ later)) (found ++ fact ∷ []) (other
-          ∷ (facts_after ++ more)) one two
-          (in_node events before inner (flatten rest) later first last is)
-          (in_node facts found facts_inside facts_after more fact other are),
-      all_there events facts rest (suc exit) ended (((before ++ first ∷ []) ++ inner) ++ last
-          ∷ []) later (((found ++ fact ∷ []) ++ facts_inside) ++ other
-          ∷ []) more (length_one ((before ++ first ∷ []) ++ inner) last
-          ∙ ap suc inside) (length_one ((found ++ fact ∷ []) ++ facts_inside) other
-          ∙ ap suc facts_to) (after_node events before inner (flatten rest) later first last is)
-          (after_node facts found facts_inside facts_after more fact other are),
-    )
+  all_there : (forest : Forest) (index tables : ℕ) (before later : List Event)
+      (found more : List Fact) → length before ≡ index → length found ≡ index →
+      events ≡ before ++ (flatten forest ++ later) →
+      facts ≡ found ++ (facts_of index tables forest ++ more) →
+      AllAt (position_there events facts) index forest
+  all_there Empty index tables before later found more e f is are = tt
+  all_there (Node name start end children rest) index tables before later found more e f is are =
+      let exit = index_after (suc index) children in
+      let first = entering name start in
+      let last = exiting name end in
+      let fact = fact_at index tables name children in
+      let other = partner_alone index in
+      let ended = tables_with name (tables_after tables children) in
+      let inner = flatten children in
+      let facts_inside = facts_of (suc index) tables children in
+      let facts_after = facts_of (suc exit) ended rest in
+      let one = length_one before first ∙ ap suc e in
+      let two = length_one found fact ∙ ap suc f in
+      let inside = length_events children (suc index) (before ++ first ∷ []) one in
+      let facts_to = length_facts children (suc index) tables (found ++ fact ∷ []) two in (
+        node_there index fact name start end (ap (λ es. slice_get es index)
+            (at_entry events before inner _ later first last is)
+            ∙ get_at before (inner ++ (last ∷ (flatten rest ++ later))) first index e)
+            (ap (λ fs. slice_get fs index)
+            (at_entry facts found facts_inside facts_after more fact other are)
+            ∙ get_at found (facts_inside ++ (other ∷ (facts_after ++ more))) fact index f)
+            (ap (λ es. slice_get es exit) (at_exit events before inner _ later first last is)
+            ∙ get_at ((before ++ first ∷ []) ++ inner) (flatten rest ++ later) last exit inside),
+        all_there children _ tables _ (last ∷ (flatten rest ++ later)) _ (other
+            ∷ (facts_after ++ more)) one two (in_node events before inner _ later first last is)
+            (in_node facts found facts_inside facts_after more fact other are),
+        all_there rest _ ended _ later _ more (length_one _ last
+            ∙ ap suc inside) (length_one _ other
+            ∙ ap suc facts_to) (after_node events before inner _ later first last is)
+            (after_node facts found facts_inside facts_after more fact other are),
+      )
 
 -- of no node but the first of all the entry is 0
-all_at : (events : List Event) (facts : List Fact) (forest : Forest) (index : ℕ) →
-    AllAt (position_there events facts) (suc index) forest →
-    AllAt (position_at events facts) (suc index) forest
-all_at events facts Empty index all = tt
-all_at events facts (Node name start end children rest) index all = (
-  all.0,
-  all_at events facts children (suc index) all.1,
-  all_at events facts rest (index_after (suc (suc index)) children) all.2,
-)
+module _ (events : List Event) (facts : List Fact) where
+  all_at : (forest : Forest) (index : ℕ) → AllAt (position_there events facts) (suc index) forest →
+      AllAt (position_at events facts) (suc index) forest
+  all_at Empty index all = tt
+  all_at (Node name start end children rest) index all = (
+    all.0,
+    all_at children _ all.1,
+    all_at rest _ all.2,
+  )
 
 -- a row's children are there
 abbrev HasThem : List Event → List Fact → Row → Type 0
@@ -128,27 +106,20 @@ HasThem events facts row =
 rows_there : (events : List Event) (facts : List Fact) (forest : Forest) (index tables : ℕ) →
     AllAt (position_there events facts) index forest →
     All (HasThem events facts) (rows_of index tables forest)
-rows_there events facts Empty index tables all = All-nil (HasThem events facts)
-rows_there events facts (Node name start end children rest) index tables all =
-    let exit = index_after (suc index) children in
-    let ended = tables_with name (tables_after tables children) in
-    let entry : Row = entry_row index tables name (entering name start) children in
-    let last : Row = exit_row exit index name start end in
-    let entry_has : HasThem events facts entry = λ other e. let one : children ≡ other = cc in
-    subst (λ nodes. AllAt (position_there events facts) (suc index) nodes) one all.1 in
-    let last_has : HasThem events facts last = λ other e. cc in
-    let later = rows_of (suc exit) ended rest in
-    All-cons (HasThem events facts) entry
-    (rows_of (suc index) tables children ++ last ∷ later) entry_has
-    (All-append (HasThem events facts) (rows_of (suc index) tables children) (last
-    ∷ later) (rows_there events facts children (suc index) tables all.1)
-    (All-cons (HasThem events facts) last later last_has
-    (rows_there events facts rest (suc exit) ended all.2)))
+rows_there events facts forest index tables all =
+    rows_all (HasThem events facts)
+    (λ index tables nodes. AllAt (position_there events facts) index nodes)
+    (λ index tables name start end children rest holds. (
+      λ other e. let one : children ≡ other = cc in
+          subst (λ nodes. AllAt (position_there events facts) (suc index) nodes) one holds.1,
+      λ other e. cc,
+      holds.1,
+      holds.2,
+    )) forest index tables all
 
 -- the children of the node that the event at an index enters
 pub children-placed : (given : Handed) (index : ℕ) (name : Name) →
-    EntersAt given.events index name →
-    (children : Forest) → IsEnteredAt given index children →
+    EntersAt given.events index name → (children : Forest) → IsEnteredAt given index children →
     AllAt (position_at given.events (facts_at given.events)) (suc index) children
 children-placed given index name enters children entered =
     let forest = entered.0 in
@@ -158,8 +129,7 @@ children-placed given index name enters children entered =
     let past = past_row given index name enters in
     let inside = inside_rows given index name enters forest entered.1 in
     let all = all_there events facts forest 0 0 [] [] [] [] refl refl (sym entered.1
-    ∙ sym (append-nil (flatten forest))) (facts-flatten forest events entered.1
-    ∙ sym (append-nil (facts_of 0 0 forest))) in
+    ∙ sym (append-nil _)) (facts-flatten forest events entered.1 ∙ sym (append-nil _)) in
     let none : 0 + index ≡ index = omega arith in
     let index_is : Row.index (get_or rows index past) ≡ index =
     numbered_get rows 0 (index_after 0 forest) index past (numbered_rows forest 0 0) inside

@@ -1,25 +1,18 @@
 -- One step of a search: from the state before a node to the state after it.
 use Rattle.std.proofs.Common.{◌≡◌, ℕ, Bool, true, false, cond, Option, Some, None, refl, ap, ◌∙◌}
-use Rattle.std.specs.Prelude.{unwrap_or}
-use Rattle.md_base.specs.declared.event.Name.{Name}
+use Rattle.md_tree.proofs.Common.{unwrap_or, Name, Point, Position, Wanted, Sought, Forest}
+use Rattle.md_tree.proofs.Common.{is_heading_mark, is_item_value, is_label_text, is_reference}
+use Rattle.md_tree.proofs.Common.{is_definition_label, is_footnote_label, or_else, first_on_spine}
+use Rattle.md_tree.proofs.Common.{place, first_place}
+use Rattle.md_base.specs.NameTests.{is_item, is_item_prefix, is_label, is_footnote_prefix}
+use Rattle.md_tree.specs.Reads.{number_in}
 use Rattle.md_base.specs.declared.event.Name.TheVariants as name_variants
 use name_variants.{Label, ReferenceString}
-use Rattle.md_base.specs.declared.event.Point.{Point}
-use Rattle.md_base.specs.declared.event.Position.{Position}
-use Rattle.md_pattern.specs.declared.seeking.Wanted.{Wanted}
 use Rattle.md_pattern.specs.declared.seeking.Wanted.TheVariants as want
 use Rattle.md_pattern.specs.declared.seeking.Found.{Found}
 use Rattle.md_pattern.specs.declared.seeking.Found.TheVariants as so_far
 use Rattle.md_pattern.specs.declared.seeking.Sight.TheVariants as looks
-use Rattle.md_pattern.specs.declared.seeking.Sought.{Sought}
-use Rattle.md_base.specs.Tree.{Forest}
-use Rattle.md_base.specs.NameTests.{is_heading_mark, is_item, is_item_prefix, is_item_value}
-use Rattle.md_base.specs.NameTests.{is_label, is_label_text, is_reference, is_definition_label}
-use Rattle.md_base.specs.NameTests.{is_footnote_prefix, is_footnote_label}
-use Rattle.md_base.specs.Children.{or_else, first_on_spine}
-use Rattle.md_tree.specs.Rules.{place}
 use Rattle.md_pattern.specs.Seeking.{sight, first_where, refer_where, seen_as}
-use Rattle.md_tree.specs.Reads.{first_place, number_in}
 
 -- which node a search stops at, and what it finds there
 abbrev pub seeks : Wanted → Name → Bool
@@ -110,112 +103,97 @@ place_twice so_far.Nothing p None None later (Some more) = refl
 place_twice so_far.Nothing p None None (Some later) None = refl
 place_twice so_far.Nothing p None None None None = refl
 
-pub joined : (at : At) (from middle to : Sought) (o r later more : Option (Option Position)) →
-    Searched at from middle o r → Searched at middle to later more →
-    Searched at from to (or_else o later) (or_else r more)
-joined at from middle to o r later more a b = record {
-  wanted = b.wanted ∙ a.wanted;
-  found =
-      b.found ∙ ap (λ f. found_after f later more) a.found ∙ found_twice from.found o r later more;
-  places = b.places ∙ ap (λ f. place_after f (at middle.read_at) later more) a.found
-      ∙ ap (λ p. place_after (found_after from.found o r) p later more) a.places
-      ∙ place_twice from.found (at from.read_at) o r later more;
-}
+module _ (at : At) where
+  pub joined : (from middle to : Sought) (o r later more : Option (Option Position)) →
+      Searched at from middle o r → Searched at middle to later more →
+      Searched at from to (or_else o later) (or_else r more)
+  joined from middle to o r later more a b = record {
+    wanted = b.wanted ∙ a.wanted;
+    found = b.found ∙ ap (λ f. found_after f later more) a.found
+        ∙ found_twice from.found o r later more;
+    places = b.places ∙ ap (λ f. place_after f (at middle.read_at) later more) a.found
+        ∙ ap (λ p. place_after (found_after from.found o r) p later more) a.places
+        ∙ place_twice from.found _ o r later more;
+  }
 
-nothing_where : (at : At) (w : Wanted) (f : Found) (n : ℕ) →
-    Searched at (record { wanted = w; found = f; read_at = n })
-    (record { wanted = w; found = f; read_at = n }) None None
-nothing_where at w so_far.Nothing n = record { wanted = refl; found = refl; places = refl }
-nothing_where at w so_far.First n = record { wanted = refl; found = refl; places = refl }
-nothing_where at w so_far.Reference n = record { wanted = refl; found = refl; places = refl }
+  nothing_where : (w : Wanted) (f : Found) (n : ℕ) →
+      Searched at (record { wanted = w; found = f; read_at = n })
+      (record { wanted = w; found = f; read_at = n }) None None
+  nothing_where w so_far.Nothing n = record { wanted = refl; found = refl; places = refl }
+  nothing_where w _ n = record { wanted = refl; found = refl; places = refl }
 
-pub nothing : (at : At) (s : Sought) → Searched at s s None None
-nothing at s = nothing_where at s.wanted s.found s.read_at
+  pub nothing : (s : Sought) → Searched at s s None None
+  nothing s = nothing_where s.wanted s.found s.read_at
 
-first_found : (at : At) (w : Wanted) (f : Found) (n m : ℕ) (o : Option Position) → at m ≡ o →
-    Searched at (record { wanted = w; found = f; read_at = n })
-    (first_where f (record { wanted = w; found = f; read_at = n }) m) (Some o) None
-first_found at w so_far.Nothing n m o e = record { wanted = refl; found = refl; places = e }
-first_found at w so_far.First n m o e = record { wanted = refl; found = refl; places = refl }
-first_found at w so_far.Reference n m o e = record { wanted = refl; found = refl; places = refl }
+  first_found : (w : Wanted) (f : Found) (n m : ℕ) (o : Option Position) → at m ≡ o →
+      Searched at (record { wanted = w; found = f; read_at = n })
+      (first_where f (record { wanted = w; found = f; read_at = n }) m) (Some o) None
+  first_found w so_far.Nothing n m o e = record { wanted = refl; found = refl; places = e }
+  first_found w _ n m o e = record { wanted = refl; found = refl; places = refl }
 
-reference_found : (at : At) (w : Wanted) (f : Found) (n m : ℕ) (o : Option Position) → at m ≡ o →
-    Searched at (record { wanted = w; found = f; read_at = n })
-    (refer_where f (record { wanted = w; found = f; read_at = n }) m) None (Some o)
-reference_found at w so_far.Nothing n m o e = record { wanted = refl; found = refl; places = e }
-reference_found at w so_far.First n m o e = record { wanted = refl; found = refl; places = e }
-reference_found at w so_far.Reference n m o e =
-    record { wanted = refl; found = refl; places = refl }
+  reference_found : (w : Wanted) (f : Found) (n m : ℕ) (o : Option Position) → at m ≡ o →
+      Searched at (record { wanted = w; found = f; read_at = n })
+      (refer_where f (record { wanted = w; found = f; read_at = n }) m) None (Some o)
+  reference_found w so_far.Reference n m o e =
+      record { wanted = refl; found = refl; places = refl }
+  reference_found w _ n m o e = record { wanted = refl; found = refl; places = e }
 
 -- ---- one node
 
--- a node that is, or holds, what is sought, by a test
-itself_step : (at : At) (s : Sought) (passes : Bool) (m inner : ℕ) (o : Option Position) →
-    at m ≡ o → Searched at s (seen_as (cond passes looks.Itself looks.Other) s m inner)
-    (cond passes (Some o) None) None
-itself_step at s true m inner o e = first_found at s.wanted s.found s.read_at m o e
-itself_step at s false m inner o e = nothing at s
+module _ (at : At) where
+  -- a node that is, or holds, what is sought, by a test
+  itself_step : (s : Sought) (passes : Bool) (m inner : ℕ) (o : Option Position) →
+      at m ≡ o → Searched at s (seen_as (cond passes looks.Itself looks.Other) s m inner)
+      (cond passes (Some o) None) None
+  itself_step s true m inner o e = first_found at s.wanted s.found s.read_at m o e
+  itself_step s false m inner o e = nothing at s
 
-holder_step : (at : At) (s : Sought) (passes : Bool) (m inner : ℕ) (o : Option Position) →
-    (passes ≡ true → at inner ≡ o) →
-    Searched at s (seen_as (cond passes looks.Holder looks.Other) s m inner)
-    (cond passes (Some o) None) None
-holder_step at s true m inner o e = first_found at s.wanted s.found s.read_at inner o (e refl)
-holder_step at s false m inner o e = nothing at s
+  holder_step : (s : Sought) (passes : Bool) (m inner : ℕ) (o : Option Position) →
+      (passes ≡ true → at inner ≡ o) → Searched at s
+      (seen_as (cond passes looks.Holder looks.Other) s m inner) (cond passes (Some o) None) None
+  holder_step s true m inner o e = first_found at s.wanted s.found s.read_at inner o (e refl)
+  holder_step s false m inner o e = nothing at s
 
-media_step :
-    (at : At) (s : Sought) (name : Name) (start end : Point) (children : Forest) (m inner : ℕ) →
-    at m ≡ Some (place start end) →
-    (is_label name ≡ true → at inner ≡ finds want.Media start end children) →
-    Searched at s (seen_as (sight want.Media name) s m inner)
-    (cond (is_label name) (Some (finds want.Media start end children)) None)
-    (cond (is_reference name) (Some (Some (place start end))) None)
-media_step at s Label start end children m inner here held =
-    first_found at s.wanted s.found s.read_at inner
-    (finds want.Media start end children) (held refl)
-media_step at s ReferenceString start end children m inner here held =
-    reference_found at s.wanted s.found s.read_at m (Some (place start end)) here
-media_step at s _ start end children m inner here held = nothing at s
+  media_step : (s : Sought) (name : Name) (start end : Point) (children : Forest) (m inner : ℕ) →
+      at m ≡ Some (place start end) →
+      (is_label name ≡ true → at inner ≡ finds want.Media start end children) →
+      Searched at s (seen_as (sight want.Media name) s m inner)
+      (cond (is_label name) (Some (finds want.Media start end children)) None)
+      (cond (is_reference name) (Some (Some (place start end))) None)
+  media_step s Label start end children m inner here held =
+      first_found at s.wanted s.found s.read_at inner
+      (finds want.Media start end children) (held refl)
+  media_step s ReferenceString start end children m inner here held =
+      reference_found at s.wanted s.found s.read_at m _ here
+  media_step s _ start end children m inner here held = nothing at s
 
--- what a holder holds is found in it
+-- which node holds what is sought, and is found in it
+abbrev pub is_holder : Wanted → Name → Bool
+is_holder want.Item name = is_item name
+is_holder want.Prefix name = is_item_prefix name
+is_holder want.Media name = is_label name
+is_holder want.Label name = is_label name
+is_holder want.FootnotePrefix name = is_footnote_prefix name
+is_holder _ name = false
+
 abbrev pub Held : At → Wanted → Name → Point → Point → Forest → ℕ → Type 0
-Held at want.Item name start end children inner =
-    is_item name ≡ true → at inner ≡ finds want.Item start end children
-Held at want.Prefix name start end children inner = is_item_prefix name ≡ true →
-    at inner ≡ finds want.Prefix start end children
-Held at want.Media name start end children inner =
-    is_label name ≡ true → at inner ≡ finds want.Media start end children
-Held at want.Label name start end children inner =
-    is_label name ≡ true → at inner ≡ finds want.Label start end children
-Held at want.FootnotePrefix name start end children inner = is_footnote_prefix name ≡ true →
-    at inner ≡ finds want.FootnotePrefix start end children
-Held at _ name start end children inner = Unit {0}
+Held at w name start end children inner =
+    is_holder w name ≡ true → at inner ≡ finds w start end children
 
 pub solid_step : (at : At) (w : Wanted) (s : Sought) (name : Name) (start end : Point)
-    (children : Forest) (m inner : ℕ) →
-    at m ≡ Some (place start end) → Held at w name start end children inner →
-    Searched at s (seen_as (sight w name) s m inner)
+    (children : Forest) (m inner : ℕ) → at m ≡ Some (place start end) →
+    Held at w name start end children inner → Searched at s (seen_as (sight w name) s m inner)
     (cond (seeks w name) (Some (finds w start end children)) None)
     (cond (refers w name) (Some (Some (place start end))) None)
 solid_step at want.Nothing s name start end children m inner here held = nothing at s
-solid_step at want.Mark s name start end children m inner here held =
-    itself_step at s (is_heading_mark name) m inner (Some (place start end)) here
 solid_step at want.Item s name start end children m inner here held =
-    holder_step at s (is_item name) m inner (finds want.Item start end children) held
+    holder_step at s _ m inner _ held
 solid_step at want.Prefix s name start end children m inner here held =
-    holder_step at s (is_item_prefix name) m inner (finds want.Prefix start end children) held
-solid_step at want.Value s name start end children m inner here held =
-    itself_step at s (is_item_value name) m inner (Some (place start end)) here
+    holder_step at s _ m inner _ held
 solid_step at want.Media s name start end children m inner here held =
     media_step at s name start end children m inner here held
 solid_step at want.Label s name start end children m inner here held =
-    holder_step at s (is_label name) m inner (finds want.Label start end children) held
-solid_step at want.LabelText s name start end children m inner here held =
-    itself_step at s (is_label_text name) m inner (Some (place start end)) here
-solid_step at want.DefinitionLabel s name start end children m inner here held =
-    itself_step at s (is_definition_label name) m inner (Some (place start end)) here
+    holder_step at s _ m inner _ held
 solid_step at want.FootnotePrefix s name start end children m inner here held =
-    holder_step at s (is_footnote_prefix name) m inner
-    (finds want.FootnotePrefix start end children) held
-solid_step at want.FootnoteLabel s name start end children m inner here held =
-    itself_step at s (is_footnote_label name) m inner (Some (place start end)) here
+    holder_step at s _ m inner _ held
+solid_step at _ s name start end children m inner here held = itself_step at s _ m inner _ here

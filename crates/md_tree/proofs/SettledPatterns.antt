@@ -1,18 +1,10 @@
 -- Settled patterns: after an item that may be left out, each later item that takes one of its
 -- symbols may be there any number of times.
-use denote.Enum.Bare.{sameb}
+use denote.Enum.Bare.{sameb, same_true}
 use Rattle.std.proofs.Common.{◌≡◌, Bool, true, false, not, ◌&&◌, ◌||◌, List, [], ◌∷◌, refl, subst}
-use Rattle.std.specs.List.{list_all, list_any}
-use denote.Enum.Bare.{same_true}
-use Rattle.md_pattern.specs.contracts.kinds.Symbol.{the_type}
-use Rattle.md_pattern.specs.declared.kinds.Symbol.{Symbol}
-use Rattle.md_pattern.specs.declared.kinds.Role.{Role}
-use Rattle.md_pattern.specs.declared.kinds.Role.TheVariants.{Flow}
-use Rattle.md_pattern.specs.declared.kinds.Class.{Class}
-use Rattle.md_pattern.specs.declared.kinds.Item.{Item}
-use Rattle.md_pattern.specs.declared.kinds.Item.TheVariants.{Many}
-use Rattle.md_pattern.specs.Pattern.{members, class_of, takes, pattern_of}
-use Rattle.md_pattern.specs.Steps.{is_optional}
+use Rattle.std.specs.List.{list_any}
+use Rattle.md_tree.proofs.Common.{list_all, the_type, Symbol, Role, Flow, Class, Item, Many}
+use Rattle.md_tree.proofs.Common.{members, class_of, takes, pattern_of, is_optional}
 
 pub and_left : (a b : Bool) → (a && b) ≡ true → a ≡ true
 and_left true b e = refl
@@ -53,40 +45,33 @@ pattern_settled _ = refl
 abbrev pub only_many : Symbol → List Item → Bool
 only_many symbol items = list_all (λ item. is_many item || not (takes (class_of item) symbol)) items
 
-not_taken_step : (p : Symbol → Bool) (symbols : List Symbol) (member symbol : Symbol) →
-    (list_any (λ m. sameb the_type m symbol) symbols ≡ true → list_all (λ m. not (p m)) symbols
-    ≡ true → not (p symbol) ≡ true) → (same : Bool) → sameb the_type member symbol ≡ same →
-    (same || list_any (λ m. sameb the_type m symbol) symbols) ≡ true →
-    (not (p member) && list_all (λ m. not (p m)) symbols) ≡ true → not (p symbol) ≡ true
-not_taken_step p symbols member symbol again true e seen none =
-    subst (λ s. not (p s) ≡ true) (same_true the_type tt member symbol e)
-    (and_left (not (p member)) (list_all (λ m. not (p m)) symbols) none)
-not_taken_step p symbols member symbol again false e seen none =
-    again seen (and_right (not (p member)) (list_all (λ m. not (p m)) symbols) none)
+taken_step : (p : Symbol → Bool) (symbols : List Symbol) (member seen : Symbol) →
+    (list_any (λ m. sameb the_type m seen) symbols ≡ true →
+    list_all p symbols ≡ true → p seen ≡ true) → (same : Bool) → sameb the_type member seen ≡ same →
+    (same || list_any (λ m. sameb the_type m seen) symbols) ≡ true
+    → (p member && list_all p symbols) ≡ true → p seen ≡ true
+taken_step p symbols member seen again true e there all =
+    subst (λ s. p s ≡ true) (same_true the_type tt member seen e) (and_left _ _ all)
+taken_step p symbols member seen again false e there all =
+    again there (and_right _ _ all)
 
-not_taken : (p : Symbol → Bool) (symbols : List Symbol) (symbol : Symbol) →
-    list_any (λ member. sameb the_type member symbol) symbols ≡ true →
-    list_all (λ member. not (p member)) symbols ≡ true → not (p symbol) ≡ true
-not_taken p [] symbol seen none = cc
-not_taken p (member ∷ symbols) symbol seen none =
-    not_taken_step p symbols member symbol (not_taken p symbols symbol)
-    (sameb the_type member symbol) refl seen none
+pub taken : (p : Symbol → Bool) (symbols : List Symbol) (seen : Symbol) →
+    list_any (λ m. sameb the_type m seen) symbols ≡ true → list_all p symbols ≡ true → p seen ≡ true
+taken p [] seen there all = cc
+taken p (member ∷ symbols) seen there all = taken_step p symbols member seen (taken p symbols seen)
+    _ refl there all
 
 only_many_here : (class : Class) (item : Item) (symbol : Symbol) →
-    takes class symbol ≡ true → (many : Bool) →
-    (many || apart class (class_of item)) ≡ true →
+    takes class symbol ≡ true → (many : Bool) → (many || apart class (class_of item)) ≡ true →
     (many || not (takes (class_of item) symbol)) ≡ true
-only_many_here class item symbol taken true e = refl
-only_many_here class item symbol taken false e =
-    not_taken (takes (class_of item)) (members class) symbol taken e
+only_many_here class item symbol takes_it true e = refl
+only_many_here class item symbol takes_it false e =
+    taken (λ member. not (takes (class_of item) member)) (members class) symbol takes_it e
 
 pub only_many_after : (item : Item) (items : List Item) (symbol : Symbol) →
     takes (class_of item) symbol ≡ true →
     list_all (leaves_order item) items ≡ true → only_many symbol items ≡ true
 only_many_after item [] symbol taken e = refl
 only_many_after item (later ∷ items) symbol taken e =
-    and_both (is_many later || not (takes (class_of later) symbol)) (only_many symbol items)
-    (only_many_here (class_of item) later symbol taken (is_many later)
-    (and_left (leaves_order item later) (list_all (leaves_order item) items) e))
-    (only_many_after item items symbol taken (and_right (leaves_order item later)
-    (list_all (leaves_order item) items) e))
+    and_both _ _ (only_many_here (class_of item) later symbol taken (is_many later)
+    (and_left _ _ e)) (only_many_after item items symbol taken (and_right _ _ e))

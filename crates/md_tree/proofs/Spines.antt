@@ -1,17 +1,10 @@
 -- The spine of shaped nodes is the same by names and by symbols.
-use Rattle.std.proofs.Common.{◌≡◌, Bool, cond, Option, List, [], ◌∷◌, ◌++◌, refl, sym}
-use Rattle.std.proofs.Common.{ap, ◌∙◌, append_assoc}
-use Rattle.md_base.specs.declared.event.Name.{Name}
+use Rattle.std.proofs.Common.{◌≡◌, Bool, cond, Option, List, [], ◌∷◌, ◌++◌, refl, sym, ap, ◌∙◌}
+use Rattle.std.proofs.Common.{append_assoc}
+use Rattle.md_tree.proofs.Common.{Name, Symbol, Role, Standing, Through, Space, Solid, Mdx, Forest}
+use Rattle.md_tree.proofs.Common.{Empty, Node, standing_of, spine, shown, IsStanding, AreShaped}
+use Rattle.md_tree.proofs.Common.{is_transparent}
 use Rattle.md_base.specs.declared.event.Name.TheVariants.{BlockQuotePrefix, SpaceOrTab, Other}
-use Rattle.md_pattern.specs.declared.kinds.Symbol.{Symbol}
-use Rattle.md_pattern.specs.declared.kinds.Role.{Role}
-use Rattle.md_pattern.specs.declared.kinds.Standing.{Standing}
-use Rattle.md_pattern.specs.declared.kinds.Standing.TheVariants.{Through, Space, Solid, Mdx}
-use Rattle.md_base.specs.Tree.{Forest, Empty, Node}
-use Rattle.md_pattern.specs.Standing.{standing_of}
-use Rattle.md_pattern.specs.Spine.{spine, shown}
-use Rattle.md_pattern.specs.Shape.{IsStanding, AreShaped}
-use Rattle.md_base.specs.NameTests.{is_transparent}
 use Rattle.md_base.specs.Children.{spine_names}
 use Rattle.md_tree.specs.Laws.{symbols_of}
 use Rattle.md_tree.proofs.OneLevel.{is_through}
@@ -27,13 +20,12 @@ symbols-append : (names others : List Name) →
 symbols-append [] others = refl
 symbols-append (name ∷ names) others =
     ap (λ symbols. shown (standing_of name) [] ++ symbols) (symbols-append names others)
-    ∙ sym (append_assoc (shown (standing_of name) []) (symbols_of names) (symbols_of others))
+    ∙ sym (append_assoc (shown _ []) (symbols_of names) (symbols_of others))
 
 -- what one node shows
-node_shows :
-    (standing : Standing) (name : Name) (through : Bool) (children : Forest) (around : Role)
-    (before : Option Symbol) → standing_of name ≡ standing → through ≡ is_through standing →
-    IsStanding standing around before children →
+node_shows : (standing : Standing) (name : Name) (through : Bool) (children : Forest)
+    (around : Role) (before : Option Symbol) → standing_of name ≡ standing →
+    through ≡ is_through standing → IsStanding standing around before children →
     spine children ≡ symbols_of (spine_names children) →
     shown standing (spine children) ≡ symbols_of (cond through (spine_names children) (name ∷ []))
 node_shows Through name through children around before same is stands inner =
@@ -47,8 +39,7 @@ node_shows (Solid symbol usual reading) name through children around before same
 node_shows Mdx name through children around before same is stands inner = absurd stands
 
 pub spine-names : (forest : Forest) (around : Role) (before : Option Symbol) →
-    AreShaped forest around before →
-    spine forest ≡ symbols_of (spine_names forest)
+    AreShaped forest around before → spine forest ≡ symbols_of (spine_names forest)
 spine-names Empty around before shaped = refl
 spine-names (Node name start end children rest) around before shaped =
     ap (λ symbols. symbols ++ spine rest) (node_shows (standing_of name) name

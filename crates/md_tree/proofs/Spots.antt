@@ -3,21 +3,12 @@
 use Rattle.std.proofs.Common.{◌≡◌, inl, inr, ℕ, zero, suc, ◌+◌, Bool, true, false, cond, Option}
 use Rattle.std.proofs.Common.{Some, None, List, [], ◌∷◌, ◌++◌, drop, replicate, refl, sym, ap, ◌∙◌}
 use Rattle.std.proofs.Common.{subst, add-one}
-use Rattle.std.specs.List.{list_all}
-use Rattle.std.specs.Prelude.{option_map}
-use Rattle.md_pattern.specs.declared.kinds.Symbol.{Symbol}
+use Rattle.md_tree.proofs.Common.{list_all, option_map, Symbol, Item, Once, Maybe, Many, Stage}
+use Rattle.md_tree.proofs.Common.{Whole, Marker, Numeric, Hexadecimal, Setext, State, Fits, IsTail}
+use Rattle.md_tree.proofs.Common.{IsGrouped, begun_by, next_stage, is_optional, items_of, advance}
 use Rattle.md_pattern.specs.declared.kinds.Symbol.TheVariants as symbol_variants
 use symbol_variants.{ReferenceMarker, SetextText, SetextUnderline, LineEnding}
-use Rattle.md_pattern.specs.declared.kinds.Item.{Item}
-use Rattle.md_pattern.specs.declared.kinds.Item.TheVariants.{Once, Maybe, Many}
-use Rattle.md_pattern.specs.declared.state.Stage.{Stage}
-use Rattle.md_pattern.specs.declared.state.Stage.TheVariants.{Whole, Marker, Numeric, Hexadecimal}
-use Rattle.md_pattern.specs.declared.state.Stage.TheVariants.{Setext}
-use Rattle.md_pattern.specs.declared.state.State.{State}
-use Rattle.md_pattern.specs.Pattern.{class_of, takes, pattern_of, Fits}
-use Rattle.md_pattern.specs.Spine.{IsTail, IsGrouped}
-use Rattle.md_pattern.specs.Steps.{begun_by, next_stage, is_optional, next_position, seek, moved}
-use Rattle.md_pattern.specs.Steps.{items_of, advance}
+use Rattle.md_pattern.specs.Steps.{next_position, seek, moved}
 use Rattle.md_tree.proofs.SettledPatterns.{settled}
 use Rattle.md_tree.proofs.TakenFits.{kept, left_after}
 use Rattle.md_tree.proofs.Greedy.{fits_on, nothing_fits}
@@ -49,8 +40,7 @@ Feeds from (symbol ∷ symbols) to =
     (next : State) × (advance from symbol ≡ Some next) × Feeds next symbols to
 
 pub Feeds-append : (from middle to : State) (symbols others : List Symbol) →
-    Feeds from symbols middle →
-    Feeds middle others to → Feeds from (symbols ++ others) to
+    Feeds from symbols middle → Feeds middle others to → Feeds from (symbols ++ others) to
 Feeds-append from middle to [] others e f = subst (λ s. Feeds s others to) (sym e) f
 Feeds-append from middle to (symbol ∷ symbols) others e f =
     (e.0, e.1, Feeds-append e.0 middle to symbols others e.2 f)
@@ -82,17 +72,15 @@ tail_of (z ∷ xs) zero x ys e = let h : ys ≡ xs = cc in h
 tail_of (z ∷ xs) (suc k) x ys e = tail_of xs k x ys e
 
 sought_here : (all : List Item) (item : Item) (items : List Item) (k : ℕ) →
-    item ∷ items ≡ drop k all →
-    drop (next_position item k) all ≡ kept item items
+    item ∷ items ≡ drop k all → drop (next_position item k) all ≡ kept item items
 sought_here all (Many class) items k e = sym e
-sought_here all (Maybe class) items k e = rw add-one (sym (tail_of all k (Maybe class) items e))
-sought_here all (Once class) items k e = rw add-one (sym (tail_of all k (Once class) items e))
+sought_here all (Maybe class) items k e = rw add-one (sym (tail_of all k _ items e))
+sought_here all (Once class) items k e = rw add-one (sym (tail_of all k _ items e))
 
 seek_step : (all : List Item) (item : Item) (items : List Item) (k : ℕ) (symbol : Symbol) →
     drop (next_position item k) all ≡ kept item items →
     option_map (λ n. drop n all) (seek (k + 1) items symbol) ≡ left_after items symbol →
-    (taken optional : Bool) →
-    option_map (λ n. drop n all) (cond taken (Some (next_position item k))
+    (taken optional : Bool) → option_map (λ n. drop n all) (cond taken (Some (next_position item k))
     (cond optional (seek (k + 1) items symbol) None)) ≡ cond taken (Some (kept item items))
     (cond optional (left_after items symbol) None)
 seek_step all item items k symbol here later true optional = ap Some here
@@ -104,30 +92,18 @@ seek_leaves : (all items : List Item) (k : ℕ) (symbol : Symbol) → items ≡ 
 seek_leaves all [] k symbol e = refl
 seek_leaves all (item ∷ items) k symbol e =
     seek_step all item items k symbol (sought_here all item items k e)
-    (seek_leaves all items (k + 1) symbol (rw add-one (tail_of all k item items e)))
-    (takes (class_of item) symbol) (is_optional item)
+    (seek_leaves all items (k + 1) symbol (rw add-one (tail_of all k item items e))) _ _
 
 moved_spot : (all : List Item) (stage : Stage) (k : ℕ) (symbol : Symbol) →
     option_map (λ (n : ℕ × Stage). At (drop n.0 all) n.1) (moved stage k (drop k all) symbol)
     ≡ spot_after (drop k all) stage symbol
 moved_spot all Whole k symbol =
     option_map-option_map (λ n. (n, begun_by symbol)) (λ (n : ℕ × Stage). At (drop n.0 all) n.1)
-    (seek k (drop k all) symbol)
+    (seek k _ symbol)
     ∙ sym (option_map-option_map (λ n. drop n all) (λ left. At left (begun_by symbol))
-    (seek k (drop k all) symbol)) ∙ ap (option_map (λ left. At left (begun_by symbol)))
-    (seek_leaves all (drop k all) k symbol refl)
-moved_spot all Marker k symbol =
-    option_map-option_map (λ n. (k, n)) (λ (n : ℕ × Stage). At (drop n.0 all) n.1)
-    (next_stage Marker symbol)
-moved_spot all Numeric k symbol =
-    option_map-option_map (λ n. (k, n)) (λ (n : ℕ × Stage). At (drop n.0 all) n.1)
-    (next_stage Numeric symbol)
-moved_spot all Hexadecimal k symbol =
-    option_map-option_map (λ n. (k, n)) (λ (n : ℕ × Stage). At (drop n.0 all) n.1)
-    (next_stage Hexadecimal symbol)
-moved_spot all Setext k symbol =
-    option_map-option_map (λ n. (k, n)) (λ (n : ℕ × Stage). At (drop n.0 all) n.1)
-    (next_stage Setext symbol)
+    _) ∙ ap (option_map (λ left. At left (begun_by symbol))) (seek_leaves all _ k symbol refl)
+moved_spot all stage k symbol =
+    option_map-option_map (λ n. (k, n)) (λ (n : ℕ × Stage). At (drop n.0 all) n.1) _
 
 advance_spot : (state : State) (symbol : Symbol) → option_map spot_of (advance state symbol)
     ≡ spot_after (items_of state) state.stage symbol
@@ -137,8 +113,7 @@ advance_spot state symbol =
       before = Some symbol;
       position = n.0;
       stage = n.1;
-    }) spot_of (moved state.stage state.position (items_of state) symbol)
-    ∙ moved_spot (pattern_of state.role) state.stage state.position symbol
+    }) spot_of _ ∙ moved_spot _ state.stage state.position symbol
 
 -- what a symbol leaves alone
 pub advance_role : (state next : State) (symbol : Symbol) → advance state symbol ≡ Some next →
@@ -149,7 +124,7 @@ advance_role state next symbol e =
       before = Some symbol;
       position = n.0;
       stage = n.1;
-    }) (moved state.stage state.position (items_of state) symbol) next e in
+    }) _ next e in
     (ap (λ (s : State). s.role) (sym m.2), ap (λ (s : State). s.before) (sym m.2))
 
 pub at_items : (items left : List Item) (stage next : Stage) → At items stage ≡ At left next →
@@ -163,9 +138,9 @@ pub Feeds-from_goes : (from : State) (symbols : List Symbol) (to : Spot) →
 Feeds-from_goes from [] to g = (from, refl, g)
 Feeds-from_goes from (symbol ∷ symbols) to g =
     let step =
-    option_map-some spot_of (advance from symbol) (At g.0 g.1) (advance_spot from symbol ∙ g.2) in
+    option_map-some spot_of _ _ (advance_spot from symbol ∙ g.2) in
     let next = step.0 in
-    let same = at_items (items_of next) g.0 next.stage g.1 step.2 in
+    let same = at_items _ g.0 next.stage g.1 step.2 in
     let rest =
     Feeds-from_goes next symbols to (subst (λ st. Goes (items_of next) st symbols to) (sym same.1)
     (subst (λ is. Goes is g.1 symbols to) (sym same.0) g.3)) in
@@ -181,9 +156,8 @@ Goes-from_feeds from (symbol ∷ symbols) to f = (
   Goes-from_feeds f.0 symbols to f.2,
 )
 
-Goes-append :
-    (items left : List Item) (stage next : Stage) (symbols others : List Symbol) (to : Spot) →
-    Goes items stage symbols (At left next) → Goes left next others to →
+Goes-append : (items left : List Item) (stage next : Stage) (symbols others : List Symbol)
+    (to : Spot) → Goes items stage symbols (At left next) → Goes left next others to →
     Goes items stage (symbols ++ others) to
 Goes-append items left stage next [] others to g h =
     let same = at_items items left stage next g in
@@ -193,20 +167,14 @@ Goes-append items left stage next (symbol ∷ symbols) others to g h =
     (g.0, g.1, g.2, Goes-append g.0 left g.1 next symbols others to g.3 h)
 
 goes_endings : (left : List Item) (n : ℕ) →
-    Goes left Setext (replicate n LineEnding ++ SetextUnderline
-    ∷ []) (At left Whole)
+    Goes left Setext (replicate n LineEnding ++ SetextUnderline ∷ []) (At left Whole)
 goes_endings left zero = (left, Whole, refl, refl)
 goes_endings left (suc n) = (left, Setext, refl, goes_endings left n)
 
 goes_tail : (left : List Item) (first : Symbol) (tail : List Symbol) → IsTail first tail →
     Goes left (begun_by first) tail (At left Whole)
 goes_tail left ReferenceMarker tail (inl e) =
-    subst (λ t. Goes left Marker t (At left Whole)) (sym e) (
-      left,
-      Whole,
-      refl,
-      refl,
-    )
+    subst (λ t. Goes left Marker t (At left Whole)) (sym e) (left, Whole, refl, refl)
 goes_tail left ReferenceMarker tail (inr (inl e)) =
     subst (λ t. Goes left Marker t (At left Whole)) (sym e)
     (left, Numeric, refl, (left, Whole, refl, refl))
@@ -223,8 +191,7 @@ goes_tail left _ tail e = subst (λ t. Goes left Whole t (At left Whole)) (sym e
 
 -- the pattern's own spines are read to an end
 pub goes_whole : (items : List Item) (firsts spine : List Symbol) → settled items ≡ true →
-    IsGrouped firsts spine →
-    Fits items firsts →
+    IsGrouped firsts spine → Fits items firsts →
     (left : List Item) × Goes items Whole spine (At left Whole) × (list_all is_optional left ≡ true)
 goes_whole items [] spine ok grouped fit = (
   items,
@@ -239,7 +206,7 @@ goes_whole items (first ∷ firsts) spine ok grouped fit =
         on.left,
         begun_by first,
         ap (option_map (λ left. At left (begun_by first))) on.is_left,
-        Goes-append on.left on.left (begun_by first) Whole grouped.0 grouped.1 (At rest.0 Whole)
+        Goes-append on.left on.left (begun_by first) Whole grouped.0 grouped.1 _
             (goes_tail on.left first grouped.0 grouped.3) rest.1,
       ),
       rest.2,

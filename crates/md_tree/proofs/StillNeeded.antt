@@ -1,21 +1,11 @@
 -- The symbols that a spine still needs before it may end; each of them has a least node.
-use Rattle.std.proofs.Common.{◌≡◌, ℕ, zero, suc, true, Option, Some, List, [], ◌∷◌, ◌++◌, drop}
-use Rattle.std.proofs.Common.{refl}
-use Rattle.std.specs.List.{list_all}
-use Rattle.md_pattern.specs.declared.kinds.Symbol.{Symbol}
+use Rattle.std.proofs.Common.{◌≡◌, ℕ, zero, suc, true, Option, List, [], ◌∷◌, ◌++◌, drop, refl}
+use Rattle.md_tree.proofs.Common.{list_all, Symbol, Role, Class, Item, Once, Maybe, Many, Stage}
+use Rattle.md_tree.proofs.Common.{Whole, Marker, Numeric, Hexadecimal, Setext, State, pattern_of}
 use Rattle.md_pattern.specs.declared.kinds.Symbol.TheVariants as symbol
-use Rattle.md_pattern.specs.declared.kinds.Role.{Role}
 use Rattle.md_pattern.specs.declared.kinds.Role.TheVariants as role
-use Rattle.md_pattern.specs.declared.kinds.Class.{Class}
 use Rattle.md_pattern.specs.declared.kinds.Class.TheVariants.{String, Phrasing, Flow, Only, Either}
 use Rattle.md_pattern.specs.declared.kinds.Class.TheVariants.{OrLine}
-use Rattle.md_pattern.specs.declared.kinds.Item.{Item}
-use Rattle.md_pattern.specs.declared.kinds.Item.TheVariants.{Once, Maybe, Many}
-use Rattle.md_pattern.specs.declared.state.Stage.{Stage}
-use Rattle.md_pattern.specs.declared.state.Stage.TheVariants.{Whole, Marker, Numeric, Hexadecimal}
-use Rattle.md_pattern.specs.declared.state.Stage.TheVariants.{Setext}
-use Rattle.md_pattern.specs.declared.state.State.{State}
-use Rattle.md_pattern.specs.Pattern.{pattern_of}
 use Rattle.md_tree.proofs.EndsAfter.{ends_after}
 use Rattle.md_tree.proofs.LeastNodes.{has_least}
 
@@ -52,74 +42,38 @@ at_position around before position =
 abbrev pub Completes : State → List Symbol → Type 0
 Completes state symbols = (ends_after state symbols ≡ true) × (list_all has_least symbols ≡ true)
 
-from_0 : (around : Role) (before : Option Symbol) →
-    Completes (at_position around before 0) (missing_at around 0 Whole)
-from_0 role.Flow before = (refl, refl)
-from_0 _ before = (refl, refl)
-
-from_1 : (around : Role) (before : Option Symbol) →
-    Completes (at_position around before 1) (missing_at around 1 Whole)
-from_1 role.Flow before = (refl, refl)
-from_1 _ before = (refl, refl)
-
-from_2 : (around : Role) (before : Option Symbol) →
-    Completes (at_position around before 2) (missing_at around 2 Whole)
-from_2 role.Flow before = (refl, refl)
-from_2 _ before = (refl, refl)
-
-from_3 : (around : Role) (before : Option Symbol) →
-    Completes (at_position around before 3) (missing_at around 3 Whole)
-from_3 role.Flow before = (refl, refl)
-from_3 _ before = (refl, refl)
-
-from_4 : (around : Role) (before : Option Symbol) →
-    Completes (at_position around before 4) (missing_at around 4 Whole)
-from_4 role.Flow before = (refl, refl)
-from_4 _ before = (refl, refl)
-
-from_5 : (around : Role) (before : Option Symbol) →
-    Completes (at_position around before 5) (missing_at around 5 Whole)
-from_5 role.Flow before = (refl, refl)
-from_5 _ before = (refl, refl)
-
-from_6 : (around : Role) (before : Option Symbol) →
-    Completes (at_position around before 6) (missing_at around 6 Whole)
-from_6 role.Flow before = (refl, refl)
-from_6 _ before = (refl, refl)
-
 -- no pattern has more than six items
-abbrev past : ℕ → ℕ
-past more = suc (suc (suc (suc (suc (suc (suc more))))))
-
-from_past : (around : Role) (before : Option Symbol) (more : ℕ) →
-    Completes (at_position around before (past more)) (missing_at around (past more) Whole)
-from_past role.Flow before more = (refl, refl)
-from_past _ before more = (refl, refl)
-
 from_position : (around : Role) (before : Option Symbol) (position : ℕ) →
     Completes (at_position around before position) (missing_at around position Whole)
-from_position around before zero = from_0 around before
-from_position around before (suc zero) = from_1 around before
-from_position around before (suc (suc zero)) = from_2 around before
-from_position around before (suc (suc (suc zero))) = from_3 around before
-from_position around before (suc (suc (suc (suc zero)))) = from_4 around before
-from_position around before (suc (suc (suc (suc (suc zero))))) = from_5 around before
-from_position around before (suc (suc (suc (suc (suc (suc zero)))))) = from_6 around before
-from_position around before (suc (suc (suc (suc (suc (suc (suc more))))))) =
-    from_past around before more
+from_position role.Flow before zero = (refl, refl)
+from_position _ before zero = (refl, refl)
+from_position role.Flow before (suc zero) = (refl, refl)
+from_position _ before (suc zero) = (refl, refl)
+from_position role.Flow before (suc (suc zero)) = (refl, refl)
+from_position _ before (suc (suc zero)) = (refl, refl)
+from_position role.Flow before (suc (suc (suc zero))) = (refl, refl)
+from_position _ before (suc (suc (suc zero))) = (refl, refl)
+from_position role.Flow before (suc (suc (suc (suc zero)))) = (refl, refl)
+from_position _ before (suc (suc (suc (suc zero)))) = (refl, refl)
+from_position role.Flow before (suc (suc (suc (suc (suc zero))))) = (refl, refl)
+from_position _ before (suc (suc (suc (suc (suc zero))))) = (refl, refl)
+from_position role.Flow before (suc (suc (suc (suc (suc (suc zero)))))) = (refl, refl)
+from_position _ before (suc (suc (suc (suc (suc (suc zero)))))) = (refl, refl)
+from_position role.Flow before (suc (suc (suc (suc (suc (suc (suc more))))))) = (refl, refl)
+from_position _ before (suc (suc (suc (suc (suc (suc (suc more))))))) = (refl, refl)
 
 from_stage : (around : Role) (before : Option Symbol) (position : ℕ) (stage : Stage) →
     Completes (record { position = position; role = around; before = before; stage = stage })
     (missing_at around position stage)
 from_stage around before position Whole = from_position around before position
 from_stage around before position Setext =
-    from_position around (Some symbol.SetextUnderline) position
+    from_position around _ position
 from_stage around before position Marker =
-    from_position around (Some symbol.ReferenceValue) position
+    from_position around _ position
 from_stage around before position Numeric =
-    from_position around (Some symbol.ReferenceValue) position
+    from_position around _ position
 from_stage around before position Hexadecimal =
-    from_position around (Some symbol.ReferenceValue) position
+    from_position around _ position
 
 abbrev pub missing : State → List Symbol
 missing state = missing_at state.role state.position state.stage

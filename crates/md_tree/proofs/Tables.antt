@@ -2,23 +2,15 @@
 use denote.Enum.Bare.{sameb}
 use Rattle.std.proofs.Common.{◌≡◌, Bool, true, false, not, ◌&&◌, ◌||◌, cond, None, List, [], ◌∷◌}
 use Rattle.std.proofs.Common.{◌++◌, refl, sym, ap, ◌∙◌}
-use Rattle.std.specs.Prelude.{map}
-use Rattle.std.proofs.lemmas.List.{map-append}
-use Rattle.md_pattern.specs.contracts.kinds.Symbol.{the_type}
-use Rattle.md_base.specs.declared.event.AlignKind.{AlignKind}
-use Rattle.md_base.specs.declared.event.Name.{Name}
-use Rattle.md_base.specs.declared.event.Name.TheVariants.{GfmTableHead, GfmTableDelimiterRow}
-use Rattle.md_base.specs.declared.event.Name.TheVariants.{GfmTableDelimiterCellValue}
-use Rattle.md_pattern.specs.declared.kinds.Symbol.{Symbol}
+use Rattle.md_tree.proofs.Common.{map, map-append, the_type, AlignKind, Name, GfmTableHead}
+use Rattle.md_tree.proofs.Common.{GfmTableDelimiterCellValue, Symbol, Forest, Empty, Node}
+use Rattle.md_tree.proofs.Common.{is_transparent, is_table_head, is_delimiter_row, spine, Matches}
+use Rattle.md_tree.proofs.Common.{AreShaped, alignment_of, alignments, in_each, IsTable}
+use Rattle.md_base.specs.declared.event.Name.TheVariants.{GfmTableDelimiterRow}
 use Rattle.md_pattern.specs.declared.kinds.Symbol.TheVariants as symbol
 use Rattle.md_pattern.specs.declared.kinds.Role.TheVariants as role
-use Rattle.md_base.specs.Tree.{Forest, Empty, Node}
-use Rattle.md_base.specs.NameTests.{is_transparent, is_table_head, is_delimiter_row}
 use Rattle.md_base.specs.Is.{is as is_named}
-use Rattle.md_pattern.specs.Spine.{spine, Matches}
-use Rattle.md_pattern.specs.Shape.{AreShaped}
-use Rattle.md_pattern.specs.Alignments.{alignment_of, alignments}
-use Rattle.md_tree.specs.Tables.{in_each, values_of_row, values_of_head, values_of_table, IsTable}
+use Rattle.md_tree.specs.Tables.{values_of_row, values_of_head, values_of_table}
 use Rattle.md_tree.proofs.SettledPatterns.{and_left, and_right}
 use Rattle.md_tree.proofs.SpineSymbols.{matches_pass}
 use Rattle.md_tree.proofs.OneLevel.{named, level}
@@ -48,18 +40,6 @@ not_true false e = refl
 or_false : (a b : Bool) → a ≡ false → b ≡ false → (a || b) ≡ false
 or_false a b e f = ap (λ x. x || b) e ∙ f
 
-neither_first : (one other seen : Symbol) → neither one other seen ≡ true →
-    sameb the_type one seen ≡ false
-neither_first one other seen e =
-    not_true (sameb the_type one seen)
-    (and_left (not (sameb the_type one seen)) (not (sameb the_type other seen)) e)
-
-neither_second : (one other seen : Symbol) → neither one other seen ≡ true →
-    sameb the_type other seen ≡ false
-neither_second one other seen e =
-    not_true (sameb the_type other seen)
-    (and_right (not (sameb the_type one seen)) (not (sameb the_type other seen)) e)
-
 -- the alignments of a row's, a head's and a table's children
 abbrev of_value : Forest → List AlignKind
 of_value children = alignment_of children ∷ []
@@ -76,46 +56,35 @@ row_level children shaped matches =
     let p = neither symbol.TableHead symbol.TableDelimiterRow in
     level (is_named GfmTableDelimiterCellValue) GfmTableDelimiterCellValue
     symbol.TableDelimiterValue p of_value value_is
-    (λ name. (named name).value) (λ around before inner stands each. refl)
-    (λ seen e none. (
+    (λ name. (named name).value) (λ around before inner stands each. refl) (λ seen e none. (
       none,
-      or_false (sameb the_type symbol.TableHead seen)
-          (sameb the_type symbol.TableDelimiterRow seen)
-          (neither_first symbol.TableHead symbol.TableDelimiterRow seen e)
-          (neither_second symbol.TableHead symbol.TableDelimiterRow seen e),
-    ))
-    children role.TableDelimiterRow None shaped (matches_pass p role.TableDelimiterRow
-    (spine children) refl refl matches)
+      or_false (sameb the_type symbol.TableHead seen) (sameb the_type symbol.TableDelimiterRow seen)
+          (not_true _ (and_left _ _ e)) (not_true _ (and_right _ _ e)),
+    )) children role.TableDelimiterRow None shaped (matches_pass p role.TableDelimiterRow
+    _ refl refl matches)
 
 head_level : (children : Forest) → AreShaped children role.TableHead None →
-    Matches role.TableHead (spine children) →
-    alignments children ≡ of_head children
+    Matches role.TableHead (spine children) → alignments children ≡ of_head children
 head_level children shaped matches =
     let p = neither symbol.TableDelimiterValue symbol.TableHead in
     level is_delimiter_row GfmTableDelimiterRow symbol.TableDelimiterRow p of_row row_is
-    (λ name. (named name).row)
-    (λ around before inner stands each. row_level inner each stands)
+    (λ name. (named name).row) (λ around before inner stands each. row_level inner each stands)
     (λ seen e none. (
-      neither_first symbol.TableDelimiterValue symbol.TableHead seen e,
+      not_true _ (and_left _ _ e),
       or_false (sameb the_type symbol.TableHead seen) (sameb the_type symbol.TableDelimiterRow seen)
-          (neither_second symbol.TableDelimiterValue symbol.TableHead seen e) none,
-    ))
-    children role.TableHead None shaped
-    (matches_pass p role.TableHead (spine children) refl refl matches)
+          (not_true _ (and_right _ _ e)) none,
+    )) children role.TableHead None shaped (matches_pass p role.TableHead _ refl refl matches)
 
 table_level : (children : Forest) → IsTable children →
     alignments children ≡ in_each is_table_head of_head children
 table_level children table =
     let p = neither symbol.TableDelimiterValue symbol.TableDelimiterRow in
     level is_table_head GfmTableHead symbol.TableHead p of_head head_is (λ name. (named name).head)
-    (λ around before inner stands each. head_level inner each stands)
-    (λ seen e none. (
-      neither_first symbol.TableDelimiterValue symbol.TableDelimiterRow seen e,
-      or_false (sameb the_type symbol.TableHead seen)
-          (sameb the_type symbol.TableDelimiterRow seen) none
-          (neither_second symbol.TableDelimiterValue symbol.TableDelimiterRow seen e),
-    ))
-    children role.Table None table.0 (matches_pass p role.Table (spine children) refl refl table.1)
+    (λ around before inner stands each. head_level inner each stands) (λ seen e none. (
+      not_true _ (and_left _ _ e),
+      or_false (sameb the_type symbol.TableHead seen) (sameb the_type symbol.TableDelimiterRow seen)
+          none (not_true _ (and_right _ _ e)),
+    )) children role.Table None table.0 (matches_pass p role.Table _ refl refl table.1)
 
 -- ---- each of them
 map_cond : {A B : Type 0} (f : A → B) (passed transparent : Bool) (own inner : List A) →
@@ -126,9 +95,8 @@ map_cond f false true own inner = refl
 map_cond f false false own inner = refl
 
 map_in_each : {A B : Type 0} (f : A → B) (test : Name → Bool) (found : Forest → List A)
-    (other : Forest → List B) →
-    ((children : Forest) → map f (found children) ≡ other children) → (forest : Forest) →
-    map f (in_each test found forest) ≡ in_each test other forest
+    (other : Forest → List B) → ((children : Forest) → map f (found children) ≡ other children) →
+    (forest : Forest) → map f (in_each test found forest) ≡ in_each test other forest
 map_in_each f test found other same Empty = refl
 map_in_each f test found other same (Node name start end children rest) =
     map-append f (cond (test name) (found children)

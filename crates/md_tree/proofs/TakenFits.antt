@@ -1,12 +1,8 @@
 -- The rest of a pattern after a symbol, and the proof that the symbols taken fit the pattern.
 use Rattle.std.proofs.Common.{◌≡◌, Bool, true, false, cond, if◌then◌else◌, Option, Some, None, List}
-use Rattle.std.proofs.Common.{[], ◌∷◌, refl, sym, ap, subst, arith}
-use Rattle.std.specs.List.{list_all}
-use Rattle.md_pattern.specs.declared.kinds.Symbol.{Symbol}
-use Rattle.md_pattern.specs.declared.kinds.Item.{Item}
-use Rattle.md_pattern.specs.declared.kinds.Item.TheVariants.{Once, Maybe, Many}
-use Rattle.md_pattern.specs.Pattern.{class_of, takes, Fits, IsCount}
-use Rattle.md_pattern.specs.Steps.{is_optional}
+use Rattle.std.proofs.Common.{[], ◌∷◌, refl, ap, subst, arith}
+use Rattle.md_tree.proofs.Common.{list_all, Symbol, Item, Once, Maybe, Many, class_of, takes, Fits}
+use Rattle.md_tree.proofs.Common.{IsCount, is_optional}
 use Rattle.md_tree.proofs.SettledPatterns.{and_both, and_left, and_right}
 
 -- the rest of a pattern after a symbol
@@ -28,14 +24,14 @@ one_more (Many class) items symbol symbols taken fit = (
   symbol ∷ fit.0,
   fit.1,
   ap (λ s. symbol ∷ s) fit.2,
-  and_both (takes class symbol) (list_all (takes class) fit.0) taken fit.3,
+  and_both _ _ taken fit.3,
   tt,
   fit.5,
 )
 one_more (Once class) items symbol symbols taken fit =
-    (symbol ∷ [], symbols, refl, and_both (takes class symbol) true taken refl, refl, fit)
+    (symbol ∷ [], symbols, refl, and_both _ _ taken refl, refl, fit)
 one_more (Maybe class) items symbol symbols taken fit =
-    (symbol ∷ [], symbols, refl, and_both (takes class symbol) true taken refl, omega arith, fit)
+    (symbol ∷ [], symbols, refl, and_both _ _ taken refl, omega arith, fit)
 
 none_optional : (item : Item) → is_optional item ≡ true → IsCount item 0
 none_optional (Once class) optional = cc
@@ -43,16 +39,14 @@ none_optional (Maybe class) optional = omega arith
 none_optional (Many class) optional = tt
 
 left_out : (item : Item) (items : List Item) (symbols : List Symbol) → is_optional item ≡ true →
-    Fits items symbols →
-    Fits (item ∷ items) symbols
+    Fits items symbols → Fits (item ∷ items) symbols
 left_out item items symbols optional fit =
     ([], symbols, refl, refl, none_optional item optional, fit)
 
 pub fits_nothing : (items : List Item) → list_all is_optional items ≡ true → Fits items []
 fits_nothing [] e = refl
 fits_nothing (item ∷ items) e =
-    left_out item items [] (and_left (is_optional item) (list_all is_optional items) e)
-    (fits_nothing items (and_right (is_optional item) (list_all is_optional items) e))
+    left_out item items [] (and_left _ _ e) (fits_nothing items (and_right _ _ e))
 
 fits_back_optional :
     (item : Item) (items left : List Item) (symbol : Symbol) (symbols : List Symbol) →
@@ -63,20 +57,16 @@ fits_back_optional item items left symbol symbols again true o e =
     left_out item items (symbol ∷ symbols) o (again e)
 fits_back_optional item items left symbol symbols again false o e = cc
 
-some_one : {A : Type 0} (a b : A) → Some a ≡ Some b → a ≡ b
-some_one a b e = cc
-
 fits_back_taken : (item : Item) (items left : List Item) (symbol : Symbol) (symbols : List Symbol) →
     Fits left symbols → (left_after items symbol ≡ Some left → Fits items (symbol ∷ symbols)) →
-    (taken : Bool) →
-    takes (class_of item) symbol ≡ taken → cond taken (Some (kept item items))
+    (taken : Bool) → takes (class_of item) symbol ≡ taken → cond taken (Some (kept item items))
     (cond (is_optional item) (left_after items symbol) None) ≡ Some left →
     Fits (item ∷ items) (symbol ∷ symbols)
 fits_back_taken item items left symbol symbols fit again true t e =
-    one_more item items symbol symbols t
-    (subst (λ l. Fits l symbols) (sym (some_one (kept item items) left e)) fit)
+    let same : left ≡ kept item items = cc in
+    one_more item items symbol symbols t (subst (λ l. Fits l symbols) same fit)
 fits_back_taken item items left symbol symbols fit again false t e =
-    fits_back_optional item items left symbol symbols again (is_optional item) refl e
+    fits_back_optional item items left symbol symbols again _ refl e
 
 -- what a reading takes fits
 pub fits_back : (items left : List Item) (symbol : Symbol) (symbols : List Symbol) →
@@ -84,4 +74,4 @@ pub fits_back : (items left : List Item) (symbol : Symbol) (symbols : List Symbo
 fits_back [] left symbol symbols e fit = cc
 fits_back (item ∷ items) left symbol symbols e fit =
     fits_back_taken item items left symbol symbols fit
-    (λ f. fits_back items left symbol symbols f fit) (takes (class_of item) symbol) refl e
+    (λ f. fits_back items left symbol symbols f fit) _ refl e

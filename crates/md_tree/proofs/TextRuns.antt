@@ -3,15 +3,14 @@ use Rattle.std.proofs.Common.{rules, ◌≡◌, ℕ, ◌+◌, ◌-◌, ◌≤◌
 use Rattle.std.proofs.Common.{Some, List, ◌++◌, length, take, drop, take-add, refl, sym, ap, ◌∙◌}
 use Rattle.std.proofs.Common.{arith}
 use Rattle.std.specs.Prelude.{slice_range, IfSome}
-use Rattle.std.specs.Str.{IsUtf8}
 use Rattle.std.proofs.lemmas.Str.{IsUtf8-append, is_utf8-from_IsUtf8}
 use Rattle.std.proofs.lemmas.List.{take-take, drop-drop, drop-take}
+use Rattle.md_tree.proofs.Common.{IsUtf8}
 use Rattle.md_base.specs.Place.{text_when}
 
 -- the part of a run
 pub slice_range-run : (bytes text : List ℕ) (s start end : ℕ) →
-    take (length text) (drop s bytes) ≡ text → s ≤ start →
-    start ≤ end → end - s ≤ length text →
+    take (length text) (drop s bytes) ≡ text → s ≤ start → start ≤ end → end - s ≤ length text →
     slice_range text (start - s) (end - s) ≡ slice_range bytes start end
 slice_range-run bytes text s start end is low ordered high =
     let from = start - s in
@@ -22,13 +21,11 @@ slice_range-run bytes text s start end is low ordered high =
     let rest : drop from text ≡ take left (drop start bytes) =
     ap (drop from) (sym is ∙ ap (λ n. take n (drop s bytes)) (sym all)) ∙ drop-take from left
     (drop s bytes) ∙ ap (take left) (drop-drop from s bytes ∙ ap (λ n. drop n bytes) there) in
-    ap (λ n. take n (drop from text)) count ∙ ap (take (end - start)) rest
-    ∙ take-take (end - start) left (drop start bytes) (omega arith)
+    ap (λ n. take n (drop from text)) count ∙ ap (take _) rest ∙ take-take _ left _ (omega arith)
 
 -- bytes that may be read and are UTF-8 are a text
 pub text_when-some : (readable : Bool) (bytes part : List ℕ) → readable ≡ true →
-    part ≡ bytes → IsUtf8 part →
-    text_when readable bytes ≡ Some part
+    part ≡ bytes → IsUtf8 part → text_when readable bytes ≡ Some part
 text_when-some readable bytes part holds same utf8 =
     rw (holds, ← same, is_utf8-from_IsUtf8 part utf8) refl
 
@@ -40,14 +37,12 @@ readable-ordered start end n ordered within = search rules
 -- a part of a run's text is a text of the bytes
 pub run-part : (bytes text part : List ℕ) (s start end : ℕ) → s + length text ≤ length bytes →
     take (length text) (drop s bytes) ≡ text → s ≤ start → s ≤ end → start - s ≤ end - s →
-    end - s ≤ length text →
-    part ≡ slice_range text (start - s) (end - s) → IsUtf8 part →
-    text_when (nat_le start end && nat_le end (length bytes)) (slice_range bytes start end)
-    ≡ Some part
+    end - s ≤ length text → part ≡ slice_range text (start - s) (end - s) → IsUtf8 part → text_when
+    (nat_le start end && nat_le end (length bytes)) (slice_range bytes start end) ≡ Some part
 run-part bytes text part s start end within is low low_end ordered high same utf8 =
     let in_order : start ≤ end = omega (arith, ordered, low, low_end) in
     text_when-some _ _ _
-    (readable-ordered start end (length bytes) in_order (omega (arith, within, high, low_end)))
+    (readable-ordered start end _ in_order (omega (arith, within, high, low_end)))
     (same ∙ slice_range-run bytes text s start end is low in_order high) utf8
 
 -- what holds of an answer, where there is one

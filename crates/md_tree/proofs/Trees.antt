@@ -1,26 +1,15 @@
 -- A tree with the shape of the grammar is read from its first event to its last.
 use Rattle.std.proofs.Common.{◌≡◌, suc, true, Option, None, List, [], ◌∷◌, ◌++◌, refl, sym, ap, ◌∙◌}
 use Rattle.std.proofs.Common.{subst}
-use Rattle.md_base.specs.declared.event.Point.{Point}
-use Rattle.md_base.specs.declared.event.Name.{Name}
-use Rattle.md_base.specs.declared.event.Event.{Event}
-use Rattle.md_pattern.specs.declared.kinds.Symbol.{Symbol}
-use Rattle.md_pattern.specs.declared.kinds.Role.{Role}
-use Rattle.md_pattern.specs.declared.kinds.Role.TheVariants.{Flow}
-use Rattle.md_tree.specs.declared.mention.Referral.TheVariants.{Missing}
-use Rattle.md_pattern.specs.declared.state.State.{State}
-use Rattle.md_base.specs.Tree.{Forest, Empty, Node, flatten, exiting}
-use Rattle.md_pattern.specs.Standing.{standing_of}
-use Rattle.md_pattern.specs.Spine.{spine, shown, Matches}
-use Rattle.md_pattern.specs.Shape.{Claim, EachNode, inner_role, inner_before, last_symbol}
-use Rattle.md_tree.specs.Rules.{reading_of, place, target_after, target_of}
-use Rattle.md_tree.specs.Mentions.{mention_of, mentions_with}
-use Rattle.md_pattern.specs.Partners.{index_after}
-use Rattle.md_pattern.specs.Steps.{is_complete}
-use Rattle.md_tree.specs.Machine.{Reads, Course, Runs, beginning}
+use Rattle.md_tree.proofs.Common.{Point, Name, Event, Symbol, Role, Flow, State, Forest, Empty}
+use Rattle.md_tree.proofs.Common.{Node, flatten, standing_of, spine, shown, Matches, Claim}
+use Rattle.md_tree.proofs.Common.{EachNode, last_symbol, place, target_after, target_of, mention_of}
+use Rattle.md_tree.proofs.Common.{mentions_with, index_after, is_complete, Reads, Course, Runs}
+use Rattle.md_tree.proofs.Common.{beginning}
 use Rattle.md_tree.proofs.Spots.{Feeds, Feeds-split, advance_role}
 use Rattle.md_tree.proofs.Groups.{Feeds-matches}
 use Rattle.md_tree.proofs.NodesRead.{IsFine, AllowsFree, mentions_over, after_nodes, node_runs}
+use Rattle.md_tree.proofs.NodesRead.{may_hold-from}
 
 pub Runs-append : (holds : Reads) (events others : List Event) (from middle to : Course) →
     Runs holds events from middle → Runs holds others middle to →
@@ -47,9 +36,8 @@ Feeds-context from to (symbol ∷ symbols) f =
     (rest.0 ∙ here.0, rest.1 ∙ ap (λ b. last_symbol b symbols) here.1)
 
 -- nodes that are fine are read, from a spine that takes theirs
-pub Runs-nodes : (holds : Reads) → AllowsFree holds →
-    (forest : Forest) (from : Course) (end : State) →
-    EachNode (IsFine holds) forest from.state.role from.state.before →
+pub Runs-nodes : (holds : Reads) → AllowsFree holds → (forest : Forest) (from : Course)
+    (end : State) → EachNode (IsFine holds) forest from.state.role from.state.before →
     Feeds from.state (spine forest) end →
     Runs holds (flatten forest) from (after_nodes forest end from)
 Runs-nodes holds free Empty from end fine feeds =
@@ -62,19 +50,19 @@ Runs-nodes holds free Empty from end fine feeds =
     }) feeds
 Runs-nodes holds free (Node name start stop children rest) from end fine feeds =
     let st = standing_of name in
-    let parts = Feeds-split from.state end (shown st (spine children)) (spine rest) feeds in
+    let parts = Feeds-split from.state end (shown st _) (spine rest) feeds in
     let middle = parts.0 in
-    let node = node_runs holds free st name start stop children from middle fine.0.0.0 fine.0.0.1
-    fine.0.1 (Runs-nodes holds free children) fine.1 parts.1 in
-    let context = Feeds-context from.state middle (shown st (spine children)) parts.1 in
+    let node = node_runs holds free name start stop children from middle
+    (may_hold-from from.state.role fine.0.0.0) (Runs-nodes holds free children) st fine.0.0.1
+    fine.0.1 fine.1 parts.1 in
+    let context = Feeds-context from.state middle (shown st _) parts.1 in
     let after : Course = record {
       state = middle;
       target = target_after st from.target (target_of children) (place start stop);
       open_nodes = from.open_nodes;
-      count = suc (index_after (suc from.count) children);
-      mentions = mentions_with (index_after (suc from.count) children)
-          (mention_of (reading_of st) (target_of children Missing))
-          (mentions_over (suc from.count) children from.mentions);
+      count = suc _;
+      mentions = mentions_with (index_after _ children) (mention_of _ _)
+          (mentions_over _ children from.mentions);
     } in
     let rest_fine = subst (λ b. EachNode (IsFine holds) rest middle.role b) (sym context.1)
     (subst (λ r. EachNode (IsFine holds) rest r
@@ -82,10 +70,7 @@ Runs-nodes holds free (Node name start stop children rest) from end fine feeds =
     let rest_runs = Runs-nodes holds free rest after end rest_fine parts.2 in (
       node.inside,
       node.enters,
-      Runs-append holds (flatten children) (exiting name stop
-          ∷ flatten rest) node.inside node.last
-          (after_nodes (Node name start stop children rest) end from) node.runs
-          (after, node.exits, rest_runs),
+      Runs-append holds _ _ node.inside node.last _ node.runs (after, node.exits, rest_runs),
     )
 
 pub EachNode-map : (P Q : Claim) →
@@ -97,10 +82,8 @@ pub EachNode-map : (P Q : Claim) →
 EachNode-map P Q f Empty around before each = tt
 EachNode-map P Q f (Node name start end children rest) around before each = (
   f around before name start end children each.0,
-  EachNode-map P Q f children
-      (inner_role (standing_of name) around before) (inner_before (standing_of name) before) each.1,
-  EachNode-map P Q f rest around
-      (last_symbol before (shown (standing_of name) (spine children))) each.2,
+  EachNode-map P Q f children _ _ each.1,
+  EachNode-map P Q f rest around _ each.2,
 )
 
 -- a document that is fine is read to an end
@@ -109,5 +92,5 @@ pub Runs-document : (holds : Reads) → AllowsFree holds → (forest : Forest) �
     (end : State) × Runs holds (flatten forest) beginning (after_nodes forest end beginning)
     × (is_complete end ≡ true)
 Runs-document holds free forest fine matches =
-    let whole = Feeds-matches Flow (spine forest) matches in
+    let whole = Feeds-matches Flow _ matches in
     (whole.0, Runs-nodes holds free forest beginning whole.0 fine whole.1, whole.2)

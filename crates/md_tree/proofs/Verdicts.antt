@@ -1,30 +1,15 @@
 -- Facts about a list of events, from how a walk over it continues, stops or ends.
 use Rattle.std.proofs.Common.{◌≡◌, ℕ, Bool, true, false, cond, Option, Some, None, MatchOption}
 use Rattle.std.proofs.Common.{List, [], ◌∷◌, ◌++◌, refl, sym, ◌∙◌, subst, append_assoc, append-nil}
-use Rattle.md_base.specs.declared.event.Point.{Point}
-use Rattle.md_base.specs.declared.event.Name.{Name}
-use Rattle.md_base.specs.declared.event.Kind.{Kind}
-use Rattle.md_base.specs.declared.event.Kind.TheVariants.{Enter, Exit}
-use Rattle.md_base.specs.declared.event.Event.{Event}
-use Rattle.md_pattern.specs.declared.kinds.Role.TheVariants.{Flow}
-use Rattle.md_pattern.specs.declared.kinds.Standing.{Standing}
-use Rattle.md_pattern.specs.declared.kinds.Standing.TheVariants.{Mdx}
-use Rattle.md_tree.specs.declared.mention.Referral.{Referral}
-use Rattle.md_tree.specs.declared.rule.Rule.{Rule}
+use Rattle.md_tree.proofs.Common.{none-some, Point, Name, Kind, Enter, Exit, Event, Flow, Standing}
+use Rattle.md_tree.proofs.Common.{Mdx, Referral, Rule, State, Entry, Open, Outer, Forest, flatten}
+use Rattle.md_tree.proofs.Common.{entering, standing_of, IsShaped, MeetRules, Handed, IsGrammatical}
+use Rattle.md_tree.proofs.Common.{IsReadAs, IsChecked, BeginNoTree, is_complete, Reads, Course}
+use Rattle.md_tree.proofs.Common.{Runs, Steps, StepsBy, Enters, Exits, ExitsWhere, after_entry}
+use Rattle.md_tree.proofs.Common.{entered, entered_on, beginning, Anything, Unbroken, BreaksWhere}
+use Rattle.md_tree.proofs.Common.{BreaksAtExit, StopsAtExit, StopsBy}
 use Rattle.md_tree.specs.declared.rule.Rule.TheVariants as rule
-use Rattle.md_pattern.specs.declared.state.State.{State}
-use Rattle.md_tree.specs.Machine.{Entry, Open, Outer}
-use Rattle.md_base.specs.Tree.{Forest, flatten, entering}
-use Rattle.md_pattern.specs.Standing.{standing_of}
-use Rattle.md_pattern.specs.Shape.{IsShaped}
-use Rattle.md_tree.specs.Rules.{broken_rule, MeetRules}
-use Rattle.md_tree.specs.Grammar.{Handed, IsGrammatical, IsReadAs, IsChecked}
-use Rattle.md_tree.specs.Refusal.{BeginNoTree}
-use Rattle.md_pattern.specs.Steps.{may_hold, is_complete}
-use Rattle.md_tree.specs.Machine.{Reads, Course, Runs, Steps, StepsBy, Enters, Exits, ExitsWhere}
-use Rattle.md_tree.specs.Machine.{after_entry, entered, entered_on, beginning}
-use Rattle.md_tree.specs.Walk.{Anything, Unbroken, BreaksWhere, BreaksAtExit, StopsAtEntry}
-use Rattle.md_tree.specs.Walk.{StopsAtExit, StopsBy}
+use Rattle.md_tree.specs.Walk.{StopsAtEntry}
 use Rattle.md_tree.proofs.Trees.{Runs-split, Runs-document}
 use Rattle.md_tree.proofs.NodesRead.{after_nodes}
 use Rattle.md_tree.proofs.OpenPaths.{Reached, Reached-beginning}
@@ -38,44 +23,39 @@ enters_same : (o : Option Entry) (name : Name) (point : Point) (from one other :
 enters_same None name point from one other e f = absurd e
 enters_same (Some entry) name point from one other e f = e ∙ sym f
 
-exits_where_same :
-    (holds also : Reads) (outer : Option Outer) (start point : Point) (others : List Open)
-    (from one other : Course) → ExitsWhere holds outer start point others from one →
-    ExitsWhere also outer start point others from other → one ≡ other
-exits_where_same holds also None start point others from one other e f = e ∙ sym f
-exits_where_same holds also (Some outer) start point others from one other e f = e.2 ∙ sym f.2
+module _ (holds also : Reads) where
+  exits_where_same : (outer : Option Outer) (start point : Point) (others : List Open)
+      (from one other : Course) → ExitsWhere holds outer start point others from one →
+      ExitsWhere also outer start point others from other → one ≡ other
+  exits_where_same None start point others from one other e f = e ∙ sym f
+  exits_where_same (Some outer) start point others from one other e f = e.2 ∙ sym f.2
 
-exits_same : (holds also : Reads) (opens : List Open) (name : Name) (point : Point)
-    (from one other : Course) →
-    Exits holds opens name point from one → Exits also opens name point from other → one ≡ other
-exits_same holds also [] name point from one other e f = absurd e
-exits_same holds also (open_node ∷ others) name point from one other e f =
-    exits_where_same holds also open_node.outer open_node.start point others from one other e.1 f.1
+  exits_same : (opens : List Open) (name : Name) (point : Point) (from one other : Course) →
+      Exits holds opens name point from one → Exits also opens name point from other → one ≡ other
+  exits_same [] name point from one other e f = absurd e
+  exits_same (open_node ∷ others) name point from one other e f =
+      exits_where_same open_node.outer open_node.start point others from one other e.1 f.1
 
-steps_same :
-    (holds also : Reads) (kind : Kind) (name : Name) (point : Point) (from one other : Course) →
-    StepsBy holds kind name point from one → StepsBy also kind name point from other → one ≡ other
-steps_same holds also Enter name point from one other e f =
-    enters_same (entered (standing_of name) from.state from.target) name point from one other e f
-steps_same holds also Exit name point from one other e f =
-    exits_same holds also from.open_nodes name point from one other e f
+  steps_same : (kind : Kind) (name : Name) (point : Point) (from one other : Course) →
+      StepsBy holds kind name point from one → StepsBy also kind name point from other → one ≡ other
+  steps_same Enter name point from one other e f =
+      enters_same _ name point from one other e f
+  steps_same Exit name point from one other e f =
+      exits_same from.open_nodes name point from one other e f
 
-pub Runs-same : (holds also : Reads) (events : List Event) (from one other : Course) →
-    Runs holds events from one →
-    Runs also events from other → one ≡ other
-Runs-same holds also [] from one other e f = sym e ∙ f
-Runs-same holds also (event ∷ events) from one other e f =
-    let next = steps_same holds also event.kind event.name event.point from e.0 f.0 e.1 f.1 in
-    Runs-same holds also events e.0 one other e.2
-    (subst (λ c. Runs also events c other) (sym next) f.2)
+  pub Runs-same : (events : List Event) (from one other : Course) → Runs holds events from one →
+      Runs also events from other → one ≡ other
+  Runs-same [] from one other e f = sym e ∙ f
+  Runs-same (event ∷ events) from one other e f =
+      let next = steps_same event.kind event.name event.point from e.0 f.0 e.1 f.1 in
+      Runs-same events e.0 one other e.2 (subst (λ c. Runs also events c other) (sym next) f.2)
 
 -- ---- where a walk has come to
 step_reached : (holds : Reads) (kind : Kind) (seen : List Event) (name : Name) (point : Point)
-    (from to : Course) →
-    Reached holds seen from → StepsBy holds kind name point from to →
+    (from to : Course) → Reached holds seen from → StepsBy holds kind name point from to →
     Reached holds (seen ++ record { kind = kind; name = name; point = point } ∷ []) to
 step_reached holds Enter seen name point from to reached step =
-    enter_reached (entered (standing_of name) from.state from.target) refl step
+    enter_reached (entered _ from.state from.target) refl step
   where
     enter_reached : (o : Option Entry) → entered (standing_of name) from.state from.target ≡ o →
         MatchOption o ⊥ (λ entry. to ≡ after_entry entry name point from) →
@@ -87,22 +67,21 @@ step_reached holds Enter seen name point from to reached step =
 step_reached holds Exit seen name point from to reached step =
     Reached-exit holds seen name point from to reached step
 
-runs_reached : (holds : Reads) (events seen : List Event) (from to : Course) →
-    Reached holds seen from →
-    Runs holds events from to → Reached holds (seen ++ events) to
-runs_reached holds [] seen from to reached runs =
-    subst (λ c. Reached holds (seen ++ []) c) runs
-    (subst (λ es. Reached holds es from) (sym (append-nil seen)) reached)
-runs_reached holds (event ∷ events) seen from to reached runs =
-    subst (λ es. Reached holds es to) (append_assoc seen (event ∷ []) events)
-    (runs_reached holds events (seen ++ event ∷ []) runs.0 to
-    (step_reached holds event.kind seen event.name event.point from runs.0 reached runs.1) runs.2)
+module _ (holds : Reads) where
+  runs_reached : (events seen : List Event) (from to : Course) → Reached holds seen from →
+      Runs holds events from to → Reached holds (seen ++ events) to
+  runs_reached [] seen from to reached runs =
+      subst (λ c. Reached holds (seen ++ []) c) runs
+      (subst (λ es. Reached holds es from) (sym (append-nil seen)) reached)
+  runs_reached (event ∷ events) seen from to reached runs =
+      subst (λ es. Reached holds es to) (append_assoc seen (event ∷ []) events)
+      (runs_reached events _ runs.0 to
+      (step_reached holds event.kind seen event.name event.point from runs.0 reached runs.1) runs.2)
 
-pub Reached-runs : (holds : Reads) (events : List Event) (to : Course) →
-    Runs holds events beginning to →
-    Reached holds events to
-Reached-runs holds events to runs =
-    runs_reached holds events [] beginning to (Reached-beginning holds) runs
+  pub Reached-runs : (events : List Event) (to : Course) → Runs holds events beginning to →
+      Reached holds events to
+  Reached-runs events to runs =
+      runs_reached events [] beginning to (Reached-beginning holds) runs
 
 -- ---- an event that stops a walk
 
@@ -114,14 +93,11 @@ BeginNoTree-stuck holds seen event course runs stuck = λ forest more shaped fla
     let document = Runs-document Anything free_anything forest
     (shaped_anything forest Flow None shaped.0) shaped.1 in
     let end = after_nodes forest document.0 beginning in
-    let parts = Runs-split Anything seen (event ∷ more) beginning end
-    (subst (λ es. Runs Anything es beginning end) (flattened ∙ append_assoc seen (event ∷ []) more)
+    let parts = Runs-split Anything seen _ beginning end
+    (subst (λ es. Runs Anything es beginning end) (flattened ∙ append_assoc seen _ more)
     document.1) in
     let same = Runs-same Anything holds seen beginning parts.0 course parts.1 runs in
     stuck parts.2.0 (subst (λ c. Steps Anything event c parts.2.0) same parts.2.1)
-
-some_none : {A : Type 0} (x : A) (o : Option A) → o ≡ None → o ≡ Some x → ⊥
-some_none x o e f = cc
 
 mdx_enters :
     (standing : Standing) (state : State) (target : Referral) (b : Bool) (P : Entry → Type 0) →
@@ -130,86 +106,80 @@ mdx_enters standing state target true P e here =
     subst (λ st. MatchOption (entered_on st state target) ⊥ P) e here
 mdx_enters standing state target false P e here = here
 
-broken_exits : (bytes : List ℕ) (names : List (List ℕ × List ℕ)) (broken : Rule)
-    (outer : Option Outer) (start point : Point) (others : List Open) (course next : Course) →
-    BreaksWhere bytes names broken outer start point course →
-    ExitsWhere (Unbroken bytes names) outer start point others course next → ⊥
-broken_exits bytes names broken None start point others course next breaks exits = breaks
-broken_exits bytes names broken (Some outer) start point others course next breaks exits =
-    some_none broken (broken_rule bytes names outer.reading outer.state.role outer.before start
-    point course.target) exits.1 breaks.1
+module _ (bytes : List ℕ) (names : List (List ℕ × List ℕ)) where
+  broken_exits : (broken : Rule) (outer : Option Outer) (start point : Point) (others : List Open)
+      (course next : Course) → BreaksWhere bytes names broken outer start point course →
+      ExitsWhere (Unbroken bytes names) outer start point others course next → ⊥
+  broken_exits broken None start point others course next breaks exits = breaks
+  broken_exits broken (Some outer) start point others course next breaks exits =
+      none-some broken (sym exits.1 ∙ breaks.1)
 
-broken_leaves : (bytes : List ℕ) (names : List (List ℕ × List ℕ)) (broken : Rule)
-    (opens : List Open) (name : Name) (point : Point) (course next : Course) →
-    BreaksAtExit bytes names broken opens name point course →
-    Exits (Unbroken bytes names) opens name point course next → ⊥
-broken_leaves bytes names broken [] name point course next breaks exits = breaks
-broken_leaves bytes names broken (open_node ∷ others) name point course next breaks exits =
-    broken_exits bytes names broken open_node.outer open_node.start point others course
-    next breaks.1 exits.1
+  broken_leaves : (broken : Rule) (opens : List Open) (name : Name) (point : Point)
+      (course next : Course) → BreaksAtExit bytes names broken opens name point course →
+      Exits (Unbroken bytes names) opens name point course next → ⊥
+  broken_leaves broken [] name point course next breaks exits = breaks
+  broken_leaves broken (open_node ∷ others) name point course next breaks exits =
+      broken_exits broken open_node.outer open_node.start point others course next breaks.1 exits.1
 
-anything_exits_where : (holds : Reads) (outer : Option Outer) (start point : Point)
-    (others : List Open) (from to : Course) → ExitsWhere holds outer start point others from to →
-    ExitsWhere Anything outer start point others from to
-anything_exits_where holds None start point others from to e = e
-anything_exits_where holds (Some outer) start point others from to e = (e.0, tt, e.2)
+module _ (holds : Reads) where
+  anything_exits_where : (outer : Option Outer) (start point : Point)
+      (others : List Open) (from to : Course) → ExitsWhere holds outer start point others from to →
+      ExitsWhere Anything outer start point others from to
+  anything_exits_where None start point others from to e = e
+  anything_exits_where (Some outer) start point others from to e = (e.0, tt, e.2)
 
-anything_exits : (holds : Reads) (opens : List Open) (name : Name) (point : Point)
-    (from to : Course) →
-    Exits holds opens name point from to → Exits Anything opens name point from to
-anything_exits holds [] name point from to e = e
-anything_exits holds (open_node ∷ others) name point from to e =
-    (e.0, anything_exits_where holds open_node.outer open_node.start point others from to e.1)
+  anything_exits : (opens : List Open) (name : Name) (point : Point) (from to : Course) →
+      Exits holds opens name point from to → Exits Anything opens name point from to
+  anything_exits [] name point from to e = e
+  anything_exits (open_node ∷ others) name point from to e =
+      (e.0, anything_exits_where open_node.outer open_node.start point others from to e.1)
 
-anything_steps : (holds : Reads) (kind : Kind) (name : Name) (point : Point) (from to : Course) →
-    StepsBy holds kind name point from to → StepsBy Anything kind name point from to
-anything_steps holds Enter name point from to step = step
-anything_steps holds Exit name point from to step =
-    anything_exits holds from.open_nodes name point from to step
+  anything_steps : (kind : Kind) (name : Name) (point : Point) (from to : Course) →
+      StepsBy holds kind name point from to → StepsBy Anything kind name point from to
+  anything_steps Enter name point from to step = step
+  anything_steps Exit name point from to step =
+      anything_exits from.open_nodes name point from to step
 
-pub anything_runs : (holds : Reads) (events : List Event) (from to : Course) →
-    Runs holds events from to →
-    Runs Anything events from to
-anything_runs holds [] from to runs = runs
-anything_runs holds (event ∷ events) from to runs = (
-  runs.0,
-  anything_steps holds event.kind event.name event.point from runs.0 runs.1,
-  anything_runs holds events runs.0 to runs.2,
-)
+  pub anything_runs : (events : List Event) (from to : Course) → Runs holds events from to →
+      Runs Anything events from to
+  anything_runs [] from to runs = runs
+  anything_runs (event ∷ events) from to runs = (
+    runs.0,
+    anything_steps event.kind event.name event.point from runs.0 runs.1,
+    anything_runs events runs.0 to runs.2,
+  )
 
-entry_stops : (bytes : List ℕ) (names : List (List ℕ × List ℕ)) (broken : Rule) (name : Name)
-    (point : Point) (course next : Course) → StopsAtEntry broken name point course →
-    Enters name point course next → ⊥
-entry_stops bytes names rule.Order name point course next stops here = stops next here
-entry_stops bytes names rule.Mdx name point course next stops here =
-    mdx_enters (standing_of name) course.state course.target (may_hold course.state.role)
-    (λ entry. next ≡ after_entry entry name point course) stops here
-entry_stops bytes names _ name point course next stops here = stops
+module _ (bytes : List ℕ) (names : List (List ℕ × List ℕ)) where
+  entry_stops : (broken : Rule) (name : Name) (point : Point) (course next : Course) →
+      StopsAtEntry broken name point course → Enters name point course next → ⊥
+  entry_stops rule.Order name point course next stops here = stops next here
+  entry_stops rule.Mdx name point course next stops here =
+      mdx_enters _ course.state course.target _
+      (λ entry. next ≡ after_entry entry name point course) stops here
+  entry_stops _ name point course next stops here = stops
 
-exit_stops : (bytes : List ℕ) (names : List (List ℕ × List ℕ)) (broken : Rule) (name : Name)
-    (point : Point) (course next : Course) → StopsAtExit bytes names broken name point course →
-    Exits (Unbroken bytes names) course.open_nodes name point course next → ⊥
-exit_stops bytes names rule.Order name point course next stops here =
-    stops next (anything_exits (Unbroken bytes names) course.open_nodes name point course next here)
-exit_stops bytes names rule.Mdx name point course next stops here = stops
-exit_stops bytes names broken name point course next stops here =
-    broken_leaves bytes names broken course.open_nodes name point course next stops here
+  exit_stops : (broken : Rule) (name : Name)
+      (point : Point) (course next : Course) → StopsAtExit bytes names broken name point course →
+      Exits (Unbroken bytes names) course.open_nodes name point course next → ⊥
+  exit_stops rule.Order name point course next stops here =
+      stops next (anything_exits _ course.open_nodes name point course next here)
+  exit_stops rule.Mdx name point course next stops here = stops
+  exit_stops broken name point course next stops here =
+      broken_leaves bytes names broken course.open_nodes name point course next stops here
 
-stop_steps : (bytes : List ℕ) (names : List (List ℕ × List ℕ)) (kind : Kind)
-    (broken : Rule) (name : Name)
-    (point : Point) (course next : Course) → StopsBy bytes names kind broken name point course →
-    StepsBy (Unbroken bytes names) kind name point course next → ⊥
-stop_steps bytes names Enter broken name point course next stops here =
-    entry_stops bytes names broken name point course next stops here
-stop_steps bytes names Exit broken name point course next stops here =
-    exit_stops bytes names broken name point course next stops here
+  stop_steps : (kind : Kind) (broken : Rule) (name : Name)
+      (point : Point) (course next : Course) → StopsBy bytes names kind broken name point course →
+      StepsBy (Unbroken bytes names) kind name point course next → ⊥
+  stop_steps Enter broken name point course next stops here =
+      entry_stops broken name point course next stops here
+  stop_steps Exit broken name point course next stops here =
+      exit_stops broken name point course next stops here
 
 -- a grammatical document is walked to its end
-pub Runs-checked : (given : Handed) (forest : Forest) →
-    flatten forest ≡ given.events → IsShaped forest →
-    MeetRules given.bytes given.names forest Flow None →
-    (end : State) × Runs (Unbroken given.bytes given.names) given.events beginning
-    (after_nodes forest end beginning) × (is_complete end ≡ true)
+pub Runs-checked : (given : Handed) (forest : Forest) → flatten forest ≡ given.events →
+    IsShaped forest → MeetRules given.bytes given.names forest Flow None → (end : State) × Runs
+    (Unbroken given.bytes given.names) given.events beginning (after_nodes forest end beginning) ×
+    (is_complete end ≡ true)
 Runs-checked given forest flattened shaped meets =
     let holds = Unbroken given.bytes given.names in
     let document = Runs-document holds (free_unbroken given.bytes given.names) forest
@@ -221,9 +191,8 @@ Runs-checked given forest flattened shaped meets =
     )
 
 -- an event that stops a walk is in no document of the grammar
-pub outside-stopped :
-    (given : Handed) (seen more : List Event) (event : Event) (course : Course) (broken : Rule) →
-    given.events ≡ seen ++ event ∷ more →
+pub outside-stopped : (given : Handed) (seen more : List Event) (event : Event) (course : Course)
+    (broken : Rule) → given.events ≡ seen ++ event ∷ more →
     Runs (Unbroken given.bytes given.names) seen beginning course →
     StopsBy given.bytes given.names event.kind broken event.name event.point course →
     IsChecked given → ⊥
@@ -234,9 +203,8 @@ outside-stopped given seen more event course broken parts runs stops checked =
     (IsGrammatical.shape (IsReadAs.grammatical checked.1))
     (IsGrammatical.rules (IsReadAs.grammatical checked.1)) in
     let end = after_nodes forest document.0 beginning in
-    let split = Runs-split holds seen (event ∷ more) beginning end
+    let split = Runs-split holds seen _ beginning end
     (subst (λ es. Runs holds es beginning end) parts document.1) in
     let same = Runs-same holds holds seen beginning split.0 course split.1 runs in
     stop_steps given.bytes given.names event.kind broken event.name event.point
-    course split.2.0 stops
-    (subst (λ c. Steps holds event c split.2.0) same split.2.1)
+    course split.2.0 stops (subst (λ c. Steps holds event c split.2.0) same split.2.1)

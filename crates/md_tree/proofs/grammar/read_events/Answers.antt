@@ -2,13 +2,9 @@
 -- is known before it sees it.
 use Rattle.std.proofs.Common.{◌≡◌, ℕ, ◌≤◌, List, length, take, ap, ◌∙◌, subst, arith}
 use Rattle.std.proofs.lemmas.List.{take_all}
-use Rattle.md_base.specs.Reference.{name_table}
-use Rattle.md_base.specs.declared.event.Event.{Event}
+use Rattle.md_tree.proofs.Common.{name_table, Event, first_index, PassState, passed_over}
+use Rattle.md_tree.proofs.Common.{pass_beginning, Runs, beginning, course_of, Unbroken}
 use Rattle.md_pattern.specs.Columns.{Collected}
-use Rattle.md_pattern.specs.Ending.{first_index}
-use Rattle.md_pattern.specs.Facts.{PassState, passed_over, pass_beginning}
-use Rattle.md_tree.specs.Machine.{Runs, beginning}
-use Rattle.md_tree.specs.Walk.{course_of, Unbroken}
 use Rattle.md_tree.proofs.grammar.read_events.Goals as goal
 
 -- this many events are all
@@ -26,8 +22,7 @@ returns-clause-walked c =
     let count = c.loop-event.visits in
     let all = c.in_default.ensures.lookup.3 in
     subst (λ es. Runs passes es beginning
-    (course_of events (length events) c.loop-event.reader.walk))
-    (take_all count events all)
+    (course_of events (length events) c.loop-event.reader.walk)) (take_all count events all)
     (subst (λ n. Runs passes (take count events) beginning
     (course_of events n c.loop-event.reader.walk))
     (all_read events count c.loop-event.invariant.1 all) c.loop-event.invariant.0.walked)

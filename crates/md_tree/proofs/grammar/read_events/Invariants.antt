@@ -1,8 +1,7 @@
 -- In each iteration, `visits` events have been read, by the walk and by the pass, and no more than
 -- exist. Each iteration leaves fewer, so the loop ends.
 use Rattle.std.proofs.Common.{◌≤◌, ◌-◌, length}
-use Rattle.md_base.specs.Reference.{name_table}
-use Rattle.md_tree.specs.Reader.{HasRead}
+use Rattle.md_tree.proofs.Common.{name_table, HasRead}
 use Rattle.md_tree.proofs.grammar.read_events.Given as goal
 
 abbrev pub invariant-loop-event : goal.invariant-loop-event

@@ -2,15 +2,15 @@
 -- its delimiter row. The search doesn't go into the answer, nor know that the table has
 -- a table's shape.
 use Rattle.std.proofs.Common.{◌∙◌}
-use Rattle.std.specs.Prelude.{Result, Ok, Err, IfOk}
+use Rattle.std.specs.Prelude.{Result, IfOk}
+use Rattle.md_tree.proofs.Common.{Ok, Err}
 use Rattle.md_tree.proofs.Tables.{alignments-values_of_table}
 use Rattle.md_tree.proofs.EnteredTables.{IsTable-entered}
 use Rattle.md_tree.proofs.infer.gfm_table_align.Goals as goal
 
 -- a claim of what is in an answer
 on_answer : {A E : Type 0} (P Q : A → Type 0) → ((a : A) → P a → Q a) →
-    (result : Result A E) → IfOk result P →
-    IfOk result Q
+    (result : Result A E) → IfOk result P → IfOk result Q
 on_answer P Q f (Ok a) p = f a p
 on_answer P Q f (Err e) p = tt
 

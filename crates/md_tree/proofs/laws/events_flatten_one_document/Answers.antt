@@ -1,5 +1,5 @@
 -- The law is `flatten_one`, by induction over both trees, which no search makes.
-use Rattle.md_base.specs.declared.event.Name.TheVariants.{Data}
+use Rattle.md_tree.proofs.Common.{Data}
 use Rattle.md_tree.proofs.OneTree.{flatten_one}
 use Rattle.md_tree.proofs.laws.events_flatten_one_document.Goals as goal
 use Rattle.md_tree.proofs.LeastNodes.{somewhere}

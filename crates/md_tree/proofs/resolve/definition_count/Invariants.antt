@@ -1,6 +1,6 @@
 -- In each iteration, the count and the remaining definitions add up to all of them.
 use Rattle.std.proofs.Common.{◌≡◌, ◌+◌, ◌≤◌, ℕ, List, drop, length}
-use Rattle.md_tree.specs.Mentions.{defined, mentions_among}
+use Rattle.md_tree.proofs.Common.{defined, mentions_among}
 use Rattle.md_tree.proofs.resolve.definition_count.Given as goal
 
 abbrev pub invariant-loop-mentioned : goal.invariant-loop-mentioned

@@ -2,11 +2,8 @@
 -- off the end of the list.
 use Rattle.std.proofs.Common.{◌≡◌, ◌+◌, ◌-◌, ◌++◌, ◌∷◌, [], ℕ, suc, List, length, ap, sym, subst}
 use Rattle.std.proofs.Common.{◌∙◌, append_assoc, arith}
-use Rattle.md_base.specs.declared.event.Position.{Position}
-use Rattle.md_tree.specs.declared.mention.Mention.TheVariants.{Definition}
-use Rattle.md_tree.specs.declared.mention.Mentioned.{Mentioned}
-use Rattle.md_tree.specs.Mentions.{defined, defined_by, mentions_among}
-use Rattle.md_tree.specs.Numbers.{NumbersFrom}
+use Rattle.md_tree.proofs.Common.{Position, Definition, Mentioned, defined, defined_by}
+use Rattle.md_tree.proofs.Common.{mentions_among, NumbersFrom}
 use Rattle.md_tree.proofs.Numbering.{NumbersFrom-put, defined-last, defined_by-other}
 use Rattle.md_tree.proofs.resolve.definitions.Goals as goal
 

@@ -1,8 +1,7 @@
 -- A footnote definition's identifier gets into the set, another mention's doesn't. The search
 -- doesn't look each identifier up in the longer set.
 use Rattle.std.proofs.Common.{◌∷◌, ◌+◌, List, Option, ℕ, drop, ap, sym, ◌∙◌}
-use Rattle.md_tree.specs.declared.mention.Mentioned.{Mentioned}
-use Rattle.md_tree.specs.Mentions.{mentions_among, footnoted, footnoted_by}
+use Rattle.md_tree.proofs.Common.{Mentioned, mentions_among, footnoted, footnoted_by}
 use Rattle.md_tree.proofs.Numbering.{IdentifiersBefore-at, footnoted_by-other}
 use Rattle.md_tree.proofs.OneMoreIdentifier.{IdentifiersBefore-put}
 use Rattle.md_tree.proofs.resolve.footnotes.Goals as goal

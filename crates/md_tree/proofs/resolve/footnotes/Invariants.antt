@@ -1,7 +1,6 @@
 -- In each iteration, the set has the identifiers of the footnote definitions before this mention.
 use Rattle.std.proofs.Common.{drop}
-use Rattle.md_tree.specs.Mentions.{footnoted, mentions_among}
-use Rattle.md_tree.specs.Numbers.{IdentifiersBefore}
+use Rattle.md_tree.proofs.Common.{footnoted, mentions_among, IdentifiersBefore}
 use Rattle.md_tree.proofs.resolve.footnotes.Given as goal
 
 abbrev pub invariant-loop-mentioned : goal.invariant-loop-mentioned

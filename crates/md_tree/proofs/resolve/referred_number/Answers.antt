@@ -1,12 +1,11 @@
 -- A mention with a number has a definition, and one without is unresolved. The search does no
 -- induction over the identifiers.
+use Rattle.md_tree.proofs.Common.{defined, footnoted}
 use Rattle.md_tree.proofs.MentionsResolved.{resolved-reference, resolved-call, lost-call}
-use Rattle.md_tree.specs.Mentions.{defined, footnoted}
 use Rattle.md_tree.proofs.resolve.referred_number.Goals as goal
 
 pub returns-in_ok-number-in-Reference : goal.returns-in_ok-number-in-Reference
-returns-in_ok-number-in-Reference c = λ mentions d f.
-    rw (c.in-Reference.is, c.ok_or.ensures.value)
+returns-in_ok-number-in-Reference c = λ mentions d f. rw (c.in-Reference.is, c.ok_or.ensures.value)
     (resolved-reference c.args.bytes.now mentions c.in-Reference.label
     c.in_ok-number-in-Reference.number
     (c.in_ok-number-in-Reference.ensures (defined c.args.bytes.now mentions) d))

@@ -1,9 +1,7 @@
 -- In each iteration, each mention before this one is resolved, and the facts with the numbers of
 -- the remaining mentions are those with all numbers.
 use Rattle.std.proofs.Common.{◌≡◌, ℕ, ◌<◌, get_or, drop}
-use Rattle.md_tree.specs.declared.mention.Mention.{Mention}
-use Rattle.md_tree.specs.Mentions.{mentions_among, IsResolved}
-use Rattle.md_tree.specs.Numbers.{numbered, number_for}
+use Rattle.md_tree.proofs.Common.{Mention, mentions_among, IsResolved, numbered, number_for}
 use Rattle.md_tree.proofs.resolve.resolve.Given as goal
 
 abbrev pub invariant-loop-mentioned : goal.invariant-loop-mentioned

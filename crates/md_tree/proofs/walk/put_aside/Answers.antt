@@ -1,7 +1,6 @@
 -- The saved target comes first among the saved ones, and is nothing if there was no target.
 use Rattle.std.proofs.Common.{◌≡◌, Bool, true, false, sym, ap, ◌∙◌, ◌∷◌, []}
-use Rattle.std.specs.Prelude.{reverse}
-use Rattle.std.proofs.lemmas.List.{reverse-append}
+use Rattle.md_tree.proofs.Common.{reverse, reverse-append}
 use Rattle.md_tree.specs.Walk.{target_of}
 use Rattle.md_tree.proofs.walk.put_aside.Goals.{in-Missing, in_default}
 use Rattle.md_tree.proofs.walk.put_aside.Goals as goal

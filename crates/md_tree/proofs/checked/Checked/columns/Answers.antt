@@ -1,9 +1,7 @@
 -- The index is one of a fact, the fact's place is one of a table, and the alignments there are
 -- those of the node. The search doesn't know what a `Checked` keeps: `Kept` says it.
 use Rattle.std.proofs.Common.{◌≡◌, ◌<◌, Option, Some, List, length, sym, ap, ◌∙◌, subst}
-use Rattle.std.specs.Prelude.{map, slice_get}
-use Rattle.md_base.specs.declared.event.AlignKind.{AlignKind}
-use Rattle.md_base.specs.declared.event.Name.TheVariants.{GfmTable}
+use Rattle.md_tree.proofs.Common.{map, slice_get, AlignKind, GfmTable}
 use Rattle.md_tree.proofs.Kept.{facts-inside, node-entered, columns-kept, columns-inside}
 use Rattle.md_tree.proofs.checked.Checked.columns.Goals as goal
 
@@ -27,8 +25,7 @@ one_some : (o : Option (List AlignKind)) (x y : List AlignKind) → o ≡ Some x
 one_some o x y e f = cc
 
 pub returns-clause-aligned : goal.returns-clause-aligned
-returns-clause-aligned c = λ children entered.
-    one_some _ c.table_at.result.now _
+returns-clause-aligned c = λ children entered. one_some _ c.table_at.result.now _
     (ap (λ xs. slice_get (map (λ t. t.items) xs) c.fact_at.result.read_at)
     (sym c.deref.ensures.value) ∙ c.table_at.ensures) (columns-kept c.self.inside c.args.self.now
     c.args.index c.self.invariant c.self.view_is c.requires

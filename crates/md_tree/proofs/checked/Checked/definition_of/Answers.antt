@@ -1,7 +1,7 @@
 -- The number at an exit is that of its mention. The search doesn't know what a `Checked`
 -- keeps: `Kept` says it.
 use Rattle.std.proofs.Common.{◌∙◌}
-use Rattle.md_tree.specs.Numbers.{is_of_definitions}
+use Rattle.md_tree.proofs.Common.{is_of_definitions}
 use Rattle.md_tree.proofs.Kept.{exit-inside, definition-kept}
 use Rattle.md_tree.proofs.checked.Checked.definition_of.Goals as goal
 

@@ -1,10 +1,8 @@
 -- The indices that are kept are those of the document's definitions, and at each an event enters
 -- one. The search doesn't know what a `Checked` keeps: `Kept` says it.
 use Rattle.std.proofs.Common.{subst, sym}
-use Rattle.std.specs.List.{All}
+use Rattle.md_tree.proofs.Common.{All, AreDefinitions, EntersAt}
 use Rattle.md_base.specs.declared.event.Name.TheVariants.{Definition}
-use Rattle.md_tree.specs.Indices.{AreDefinitions}
-use Rattle.md_tree.specs.Texts.{EntersAt}
 use Rattle.md_tree.proofs.Kept.{definitions-kept, definitions-enter}
 use Rattle.md_tree.proofs.checked.Checked.definitions.Goals as goal
 

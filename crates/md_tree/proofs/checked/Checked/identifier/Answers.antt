@@ -1,56 +1,40 @@
 -- The place and the text of the label are there, so neither `unwrap` fails, and the text is the
--- defined one. It holds as a label with no text would break a rule: `Indexed` shows it, and the
--- search doesn't find it.
-use Rattle.std.proofs.Common.{◌≡◌, ℕ, sym, ap, ◌∙◌}
-use Rattle.std.specs.Prelude.{option_copied}
-use Rattle.md_base.specs.Place.{label_between}
-use Rattle.md_tree.specs.declared.checked.Checked.TheInside.{Inside}
-use Rattle.md_tree.specs.Grammar.{Handed}
-use Rattle.md_tree.specs.Checked.{handed_of, IsKept}
-use Rattle.md_tree.specs.Texts.{is_identifier, ExitsIdentifier}
-use Rattle.md_tree.proofs.Indexed.{EndedAt, EndedAt-text, EndedAt-read, identifier_names}
-use Rattle.md_tree.proofs.Indexed.{place_some, copied_some}
-use Rattle.md_tree.proofs.Kept.{ended-kept, ended-place}
+-- defined one: without one a rule is broken. `Indexed` shows it, which the search doesn't find.
+use Rattle.std.proofs.Common.{◌≡◌, ℕ, Option, ap, ◌∙◌}
+use Rattle.md_tree.proofs.Common.{label_between, Inside, Handed, handed_of, IsKept, is_identifier}
+use Rattle.md_tree.proofs.Common.{Position, position_ended}
+use Rattle.md_tree.specs.Texts.{ExitsIdentifier}
+use Rattle.md_tree.proofs.Indexed.{ReadAt, identifier_names}
+use Rattle.md_tree.proofs.Kept.{ended-kept}
 use Rattle.md_tree.proofs.checked.Checked.identifier.Goals as goal
 
--- what is known at the index
-ended : (inside : Inside) (given : Handed) (index : ℕ) → IsKept inside → handed_of inside ≡ given →
-    ExitsIdentifier given.events index → EndedAt (label_between given.bytes) given index
-ended inside given index kept same exits =
+-- what is read at the index
+read : (inside : Inside) (given : Handed) (index : ℕ) → IsKept inside → handed_of inside ≡ given →
+    ExitsIdentifier given.events index → (place : Option Position) →
+    place ≡ position_ended inside.events.now inside.facts index →
+    ReadAt (label_between given.bytes) given index place
+read inside given index kept same exits =
     ended-kept inside given index kept same is_identifier (label_between given.bytes) exits.0
     (identifier_names given.bytes given.names) exits.1 exits.2
 
 pub unwrap-position-requires : goal.unwrap-position-requires
 unwrap-position-requires c =
-    let given = c.args.self.now in
-    let here = ended c.self.inside given c.args.index c.self.invariant c.self.view_is c.requires in
-    place_some c.position_ended.result here.position
-    (ended-place c.self.inside given c.args.index c.self.invariant c.self.view_is
-    c.position_ended.result c.position_ended.ensures ∙ here.there)
+    ReadAt.there (read c.self.inside c.args.self.now c.args.index c.self.invariant c.self.view_is
+    c.requires _ c.position_ended.ensures)
 
 pub unwrap-requires : goal.unwrap-requires
 unwrap-requires c =
-    let given = c.args.self.now in
-    let here = ended c.self.inside given c.args.index c.self.invariant c.self.view_is c.requires in
-    let place = ended-place c.self.inside given c.args.index c.self.invariant c.self.view_is
-    c.position_ended.result c.position_ended.ensures in
     let position = c.unwrap-position.result in
-    let bytes =
-    ap (λ (g : Handed). label_between g.bytes position.start position.end) c.self.view_is in
-    copied_some c.label_at.result here.found (c.label_at.ensures ∙ bytes
-    ∙ EndedAt-read (label_between given.bytes) given c.args.index here c.position_ended.result
-    position place c.unwrap-position.ensures)
+    ReadAt.text_there (read c.self.inside c.args.self.now c.args.index c.self.invariant
+    c.self.view_is c.requires _ c.position_ended.ensures) position _ c.unwrap-position.ensures
+    (c.label_at.ensures
+    ∙ ap (λ (g : Handed). label_between g.bytes position.start position.end) c.self.view_is)
 
 pub returns : goal.returns
 returns c =
-    let given = c.args.self.now in
-    let here = ended c.self.inside given c.args.index c.self.invariant c.self.view_is c.requires in
-    let place = ended-place c.self.inside given c.args.index c.self.invariant c.self.view_is
-    c.position_ended.result c.position_ended.ensures in
     let position = c.unwrap-position.result in
-    let bytes =
-    ap (λ (g : Handed). label_between g.bytes position.start position.end) c.self.view_is in
-    EndedAt-text (label_between given.bytes) given c.args.index here c.unwrap.result.now
-    (sym (EndedAt-read (label_between given.bytes) given c.args.index here c.position_ended.result
-    position place c.unwrap-position.ensures) ∙ sym bytes ∙ sym c.label_at.ensures
-    ∙ ap option_copied c.unwrap.ensures)
+    ReadAt.text_is (read c.self.inside c.args.self.now c.args.index c.self.invariant c.self.view_is
+    c.requires _ c.position_ended.ensures) position _ _ c.unwrap-position.ensures
+    (c.label_at.ensures
+    ∙ ap (λ (g : Handed). label_between g.bytes position.start position.end) c.self.view_is)
+    c.unwrap.ensures

@@ -1,9 +1,7 @@
 -- The place in the fact is the last contributing child that is defined of the item. The pass finds
 -- it from the first child to the last, so it is shown by induction, in `Contributing`.
 use Rattle.std.proofs.Common.{ap, ◌∙◌}
-use Rattle.md_base.specs.declared.event.Name.TheVariants.{ListItem}
-use Rattle.md_pattern.specs.declared.facts.Fact.{Fact}
-use Rattle.md_tree.specs.Found.{index_if}
+use Rattle.md_tree.proofs.Common.{ListItem, Fact, index_if}
 use Rattle.md_tree.proofs.Contributing.{contributing-found}
 use Rattle.md_tree.proofs.checked.Checked.last_contributing.Goals as goal
 

@@ -1,12 +1,8 @@
 -- The partner in the fact is the one that the tree of the events gives. The search doesn't name
 -- that tree, the one that the check has read.
 use Rattle.std.proofs.Common.{◌≡◌, ℕ, Option, ap, ◌∙◌, refl}
-use Rattle.std.specs.Prelude.{option_map, slice_get}
-use Rattle.md_tree.specs.declared.checked.Checked.TheInside.{Inside}
-use Rattle.md_pattern.specs.declared.facts.Fact.{Fact}
-use Rattle.md_tree.specs.Grammar.{Handed, IsReadAs}
-use Rattle.md_tree.specs.Checked.{handed_of, IsKept}
-use Rattle.md_pattern.specs.Facts.{facts_at}
+use Rattle.md_tree.proofs.Common.{option_map, slice_get, Inside, Fact, Handed, IsReadAs, handed_of}
+use Rattle.md_tree.proofs.Common.{IsKept, facts_at}
 use Rattle.md_tree.specs.Indices.{IsPartnerAt}
 use Rattle.md_tree.proofs.Kept.{facts_are, numbers}
 use Rattle.md_tree.proofs.Numbers.{partner-with}

@@ -2,19 +2,13 @@
 -- sought, which is the defined one. The search doesn't go through the names, nor make the
 -- induction of `Searching`.
 use Rattle.std.proofs.Common.{◌≡◌, ℕ, suc, true, refl, ap, ◌∙◌}
-use Rattle.md_base.specs.declared.event.Name.{Name}
+use Rattle.md_tree.proofs.Common.{Name, lie, Fact, Sought, Handed, is_reader, search_of}
+use Rattle.md_tree.proofs.Common.{tables_after, contributing_over, sought_over, facts_at}
+use Rattle.md_tree.proofs.Common.{position_at}
 use Rattle.md_base.specs.declared.event.Name.TheVariants as name_variants
-use Rattle.md_base.proofs.Lies.{lie}
 use name_variants.{HeadingAtx, ListOrdered, Link, Image, GfmFootnoteCall, Definition}
 use name_variants.{GfmFootnoteDefinition}
-use Rattle.md_pattern.specs.declared.facts.Fact.{Fact}
-use Rattle.md_pattern.specs.declared.seeking.Sought.{Sought}
-use Rattle.md_tree.specs.Grammar.{Handed}
-use Rattle.md_tree.specs.Reads.{is_reader}
-use Rattle.md_pattern.specs.Seeking.{search_of}
-use Rattle.md_pattern.specs.Facts.{read_at_of, tables_after, contributing_over, sought_over}
-use Rattle.md_pattern.specs.Facts.{facts_at}
-use Rattle.md_tree.specs.Found.{position_at}
+use Rattle.md_pattern.specs.Facts.{read_at_of}
 use Rattle.md_tree.proofs.Kept.{facts_are, numbers}
 use Rattle.md_tree.proofs.Numbers.{at-with}
 use Rattle.md_tree.proofs.Placing.{children-placed}
@@ -39,8 +33,7 @@ returns-clause-reads c = λ name children enters reader entered.
     let found = c.fact.ensures.fact name children enters entered in
     c.position_read.ensures
     ∙ ap (λ (g : Handed). position_at g.events c.self.inside.facts c.fact.result.read_at)
-    c.self.view_is
-    ∙ ap (λ fs. position_at given.events fs c.fact.result.read_at)
+    c.self.view_is ∙ ap (λ fs. position_at given.events fs c.fact.result.read_at)
     (facts_are c.self.inside given index c.self.invariant c.self.view_is)
     ∙ at-with given.events (numbers c.self.inside given index c.self.invariant c.self.view_is)
     (facts_at given.events) c.fact.result.read_at

@@ -2,7 +2,7 @@
 -- look-up before it sees that.
 use Rattle.std.proofs.Common.{sym, ap, ◌∙◌}
 use Rattle.std.specs.Prelude.{option_and_then}
-use Rattle.md_tree.specs.Found.{position_there}
+use Rattle.md_tree.proofs.Common.{position_there}
 use Rattle.md_tree.proofs.checked.read.position_read.Goals as goal
 
 pub returns : goal.returns

@@ -4,9 +4,9 @@ use Rattle.std.proofs.Common.{◌≡◌, ◌≢◌, ℕ, Bool, true, false, not,
 use Rattle.std.proofs.Common.{List, [], ◌∷◌, length, get_or, Some, None, Result, Ok, Err, is_ok}
 use Rattle.std.proofs.Common.{sym, ◌∙◌, subst, refl, lit<, arith}
 use Rattle.std.specs.Char.{digit_value}
-use Rattle.std.specs.List.{list_all}
 use Rattle.std.specs.Str.Parse.{ParsesUnsigned, digits_value}
 use Rattle.std.proofs.lemmas.Bool.{eqb-false, eqb-true}
+use Rattle.md_tree.proofs.Common.{list_all}
 use Rattle.md_base.specs.Reference.{is_number, character_of}
 use Rattle.md_base.proofs.ReferenceLemmas.{numbered_ok, numbered_none}
 use Rattle.md_tree.proofs.judge.broken.is_decimal.Goals as goal
@@ -20,8 +20,7 @@ is_none_of true x e = cc
 is_none_of false x e = refl
 
 ok_number : {E : Type 0} (digits : List ℕ) (r : Result ℕ E) → get_or digits 0 0 ≢ 43 →
-    ParsesUnsigned 32 10 digits r →
-    is_ok r ≡ is_number 10 digits
+    ParsesUnsigned 32 10 digits r → is_ok r ≡ is_number 10 digits
 ok_number {E} digits (Ok n) no_plus parsed =
     is_some_of (is_number 10 digits) (character_of (digits_value 10 digits)) (character_of n)
     (numbered_ok {E = E} 10 digits (Ok n) n no_plus parsed refl)

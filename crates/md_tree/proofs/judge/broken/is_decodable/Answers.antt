@@ -1,7 +1,7 @@
 -- There is a text exactly if the definition has its bytes. The search unfolds the decoding of a
 -- reference before it finds that.
 use Rattle.std.proofs.Common.{◌≡◌, Option, Some, None, refl, ap, ◌∙◌}
-use Rattle.std.specs.Prelude.{is_some, option_map}
+use Rattle.md_tree.proofs.Common.{is_some, option_map}
 use Rattle.md_tree.proofs.judge.broken.is_decodable.Goals as goal
 
 mapped : {A B : Type 0} (f : A → B) (o : Option A) → is_some o ≡ is_some (option_map f o)

@@ -1,9 +1,7 @@
 -- One event was read, or two, and no more than exist: the last of them exists. The search doesn't
 -- find that both sums are the same index, nor that an index with an event is within the list.
 use Rattle.std.proofs.Common.{◌≡◌, suc, ◌+◌, ◌<◌, arith, subst, length, ℕ}
-use Rattle.std.proofs.lemmas.Option.{slice_get_within}
-use Rattle.md_base.specs.Reference.{name_table}
-use Rattle.md_tree.specs.Reader.{HasRead}
+use Rattle.md_tree.proofs.Common.{slice_get_within, name_table, HasRead}
 use Rattle.md_tree.proofs.reader.Reader.advance.Goals as goal
 
 two_more : (n : ℕ) → suc (suc n) ≡ n + 2

@@ -1,8 +1,5 @@
 -- The state after one more event, or its refusal. The search applies neither lemma.
-use Rattle.std.proofs.lemmas.Result.{err_from_is_err_and}
-use Rattle.md_base.specs.Reference.{name_table}
-use Rattle.md_tree.specs.Grammar.{handed}
-use Rattle.md_tree.specs.Walk.{course_of}
+use Rattle.md_tree.proofs.Common.{err_from_is_err_and, name_table, handed, course_of}
 use Rattle.md_tree.proofs.OneMoreEvent.{read-more, stopped-refused}
 use Rattle.md_tree.proofs.reader.Reader.read.Goals as goal
 

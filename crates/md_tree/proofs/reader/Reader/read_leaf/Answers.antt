@@ -1,5 +1,4 @@
--- The one search that proves it: it refuses a mutant in a second; the default search, with no
--- answer given, takes ten.
+-- This search refuses a mutant in a second; the default one, with no answer given, takes ten.
 use Rattle.std.proofs.Common.{rules}
 use Rattle.md_tree.proofs.reader.Reader.read_leaf.Goals as goal
 

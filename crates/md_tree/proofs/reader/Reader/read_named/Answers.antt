@@ -2,11 +2,8 @@
 -- overflow, as an event is there. The search doesn't go through the first event to the second:
 -- `LeafRuns` does.
 use Rattle.std.proofs.Common.{rules, suc, ◌<◌, add-one, ap, ◌∙◌, length}
-use Rattle.std.proofs.lemmas.Option.{slice_get_within}
-use Rattle.std.proofs.lemmas.Result.{err_from_is_err_and}
-use Rattle.md_pattern.specs.Ending.{ending_after}
-use Rattle.md_tree.specs.Grammar.{handed}
-use Rattle.md_tree.specs.Walk.{course_of}
+use Rattle.md_tree.proofs.Common.{slice_get_within, err_from_is_err_and, ending_after, handed}
+use Rattle.md_tree.proofs.Common.{course_of}
 use Rattle.md_tree.proofs.LeafRuns.{Runs-leaf, IsRefusal-leaf, passed-leaf_more, first_index-leaf}
 use Rattle.md_tree.proofs.reader.Reader.read_named.Goals as goal
 

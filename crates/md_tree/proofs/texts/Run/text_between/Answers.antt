@@ -13,5 +13,4 @@ returns c =
     some-weaken _ _
     (λ part is bytes run. run-part bytes c.args.self.now.text.now part.now s c.args.start c.args.end
     run.0 run.1 low low_end (omega (arith, from, to, is.0)) (omega (arith, to, is.1))
-    (rw (← from, ← to) is.2) is.3)
-    c.part.result c.part.ensures
+    (rw (← from, ← to) is.2) is.3) c.part.result c.part.ensures

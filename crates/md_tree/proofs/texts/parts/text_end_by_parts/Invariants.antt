@@ -1,6 +1,6 @@
 -- The text continues up to the beginning of the next part.
 use Rattle.std.proofs.Common.{◌≤◌, ◌-◌, length, slice_range}
-use Rattle.std.specs.Str.{IsUtf8}
+use Rattle.md_tree.proofs.Common.{IsUtf8}
 use Rattle.md_tree.proofs.texts.parts.text_end_by_parts.Given as goal
 
 abbrev pub invariant-loop-at : goal.invariant-loop-at

@@ -2,18 +2,13 @@
 -- exit stops it. The search doesn't find the course between the two events, which the code never
 -- computes.
 use Rattle.std.proofs.Common.{◌≡◌, ◌⊎◌, Option, Some, None, sym, ap, ◌∙◌, subst, add-one, suc}
-use Rattle.std.specs.Prelude.{option_map}
-use Rattle.md_pattern.specs.declared.kinds.Symbol.{Symbol}
+use Rattle.md_tree.proofs.Common.{option_map, Symbol, advance, name_table, Through, Space, Missing}
+use Rattle.md_tree.proofs.Common.{target_at, broken_rule, point_at, place_at, course_of}
+use Rattle.md_tree.proofs.Common.{IsStopAtLeaf, state_of}
+use Rattle.md_tree.specs.Walk.{target_seen}
 use Rattle.md_pattern.specs.declared.spine_state.SpineState.{SpineState}
-use Rattle.md_pattern.specs.Steps.{advance}
-use Rattle.md_pattern.specs.Places.{state_of}
-use Rattle.md_base.specs.Reference.{name_table}
-use Rattle.md_pattern.specs.declared.kinds.Standing.TheVariants.{Through, Space}
 use Rattle.md_tree.specs.declared.rule.Rule.TheVariants as rule
 use Rattle.md_tree.specs.declared.rule.CompileError.TheVariants as error
-use Rattle.md_tree.specs.declared.mention.Referral.TheVariants.{Missing}
-use Rattle.md_tree.specs.Rules.{target_at, broken_rule}
-use Rattle.md_tree.specs.Walk.{point_at, place_at, target_seen, course_of, IsStopAtLeaf}
 use Rattle.md_tree.proofs.Leaves.{passes-over, Passes-solid, IsStopAtLeaf-open, IsStopAtLeaf-broken}
 use Rattle.md_tree.proofs.Leaves.{no-table-over, no-table-solid}
 use Rattle.md_tree.proofs.walk.Walk.leaf.Goals as goal
@@ -22,8 +17,7 @@ use Rattle.md_tree.proofs.walk.Walk.leaf.Goals as goal
 advanced : (before : Option Symbol) (symbol : Symbol) (from : SpineState)
     (result : Option SpineState) (next : SpineState) →
     option_map (λ n. state_of n (Some symbol)) result ≡ advance (state_of from None) symbol →
-    result ≡ Some next →
-    advance (state_of from before) symbol ≡ Some (state_of next (Some symbol))
+    result ≡ Some next → advance (state_of from before) symbol ≡ Some (state_of next (Some symbol))
 advanced before symbol from result next e is =
     sym e ∙ ap (option_map (λ n. state_of n (Some symbol))) is
 
@@ -34,8 +28,7 @@ returns-in-Through-clause-ok c =
     let over = c.in-Through.is in
     passes-over c.args.input.bytes.now (name_table c.args.input.names.now) c.args.name
     (point_at events c.args.index) (point_at events (suc c.args.index))
-    (course_of events c.args.index self)
-    (sym c.may_hold.ensures ∙ c.if-not-may_hold.false)
+    (course_of events c.args.index self) (sym c.may_hold.ensures ∙ c.if-not-may_hold.false)
     (subst (λ s. (s ≡ Through) ⊎ (s ≡ Space)) c.standing_of.ensures over)
 
 pub returns-in-Through-clause-no_table : goal.returns-in-Through-clause-no_table

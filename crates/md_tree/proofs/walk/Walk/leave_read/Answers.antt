@@ -1,9 +1,7 @@
 -- A node whose spine may end, but which breaks a rule, stops the walk. The search doesn't go
 -- through the rules: one that is broken here is never that of the order.
 use Rattle.std.proofs.Common.{refl, sym, ◌∙◌}
-use Rattle.std.specs.Prelude.{reverse}
-use Rattle.md_base.specs.Reference.{name_table}
-use Rattle.md_tree.specs.Walk.{point_at, outer_of, course_of}
+use Rattle.md_tree.proofs.Common.{reverse, name_table, point_at, outer_of, course_of}
 use Rattle.md_tree.proofs.Breaks.{StopsInside-broken}
 use Rattle.md_tree.proofs.walk.Walk.leave_read.Goals as goal
 

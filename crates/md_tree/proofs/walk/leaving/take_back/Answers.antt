@@ -1,7 +1,6 @@
 -- The target that comes last in the vector is the innermost one.
 use Rattle.std.proofs.Common.{true, sym, ap, ◌∙◌, ◌∷◌, []}
-use Rattle.std.specs.Prelude.{reverse}
-use Rattle.std.proofs.lemmas.List.{reverse-append}
+use Rattle.md_tree.proofs.Common.{reverse, reverse-append}
 use Rattle.md_tree.specs.Walk.{target_of}
 use Rattle.md_tree.proofs.walk.leaving.take_back.Goals as goal
 
