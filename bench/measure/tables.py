@@ -29,7 +29,8 @@ ORIGINAL = os.environ.get("BIVDRAZO_ORIGINAL", "")
 MARK = "<!-- {}: bench/measure/tables.py -->"
 TARGETS = {"check, compile, write": "0.72", "of these the check": "",
            "reading the script": "0.5", "the whole program": "0.6",
-           "check, compile, write, ms": "1.0", "memory beyond script and text, bytes an event": "45"}
+           "check, compile, write, ms": "1.0",
+           "memory beyond script and text, bytes an event": "45"}
 RENDERERS = {"bivdrazo (Rust)": "Bivdrazo (Rust)"}
 # The documents of each job of the benchmark in one round.
 ROUND = {"comments": 1000, "pages": 32, "letters": 32, "articles": 6, "scripts": 4, "awkward": 3000}
@@ -79,7 +80,8 @@ real.lines = []
 def events():
     """What checking and printing take per event of real documents."""
     said, rows = real()
-    return table([said, "instructions per event"], [row for row in rows if len(row) == 2 and row[1]])
+    return table([said, "instructions per event"],
+                 [row for row in rows if len(row) == 2 and row[1]])
 
 
 def nodes():

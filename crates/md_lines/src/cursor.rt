@@ -1,7 +1,8 @@
 //! A place in the lines of a leaf, and a cursor that moves from it.
 
 ghost use Rattle.std.specs.Prelude.{◌≡◌, ◌≤◌, ◌<◌, length, min, suc, nat_lt};
-ghost use Rattle.std.specs.Prelude.{IsTrue, IfNone, IfSome, Some, None, false, slice_get, ◌+◌, drop};
+ghost use Rattle.std.specs.Prelude.{IsTrue, IfNone, IfSome, Some, None, false, slice_get};
+ghost use Rattle.std.specs.Prelude.{◌+◌, drop};
 ghost use Rattle.std.specs.List.{prefix_len};
 ghost use Rattle.md_lines.specs.Classes.{is_in};
 

@@ -135,7 +135,10 @@ impl FactList {
         looseness: Looseness,
     ) -> Result<(), AllocError>
         ensures { OnOk result (self.new ≡ set self.old entry
-            (record (spec.partner_alone (length self.old)) { read_at = read_at; looseness = looseness })
+            (record (spec.partner_alone (length self.old)) {
+              read_at = read_at;
+              looseness = looseness;
+            })
             ++ spec.partner_alone entry ∷ []) }
     {
         let exit = self.words.len();

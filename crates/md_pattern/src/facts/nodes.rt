@@ -121,7 +121,8 @@ pub(super) fn read_at_of(name: Name, table: usize, own: &OpenNode) -> usize
 #[inline(always)]
 pub(super) fn common_read_at(name: Name, own: &OpenNode) -> usize
     requires { spec.is_common name ≡ true }
-    ensures { (table : ℕ) → result ≡ spec.read_at_of name table own.now.contributing own.now.sought }
+    ensures { (table : ℕ) → result
+        ≡ spec.read_at_of name table own.now.contributing own.now.sought }
 {
     match name {
         Name::Other(_) => 0,

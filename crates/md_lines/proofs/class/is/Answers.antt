@@ -1,5 +1,6 @@
 -- The table has the classes of each byte at its own place: computed for all bytes.
-use Rattle.std.proofs.Common.{◌≡◌, ◌<◌, ℕ, List, ◌∷◌, not, Bool, nat_eq, get_or, bit_and, refl, ap, ◌∙◌}
+use Rattle.std.proofs.Common.{◌≡◌, ◌<◌, ℕ, Bool, List, ◌∷◌, not, nat_eq, get_or, bit_and}
+use Rattle.std.proofs.Common.{refl, ap, ◌∙◌}
 use Rattle.std.specs.Prelude.{replicate}
 use Rattle.std.proofs.lemmas.Bool.{agree_below_at}
 use Rattle.md_lines.specs.declared.class.Class.{Class}

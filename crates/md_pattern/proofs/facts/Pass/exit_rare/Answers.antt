@@ -1,8 +1,8 @@
 -- What `exit_rare` leaves is the pass after this exit, in an open node and where only the
 -- document is left. The search can't see that the first of the open nodes changes where the last
 -- of the vector does.
-use Rattle.std.proofs.Common.{rules, ◌≡◌, ◌<◌, ◌-◌, ◌++◌, ◌∷◌, [], length, get_or, refl, sym, ap, ◌∙◌}
-use Rattle.std.proofs.Common.{subst}
+use Rattle.std.proofs.Common.{rules, ◌≡◌, ◌<◌, ◌-◌, ◌++◌, ◌∷◌, [], length, get_or}
+use Rattle.std.proofs.Common.{refl, sym, ap, ◌∙◌, subst}
 use Rattle.std.specs.Prelude.{set}
 use Rattle.md_pattern.specs.contracts.facts.Pass.{the_view}
 use Rattle.md_pattern.specs.Facts.{opens, fact_of, partner_alone}
