@@ -19,7 +19,7 @@ begins_with text word = str_eq_ignore_ascii_case (take (length word) text) word
 abbrev pub raw_names : List (List ℕ)
 raw_names = codes "script" ∷ codes "pre" ∷ codes "style" ∷ codes "textarea" ∷ []
 
--- those closing tags
+-- the closing tags that end a block of the first kind
 abbrev pub raw_ends : List (List ℕ)
 raw_ends = codes "</script>" ∷ codes "</pre>" ∷ codes "</style>" ∷ codes "</textarea>" ∷ []
 
@@ -63,8 +63,7 @@ name_length text = prefix_len is_ascii_alphanumeric text
 abbrev pub ends_name : List ℕ → Bool
 ends_name text = elim text [ [] ↦ true | byte ∷ _ ↦ is_blank byte || byte == 62 ]
 
--- the kind of the block that a tag begins, by whether it is a closing tag, its name and what
--- follows the name
+-- the kind that a tag begins: whether it closes, its name, and what follows that
 abbrev pub named_kind : Bool → List ℕ → List ℕ → Option HtmlKind
 named_kind is_closing name after =
     if ends_name after && (not is_closing && is_raw_name name) then Some Raw
@@ -79,7 +78,7 @@ tag_kind text =
     named_kind (starts_with nat_eq text (codes "</")) (take (name_length inside) inside)
     (drop (name_length inside) inside)
 
--- the kind of the block that a text begins; `None` if it is text, or a tag of another name
+-- the kind that a text at a `<` begins; `None` if it is text, or a tag of another name
 abbrev pub html_kind : List ℕ → Option HtmlKind
 html_kind text =
     if starts_with nat_eq text (codes "<!--") then Some Comment
@@ -89,8 +88,7 @@ html_kind text =
     then (if is_ascii_alphabetic (get_or text 2 0) then Some Declaration else None)
     else tag_kind text
 
--- whether a text begins with what ends a block of a kind: for the first kind one of the closing
--- tags, in any case; a blank line ends the last two kinds
+-- whether a text begins with what ends a block of a kind; a blank line ends the last two
 abbrev pub is_end : HtmlKind → List ℕ → Bool
 is_end kind text = elim kind [
   | Raw ↦ list_any (begins_with text) raw_ends
@@ -106,7 +104,7 @@ is_end kind text = elim kind [
 abbrev pub ends_at_blank_line : HtmlKind → Bool
 ends_at_blank_line kind = elim kind [ Block ↦ true | Tag ↦ true | _ ↦ false ]
 
--- whether a test passes at some place of a text, for what follows it
+-- whether a test passes for some rest of a text
 abbrev pub somewhere : (List ℕ → Bool) → List ℕ → Bool
 somewhere test [] = test []
 somewhere test (byte ∷ rest) = test (byte ∷ rest) || somewhere test rest

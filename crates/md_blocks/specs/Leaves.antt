@@ -1,5 +1,5 @@
--- Which texts begin or end a leaf block, as CommonMark and GFM define them. A text is the rest of a
--- line after its indentation, without its ending.
+-- Which texts begin or end a leaf block, as CommonMark and GFM define them, and math. A text is the
+-- rest of a line after its indentation, without its ending.
 use Rattle.std.specs.Prelude.{ℕ, Bool, List, [], ◌∷◌, ◌==◌, ◌-◌, ◌&&◌, ◌||◌, true, not, nat_lt}
 use Rattle.std.specs.Prelude.{length, take, drop, get_or, if◌then◌else◌}
 use Rattle.std.specs.List.{list_all, list_any, count_by, prefix_len, suffix_len, onto_first}
@@ -19,15 +19,13 @@ is_break mark text =
 abbrev pub has : ℕ → List ℕ → Bool
 has wanted text = list_any (λ byte. byte == wanted) text
 
--- whether a text begins a fence: at least so many of a mark, and if they must be the last of the
--- line, no more of it after them
+-- whether a text begins with `least` or more of a mark, and if `is_last` has none after them
 abbrev pub opens_fence : ℕ → ℕ → Bool → List ℕ → Bool
 opens_fence mark least is_last text =
     not (nat_lt (run_of mark text) least)
     && not (is_last && has mark (drop (run_of mark text) text))
 
--- whether a text begins a fence of code: three or more of a mark, a backtick or a tilde; if it is a
--- backtick, the info string has none
+-- whether a text opens fenced code: three or more of a mark, and after backticks no backtick
 abbrev pub opens_code : ℕ → List ℕ → Bool
 opens_code mark text = opens_fence mark 3 (mark == 96) text
 
@@ -48,8 +46,7 @@ blanks text = prefix_len is_blank text
 abbrev pub word_length : List ℕ → ℕ
 word_length text = prefix_len (λ byte. not (is_blank byte)) text
 
--- whether a text underlines a heading: one or more of a mark, `=` or `-`, and then only spaces and
--- tabs
+-- whether a text is one or more of a mark, and then only spaces and tabs
 abbrev pub is_underline : ℕ → List ℕ → Bool
 is_underline mark text =
     nat_lt 0 (run_of mark text) && is_blank_text (drop (run_of mark text) text)
@@ -66,8 +63,7 @@ without_number_signs text = take (length text - suffix_len (λ byte. byte == 35)
 abbrev pub ends_blank : List ℕ → Bool
 ends_blank text = is_blank (get_or text (length text - 1) 0)
 
--- the content of a heading: without spaces and tabs at its end, and without a closing sequence,
--- which is number signs after a space or a tab
+-- the content of a heading, without blanks and a closing sequence at its end
 abbrev pub heading_content : List ℕ → List ℕ
 heading_content text =
     let whole = without_blanks text in
@@ -83,13 +79,12 @@ without_first wanted text =
 abbrev pub cell_length : List ℕ → ℕ
 cell_length row = prefix_len (λ byte. not (byte == 124)) row
 
--- the cells of a row after its leading bar: each ends at a bar, or at the end of the row
+-- the cells of a delimiter row without its leading bar, each up to a bar or the end
 abbrev pub cells : List ℕ → List (List ℕ)
 cells [] = []
 cells (byte ∷ rest) = if byte == 124 then [] ∷ cells rest else onto_first byte (cells rest)
 
--- whether a cell delimits a column: hyphens, a colon before and after them or not, and around these
--- spaces and tabs
+-- whether a cell is hyphens with or without a colon on each side, between spaces and tabs
 abbrev pub is_delimiter : List ℕ → Bool
 is_delimiter cell =
     let marks = without_first 58 (drop (blanks cell) cell) in
@@ -104,8 +99,7 @@ may_begin_delimiter byte = byte == 45 || (byte == 58 || is_blank byte)
 abbrev pub delimiters : List ℕ → List (List ℕ)
 delimiters text = cells (without_first 124 (without_blanks text))
 
--- whether a text is a delimiter row: each of its cells delimits a column, and there is a bar or a
--- colon
+-- whether a text is a delimiter row: delimiters in all cells, and a bar or a colon
 abbrev pub is_delimiter_row : List ℕ → Bool
 is_delimiter_row text =
     nat_lt 0 (length (delimiters text))

@@ -20,8 +20,8 @@ impl Breaks {
         Breaks { failed_at: 0 }
     }
 
-    /// Whether a thematic break of a mark begins at an index. The lines must be of one document,
-    /// each up to its end.
+    /// Whether a thematic break of a mark begins at an index. If all lines are of one document, each
+    /// up to its end, each byte is read a bounded number of times.
     pub(crate) fn begins_at(&mut self, mark: u8, line: &[u8], from: usize) -> bool
         ensures { result ≡ is_break mark (drop from line.now) }
     {

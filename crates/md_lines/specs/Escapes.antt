@@ -9,13 +9,13 @@ use Rattle.md_lines.specs.declared.cursor.Cursor.{Cursor}
 abbrev pub is_escape : ℕ → ℕ → Bool
 is_escape byte next = byte == 92 && is_ascii_punctuation next
 
--- how many bytes begin a text as one: two for an escape
+-- how many bytes one step over a text takes: two over an escape, else one
 abbrev pub width : List ℕ → ℕ
 width [] = 1
 width (byte ∷ []) = 1
 width (byte ∷ next ∷ rest) = if is_escape byte next then 2 else 1
 
--- how many bytes come before the first that passes a test, if escaped bytes aren't tested
+-- how many bytes come before the first that isn't escaped and passes a test; all if none does
 abbrev pub before_unescaped : (ℕ → Bool) → List ℕ → ℕ
 before_unescaped test [] = 0
 before_unescaped test (byte ∷ []) = if test byte then 0 else 1
@@ -28,8 +28,7 @@ before_unescaped test (byte ∷ next ∷ rest) =
 abbrev pub is_angle : ℕ → Bool
 is_angle byte = byte == 60 || byte == 62
 
--- whether a byte ends a title, well or not: its closing mark, or a parenthesis that opens in one in
--- parentheses
+-- whether a byte ends a title or makes it invalid: its closing mark, or `(` after `(`
 abbrev pub stops_title : ℕ → ℕ → ℕ → Bool
 stops_title mark close byte = byte == close || (byte == 40 && mark == 40)
 
@@ -37,7 +36,7 @@ stops_title mark close byte = byte == close || (byte == 40 && mark == 40)
 abbrev pub in_line : Cursor → List ℕ
 in_line cursor = drop cursor.at (take cursor.end cursor.bytes.now)
 
--- how long a destination is that an angle bracket closes: the first that isn't escaped is no `<`
+-- the length of a destination after `<`, if its first bracket that isn't escaped is `>`
 abbrev pub pointed_length : List ℕ → Option ℕ
 pointed_length text =
     let count = before_unescaped is_angle text in

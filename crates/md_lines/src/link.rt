@@ -106,6 +106,8 @@ fn pointed_destination(cursor: &mut Cursor<'_>) -> Option<Span>
         ≡ pointed_length (in_line cursor.old) }
     ensures start { IfSome result (λ span. span.start ≡ cursor.old.at) }
     ensures passed { IfSome result (λ span. cursor.new.at ≡ suc span.end) }
+    ensures line { cursor.new.line ≡ cursor.old.line }
+    ensures line_end { cursor.new.end ≡ cursor.old.end }
 {
     let from = cursor.at;
     let text = cursor.bytes[..cursor.end].get(from..).unwrap_or(b"");

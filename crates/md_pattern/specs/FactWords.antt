@@ -1,12 +1,12 @@
 -- The words that store the facts at the events. Contracts of private functions cite them, and so
 -- does the model of `FactList`, which maps it to a list of facts.
 use Rattle.std.specs.Prelude.{ℕ, ◌+◌, ◌-◌, ◌^◌, ◌<◌, if◌then◌else◌, nat_le, List, length, get_or}
-use Rattle.std.specs.Prelude.{map, ◌≡◌, [], ◌++◌}
+use Rattle.std.specs.Prelude.{map, ◌≡◌, ◌≤◌, [], ◌++◌}
 use Rattle.std.specs.List.{All}
 use Rattle.md_pattern.specs.declared.facts.Fact.{Fact}
 use Rattle.md_pattern.specs.Facts.{partner_alone}
 
--- a word is the index of an event or the number of a record
+-- a word is the index of an event, or 2^31 and the number of a record
 abbrev pub IsWord : List Fact → ℕ → Type 0
 IsWord records word = word < 2 ^ 31 + length records
 
@@ -27,10 +27,11 @@ facts_of_words records words = map (fact_of_word records) words
 abbrev pub all_facts : List Fact → List ℕ → List Fact → List Fact
 all_facts records words rest = facts_of_words records words ++ rest
 
--- there is a rest only after as many words as there may be
-abbrev pub IsAfterWords : List ℕ → List Fact → Type 0
-IsAfterWords words rest = length words < 2 ^ 31 → rest ≡ []
+-- there is a rest only if the words fill their capacity
+abbrev pub IsAfterWords : List ℕ → ℕ → List Fact → Type 0
+IsAfterWords words capacity rest = length words < capacity → rest ≡ []
 
 -- what is true of the parts of a list of facts
-abbrev pub AreParts : List Fact → List ℕ → List Fact → Type 0
-AreParts records words rest = AreWords records words × IsAfterWords words rest
+abbrev pub AreParts : List Fact → List ℕ → ℕ → List Fact → Type 0
+AreParts records words capacity rest =
+    AreWords records words × (capacity ≤ 2 ^ 31) × IsAfterWords words capacity rest

@@ -23,7 +23,7 @@ use std::marker::Model;
 
 /// The fact at an event: at the entry of a node that has ended, all that is known about the node.
 /// At the exit, and at the entry before the node has ended, only the partner, which is 0 for an
-/// open node.
+/// open node; later, at the exit of a link or an image, also the number of its definition.
 #[derive(Clone, Copy)]
 pub struct Fact {
     /// The index of the other event of the node.

@@ -1,8 +1,9 @@
 //! The facts at the events. An event whose fact is only the partner takes one word of four bytes.
 
-ghost use Rattle.std.specs.Prelude.{◌≡◌, ◌+◌, ◌<◌, ◌^◌, true, OnOk, OnErr, IfOk, ℕ, [], ◌∷◌};
+ghost use Rattle.std.specs.Prelude.{◌≡◌, ◌+◌, ◌<◌, ◌^◌, true, OnOk, IfOk, ℕ, [], ◌∷◌};
 ghost use Rattle.std.specs.Prelude.{◌++◌};
-ghost use Rattle.std.specs.Prelude.{length, set, slice_get};
+ghost use Rattle.std.specs.Prelude.{length, set, slice_get, ◌≤◌};
+ghost use Rattle.std.specs.Vec.{vec_len, vec_capacity};
 ghost use Rattle.md_pattern.specs.Facts as spec;
 ghost use Rattle.md_pattern.specs.FactWords.{IsWord, fact_of_word};
 
@@ -21,32 +22,34 @@ const WORDS: usize = 0x8000_0000;
 /// The fact at each event, in the order of the events.
 #[derive(Drop)]
 pub struct FactList {
-    /// For each of the first events its partner, if that is its whole fact, or the number of its
-    /// record.
+    /// For each of the first events its partner, if that is its whole fact and lower than `WORDS`,
+    /// or the number of its record. There is capacity for at most `WORDS`, and it doesn't grow.
     words: Vec<u32>,
-    /// The facts that aren't only a partner. Each event has at most one.
+    /// The facts that don't fit in a word: more than a partner, or a partner from `WORDS` on.
     records: Vec<Fact>,
-    /// The facts at the events after `WORDS` events.
+    /// The facts at the events for which there is no capacity.
     rest: Vec<Fact>,
 }
 
 impl Model for FactList {
     ghost use Rattle.std.specs.Prelude.{List};
     ghost use Rattle.md_pattern.specs.declared.facts.Fact.{Fact};
+    ghost use Rattle.std.specs.Vec.{vec_capacity};
     ghost use Rattle.md_pattern.specs.FactWords.{all_facts, AreParts};
 
     ghost Value = { List Fact };
 
     ghost view = { λ list. all_facts list.records.items list.words.items list.rest.items };
 
-    ghost invariant = { λ list. AreParts list.records.items list.words.items list.rest.items };
+    ghost invariant = { λ list. AreParts list.records.items list.words.items
+        (vec_capacity list.words) list.rest.items };
 }
 
 impl FactList {
     ghost use Rattle.std.specs.Prelude.{◌≡◌, ◌+◌, OnOk, IfOk, [], ◌∷◌, ◌++◌, length, set};
     ghost use Rattle.std.specs.Prelude.{slice_get};
 
-    /// An empty list, with capacity for `events` events.
+    /// An empty list, with capacity for the words of `events` events, at most `WORDS`.
     ///
     /// # Errors
     ///
@@ -91,8 +94,8 @@ impl FactList {
         ensures facts { OnOk result (self.new ≡ self.old ++ spec.partner_alone 0 ∷ []) }
     {
         let entry = self.words.len();
-        if entry < WORDS {
-            push_word(&mut self.words, 0)?;
+        if entry < self.words.capacity() {
+            self.words.push_reserved(0);
             return Ok(entry);
         }
         let entry = self.len();
@@ -112,8 +115,8 @@ impl FactList {
             (λ entry. self.new ≡ (self.old ++ spec.partner_alone (entry + 1) ∷ [])
             ++ spec.partner_alone entry ∷ []) }
     {
-        if self.words.len() < WORDS - 1 {
-            return push_two(&mut self.words);
+        if self.words.capacity() - self.words.len() >= 2 {
+            return Ok(push_two(&mut self.words));
         }
         let entry = self.len();
         self.push_rare(entry + 1)?;
@@ -142,8 +145,9 @@ impl FactList {
             ++ spec.partner_alone entry ∷ []) }
     {
         let exit = self.words.len();
-        if exit < WORDS && entry < exit && is_plain(read_at, looseness) {
-            return close_words(&mut self.words, entry);
+        if exit < self.words.capacity() && entry < exit && is_plain(read_at, looseness) {
+            close_words(&mut self.words, entry);
+            return Ok(());
         }
         let partner = self.len();
         self.put(
@@ -162,21 +166,23 @@ impl FactList {
     fn push(&mut self, partner: usize) -> Result<(), AllocError>
         ensures { OnOk result (self.new ≡ self.old ++ spec.partner_alone partner ∷ []) }
     {
-        if self.words.len() < WORDS && partner < WORDS {
-            return push_word(&mut self.words, partner as u32);
+        if self.words.len() < self.words.capacity() && partner < WORDS {
+            self.words.push_reserved(partner as u32);
+            return Ok(());
         }
         self.push_rare(partner)
     }
 
-    /// The same. It is called only if there are as many words as there may be.
+    /// The same, for a partner that may need a record, or after the words.
     #[inline(never)]
     fn push_rare(&mut self, partner: usize) -> Result<(), AllocError>
         ensures { OnOk result (self.new ≡ self.old ++ spec.partner_alone partner ∷ []) }
     {
         let fact = partner_alone(partner);
-        if self.words.len() < WORDS {
+        if self.words.len() < self.words.capacity() {
             let word = word_for(&mut self.records, fact, self.words.capacity())?;
-            return push_word(&mut self.words, word);
+            self.words.push_reserved(word);
+            return Ok(());
         }
         self.rest.push(fact)?;
         Ok(())
@@ -247,7 +253,7 @@ fn number_of_record(records: &mut Vec<Fact>, fact: Fact, events: usize) -> Resul
         → fact_of_word records.new.items word ≡ fact_of_word records.old.items word }
 {
     let number = records.len();
-    // Each event has at most one record, so their numbers stay below this.
+    // The callers add at most one record for each event among the words, so this isn't reached.
     if number >= WORDS {
         return Err(AllocError);
     }
@@ -271,58 +277,42 @@ fn fact_of_word(records: &[Fact], word: u32) -> Fact
     }
 }
 
-/// Adds a word. Usually there is capacity, and no call is made.
+/// Adds the words of an entry and of the exit right after it; returns the index of the entry.
 #[inline(always)]
-fn push_word(words: &mut Vec<u32>, word: u32) -> Result<(), AllocError>
-    ensures pushed { OnOk result (words.new.items ≡ words.old.items ++ word ∷ []) }
-    ensures refused { OnErr result (words.new.items ≡ words.old.items) }
-{
-    if words.len() == words.capacity() {
-        words.reserve(1)?;
-    }
-    words.push_reserved(word);
-    Ok(())
-}
-
-/// Adds the words of an entry and of the exit right after it, likewise; returns the index of the
-/// entry.
-#[inline(always)]
-fn push_two(words: &mut Vec<u32>) -> Result<usize, AllocError>
-    requires { length words.old.items + 1 < 2 ^ 31 }
-    ensures entry { IfOk result (λ entry. entry ≡ length words.old.items) }
-    ensures pushed { IfOk result
-        (λ entry. words.new.items ≡ (words.old.items ++ (entry + 1) ∷ []) ++ entry ∷ []) }
-    ensures refused { OnErr result (words.new.items ≡ words.old.items) }
+fn push_two(words: &mut Vec<u32>) -> usize
+    requires room { vec_len words.old + 2 ≤ vec_capacity words.old }
+    requires fits { vec_capacity words.old ≤ 2 ^ 31 }
+    ensures entry { result ≡ length words.old.items }
+    ensures pushed { words.new.items ≡ (words.old.items ++ (result + 1) ∷ []) ++ result ∷ [] }
+    ensures capacity { vec_capacity words.new ≡ vec_capacity words.old }
 {
     let entry = words.len();
-    if words.capacity() - entry < 2 {
-        words.reserve(2)?;
-    }
     let word = entry as u32;
     words.push_reserved(word + 1);
     words.push_reserved(word);
-    Ok(entry)
+    entry
 }
 
 /// Writes the word of an entry whose exit is the next event, and adds the word of the exit.
 #[inline(always)]
-fn close_words(words: &mut Vec<u32>, entry: usize) -> Result<(), AllocError>
+fn close_words(words: &mut Vec<u32>, entry: usize)
     requires exists { entry < length words.old.items }
-    requires fits { length words.old.items < 2 ^ 31 }
-    ensures closed { OnOk result (words.new.items
-        ≡ set words.old.items entry (length words.old.items) ++ entry ∷ []) }
-    ensures refused { OnErr result (words.new.items
-        ≡ set words.old.items entry (length words.old.items)) }
+    requires room { vec_len words.old < vec_capacity words.old }
+    requires fits { vec_capacity words.old ≤ 2 ^ 31 }
+    ensures closed { words.new.items
+        ≡ set words.old.items entry (length words.old.items) ++ entry ∷ [] }
+    ensures capacity { vec_capacity words.new ≡ vec_capacity words.old }
 {
     let exit = words.len() as u32;
     words[entry] = exit;
-    push_word(words, entry as u32)
+    words.push_reserved(entry as u32);
 }
 
 /// Writes a word at an index, if it exists.
 #[inline(always)]
 fn put_word(words: &mut Vec<u32>, index: usize, word: u32)
-    ensures { words.new.items ≡ set words.old.items index word }
+    ensures written { words.new.items ≡ set words.old.items index word }
+    ensures capacity { vec_capacity words.new ≡ vec_capacity words.old }
 {
     if index < words.len() {
         words[index] = word;

@@ -13,7 +13,7 @@ returns-in_ok-word c =
     let exists : c.args.index < length words = search rules in
     rw (← c.self.view_is) (facts-written before records words c.put_word.new.words.items
     c.self.inside.rest.items c.args.index c.args.fact exists
-    (ap (facts_of_words records) c.put_word.ensures
+    (ap (facts_of_words records) c.put_word.ensures.written
     ∙ facts-put before records c.word_for.ensures.words c.word_for.ensures.facts words c.args.index
     c.in_ok-word.word c.args.fact c.self.invariant.0 c.in_ok-word.ensures.fact))
 
