@@ -2,6 +2,7 @@
 """Measures `mdevents` beside the original, and prints the Markdown tables of docs/use/SPEED.md.
 
     python3 bench/measure/original.py PROGRAM [--picture FILE] [--runs R] [--shapes NAME,..|none]
+        [--only-shapes]
 
 PROGRAM is the built `mdevents`. The folder that BIVDRAZO_ORIGINAL names has `compare.py`, which
 builds the original; without it this says so, and `bench/measure/timed.py` measures the program
@@ -213,6 +214,7 @@ def main():
     parser.add_argument("--picture")
     parser.add_argument("--runs", type=int, default=5)
     parser.add_argument("--shapes", default="all")
+    parser.add_argument("--only-shapes", action="store_true")
     given = parser.parse_args()
     compare = beside()
     if compare is None:
@@ -225,9 +227,10 @@ def main():
              else given.shapes.split(","))
     with tempfile.TemporaryDirectory(prefix="md-beside-") as folder:
         path = os.path.join(folder, "script")
-        instructions_table(compare, commands, path)
-        times_table(compare, commands, path, given.runs)
-        found = shapes_table(compare, commands, path, names, min(given.runs, 3)) if names else {}
+        if not given.only_shapes:
+            instructions_table(compare, commands, path)
+            times_table(compare, commands, path, given.runs)
+        found = shapes_table(compare, commands, path, names, given.runs) if names else {}
     if found and given.picture:
         draw(found, given.picture)
     return 0

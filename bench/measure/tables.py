@@ -3,12 +3,13 @@
 
     bench/measure/tables.py [--write] [--jobs TITLE=PROGRAM]... [NAME..]
 
-A page has a line `<!-- NAME: bench/measure/tables.py -->` before each table that this script makes.
-It prints the tables, and with --write writes them into the pages; names keep only these. It
-requires what the scripts that measure do: `mdevents` and `md_bench` built in their folders, and
-clients/build for renderers and events; BIVDRAZO_ORIGINAL for what is beside the original. --jobs
-adds a column to the table of jobs, for another build of md_bench, with its ratio to the first.
-Times are minimums of some runs: let nothing else run. It takes 25 minutes.
+A table that this script makes stands after a line `<!-- NAME: bench/measure/tables.py -->` of its
+page. It prints the tables, and with --write writes them there; with names it makes only these. It
+requires valgrind, `mdevents` and `md_bench` built in their folders, clients/build for the events of
+real Markdown, and what clients/speed requires; for what is beside the original BIVDRAZO_ORIGINAL,
+as original.py says. --jobs names the builds of md_bench that the table of jobs compares, by default
+this checkout's alone; from the second on each has its ratio to the first. Times are minimums of
+some runs: let nothing else run. It takes 25 minutes.
 """
 
 import argparse
@@ -27,10 +28,10 @@ PROGRAM = ROOT / "crates/mdevents/out/mdevents"
 BENCHMARK = ROOT / "crates/md_bench/out/md_bench"
 ORIGINAL = os.environ.get("BIVDRAZO_ORIGINAL", "")
 MARK = "<!-- {}: bench/measure/tables.py -->"
-TARGETS = {"check, compile, write": "0.72", "of these the check": "",
+TARGETS = {"check, compile, write": "1.0", "of these the check": "120 instructions",
            "reading the script": "0.5", "the whole program": "0.6",
            "check, compile, write, ms": "1.0",
-           "memory beyond script and text, bytes an event": "45"}
+           "memory beyond script and text, bytes an event": "80 bytes"}
 RENDERERS = {"bivdrazo (Rust)": "Bivdrazo (Rust)"}
 # The documents of each job of the benchmark in one round.
 ROUND = {"comments": 1000, "pages": 32, "letters": 32, "articles": 6, "scripts": 4, "awkward": 3000}
@@ -57,6 +58,7 @@ def table(head, rows):
 def renderers():
     """What renderers take per byte, and per megabyte, for documents and for comments."""
     lines = printed(ROOT / "clients/speed", "--bytes", 1_500_000, "--comments", 20_000)
+    print("".join(f"{line}\n" for line in lines if line.startswith("***")), end="")
     start = next(at for at, line in enumerate(lines) if line.startswith("Comments:"))
     sides = [{row[0]: row[1:4] for row in cells_of(part) if len(row) == 5}
              for part in (lines[:start], lines[start:])]
@@ -90,10 +92,16 @@ def nodes():
     return table(rows[0], rows[1:])
 
 
+def original(*words):
+    """The cells of the tables that original.py prints."""
+    if not os.path.isfile(os.path.join(ORIGINAL, "compare.py")):
+        sys.exit("tables: BIVDRAZO_ORIGINAL names no folder with the original")
+    return cells_of(printed(sys.executable, MEASURE / "original.py", PROGRAM, *words))
+
+
 def beside():
     """What the realistic script takes beside the original."""
-    rows = cells_of(printed(sys.executable, MEASURE / "original.py", PROGRAM, "--runs", 20,
-                            "--shapes", "none"))
+    rows = original("--runs", 20, "--shapes", "none")
     return table(["", "the original", "ours", "ratio", "target"],
                  [[*row, TARGETS.get(row[0], "")] if "event" not in row[0] or "bytes" in row[0]
                   else [f"**{row[0]}**", "", "", "", ""] for row in rows])
@@ -101,9 +109,7 @@ def beside():
 
 def shapes():
     """The times of shapes beside the original, and how instructions grow."""
-    rows = cells_of(printed(sys.executable, MEASURE / "original.py", PROGRAM, "--runs", 9,
-                            "--shapes", "all"))
-    rows = [row for row in rows[next(at for at, row in enumerate(rows) if row[0] == "shape"):]]
+    rows = original("--runs", 9, "--shapes", "all", "--only-shapes")
     grown = dict(line.split()[::3] for line in printed(
         sys.executable, pathlib.Path(ORIGINAL, "compare.py"), PROGRAM, "--sizes", "", "--no-count",
         "--growth", 2500) if re.match(r"[\w-]+ +\d+ +\d+ +[\d.]+$", line))
