@@ -161,8 +161,12 @@ solid d p name n e room built ready waits known below =
 -- what some blocks mean
 pub opens : (d : Document) (forest : Forest) (around : Surroundings) (before : Before) (n : ℕ) →
     Fits d around before n forest → Opens d n (outcome d.context around before forest)
-opens d Empty around before n f = record { prints = none d.context.ending n 0; heading = tt; texts =
-    tt }
+opens d Empty around before n f = record {
+  prints = none d.context.ending n 0;
+  heading = tt;
+  texts =
+      tt;
+}
 opens d (Node name start end children rest) around before n f =
     let p : Place = place_at around before start end children rest in
     let t : At = at_of d p name in
