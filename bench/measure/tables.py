@@ -3,13 +3,13 @@
 
     bench/measure/tables.py [--write] [--jobs TITLE=PROGRAM]... [NAME..]
 
-A table that this script makes stands after a line `<!-- NAME: bench/measure/tables.py -->` of its
-page. It prints the tables, and with --write writes them there; with names it makes only these. It
-requires valgrind, `mdevents` and `md_bench` built in their folders, clients/build for the events of
-real Markdown, and what clients/speed requires; for what is beside the original BIVDRAZO_ORIGINAL,
-as original.py says. --jobs names the builds of md_bench that the table of jobs compares, by default
-this checkout's alone; from the second on each has its ratio to the first. Times are minimums of
-some runs: let nothing else run. It takes 25 minutes.
+It prints the tables, and with --write writes each into the page that has a line `<!-- NAME:
+bench/measure/tables.py -->`, after that line; with names it makes only these. It requires valgrind,
+`mdevents` and `md_bench` built in their folders, clients/build for the events of real Markdown, and
+what clients/speed requires; for what is beside the original BIVDRAZO_ORIGINAL, as original.py says.
+--jobs names the builds of md_bench that the table of jobs compares, by default this checkout's
+alone; from the second on each has its ratio to the first. Times are minimums of some runs: let
+nothing else run. All of it together was never run yet.
 """
 
 import argparse
