@@ -13,7 +13,7 @@ from .library import LIBRARY, CAnswer, CEvent, CLimits, COptions, CReference, CT
 from .numbers import Kind, LineEnding, Name, Status
 from .references import REFERENCES
 from .safe import SafeHtml
-from .values import Bytes, bound_of, bytes_of, coded, text_at
+from .values import Bytes, bound_of, bytes_of, coded, text_in
 
 EVENT = struct.Struct("@NHHBB2x")
 UNSET = CText(b"", 0, False)
@@ -235,7 +235,7 @@ def answered(
         raise TooDeep(limits.depth)
     if answer.status != Status.OK:
         raise error_of(answer.status, answer.index, answer.rule)
-    return text_at(ctypes.addressof(buffer), answer.length)
+    return text_in(buffer, 0, answer.length)
 
 
 def options_of(

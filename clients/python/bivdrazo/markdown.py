@@ -4,6 +4,7 @@ from __future__ import annotations
 
 import ctypes
 import functools
+import operator
 import string
 import threading
 from collections.abc import Iterable
@@ -14,7 +15,7 @@ from .errors import TooLong, TooMuchWork, error_of
 from .library import LIBRARY, CAnswer, CMarkdownOptions
 from .numbers import MARKDOWN_OPTIONS, MARKDOWN_VERSION, DocumentHtml, MarkdownStatus, Status
 from .safe import SafeHtml
-from .values import MOST, bound_of, coded, text_at, typed
+from .values import MOST, bound_of, coded, text_in, typed
 
 # The value of `max_work` in C for a limit that depends on the document's length.
 WORK_BY_LENGTH = MOST - 1
@@ -233,7 +234,9 @@ def options_of(
     """The options in C, which are shared between calls: texts are set in a copy."""
     choices = (number_ids, hard_breaks, bare_links, html, math, front_matter, footnotes, tables,
                max_input, max_output, max_work, max_depth)
-    made = (known_choices if PLAIN.issuperset(map(type, choices)) else made_choices)(*choices)
+    latest, made = LATEST[0]
+    if not all(map(operator.is_, choices, latest)):
+        made = choices_of(choices)
     if (footnote_prefix is None and footnote_label is None and footnote_back_label is None
             and base is None and rel is None and heading_ids is None):
         return made
@@ -242,6 +245,15 @@ def options_of(
     for name, text in zip(TEXTS, texts):
         if text is not None:
             setattr(made, name, text_of(name, text))
+    return made
+
+
+def choices_of(choices: tuple[Any, ...]) -> CMarkdownOptions:
+    """The options in C, with no text set, which the next call with the same objects takes."""
+    if not PLAIN.issuperset(map(type, choices)):
+        return made_choices(*choices)
+    made = known_choices(*choices)
+    LATEST[0] = choices, made
     return made
 
 
@@ -281,6 +293,9 @@ def made_choices(
 
 # The options of the latest calls, made once for equal values of the same types.
 known_choices = functools.lru_cache(maxsize=16, typed=True)(made_choices)
+# The latest plain values with their options: mostly the next call passes the same objects. At first
+# an object that no call passes.
+LATEST: list[tuple[tuple[Any, ...], CMarkdownOptions]] = [((object(),), CMarkdownOptions())]
 
 
 def rendered(document: bytes, options: CMarkdownOptions, slugs: bool = False) -> tuple[str, str]:
@@ -310,9 +325,9 @@ def rendered_into(buffer: ctypes.Array[ctypes.c_char], document: bytes, options:
         answer = into(document, len(document), options, buffer, len(buffer))
     if answer.status != OK:
         raise markdown_error_of(answer, options, len(document))
-    start = ctypes.addressof(buffer)
-    listed = answer.length - answer.index
-    return text_at(start, answer.index), text_at(start + answer.index, listed) if listed else ""
+    end = answer.index
+    listed = text_in(buffer, end, answer.length) if answer.length > end else ""
+    return text_in(buffer, 0, end), listed
 
 
 def taken(room: int) -> ctypes.Array[ctypes.c_char]:

@@ -7,7 +7,6 @@ from typing import TypeVar, Union
 
 Bytes = Union[bytes, bytearray, memoryview]
 MOST = ctypes.c_size_t(-1).value
-SHORT = 1 << 16  # up to this length a second copy is cheaper than avoiding it
 T = TypeVar("T")
 
 
@@ -33,11 +32,9 @@ def coded(name: str, text: str) -> bytes:
     return str.encode(typed(name, text, str), "utf-8")
 
 
-def text_at(address: int, length: int) -> str:
-    """The text of this length at an address. `string_at` takes no length over a C `int`."""
-    if length <= SHORT:
-        return ctypes.string_at(address, length).decode("utf-8")
-    return str((ctypes.c_char * length).from_address(address), "utf-8")
+def text_in(buffer: ctypes.Array[ctypes.c_char], start: int, end: int) -> str:
+    """The text between two indices of a buffer. `ctypes.string_at` would copy it once more."""
+    return str(memoryview(buffer)[start:end], "utf-8")
 
 
 def bytes_of(name: str, data: Bytes) -> bytes:

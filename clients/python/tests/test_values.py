@@ -16,7 +16,7 @@ from bivdrazo.markdown import known_choices, markdown_error_of
 from bivdrazo.markdown import TEXTS as NAMES
 from bivdrazo.markdown import options_of
 from bivdrazo.numbers import MarkdownStatus, Status
-from bivdrazo.values import SHORT, text_at
+from bivdrazo.values import text_in
 
 
 class LongBytes(bytes):
@@ -161,19 +161,19 @@ class Options(unittest.TestCase):
 
 
 class Read(unittest.TestCase):
-    """What is read at an address."""
+    """What is read of a buffer."""
 
     def test_lengths(self):
-        for length in (0, 1, SHORT - 1, SHORT, SHORT + 1, 1 << 20):
-            buffer = ctypes.create_string_buffer(b"a" * length)
-            self.assertEqual(text_at(ctypes.addressof(buffer), length), "a" * length)
-        self.assertLess(SHORT, 1 << 31)
+        for length in (0, 1, 1 << 16, 1 << 20):
+            buffer = ctypes.create_string_buffer(b"a" * length + b"bc")
+            self.assertEqual(text_in(buffer, 0, length), "a" * length)
+            self.assertEqual(text_in(buffer, length, length + 1), "b")
 
-    def test_long_texts(self):
-        text = "\u00e9" * SHORT
+    def test_no_second_copy(self):
+        text = "\u00e9" * (1 << 16)
         buffer = ctypes.create_string_buffer(text.encode())
         with unittest.mock.patch("ctypes.string_at", side_effect=AssertionError):
-            self.assertEqual(text_at(ctypes.addressof(buffer), 2 * SHORT), text)
+            self.assertEqual(text_in(buffer, 0, 2 << 16), text)
 
 
 class Statuses(unittest.TestCase):
