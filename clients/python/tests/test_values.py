@@ -108,6 +108,15 @@ class Options(unittest.TestCase):
             options_of(max_input=number)
         self.assertEqual(known_choices.cache_info().currsize, 16)
 
+    def test_objects_of_the_latest_call(self):
+        number, same, other = int("1000"), int("1000"), int("1001")
+        made = options_of(max_input=number)
+        for given in number, same, number:
+            self.assertIs(options_of(max_input=given), made)
+        self.assertEqual(options_of(max_input=other).max_input, 1001)
+        self.assertEqual(options_of(max_output=number).max_output, 1000)
+        self.assertIs(options_of(max_input=number), made)
+
     def test_texts_in_a_copy(self):
         for name in NAMES:
             made = options_of(**{name: "c"}, max_input=3)
