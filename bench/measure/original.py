@@ -77,7 +77,9 @@ def row(*cells):
 
 
 def ratio(ours, theirs):
-    return f"{ours / theirs:.2f}" if theirs else "–"
+    if not theirs:
+        return "–"
+    return f"{ours / theirs:.{2 if ours / theirs >= 0.01 else 3}f}"
 
 
 def whole_and_reader(measure, path, lines, document, compare):
@@ -113,11 +115,11 @@ def instructions_table(compare, commands, path):
     rest = [whole[at] - reader[at] for at in (0, 1)]
     row(f"instructions an event, {len(lines):,} events", "the original", "ours", "beside it")
     row("---", "---", "---", "---")
-    for name, (ours, theirs) in (("check, compile, write", rest), ("reading the script", reader),
-                                 ("the whole program", whole)):
-        row(name, f"{theirs:.0f}", f"{ours:.0f}", ratio(ours, theirs))
     put(path, compare.written(lines, document))
-    row("of these the check", "–", f"{of_check(commands[0], path) / len(lines):.0f}", "–")
+    check = of_check(commands[0], path) / len(lines), None
+    for name, (ours, theirs) in (("check, compile, write", rest), ("of these the check", check),
+                                 ("reading the script", reader), ("the whole program", whole)):
+        row(name, f"{theirs:.0f}" if theirs else "–", f"{ours:.0f}", ratio(ours, theirs))
     print()
 
 
@@ -159,7 +161,7 @@ def shape_times(compare, commands, path, shape, runs):
 
 
 def milliseconds(time):
-    return "killed" if time is None else f"{time * 1000:.1f}"
+    return "killed" if time is None else f"{time * 1000:,.1f}"
 
 
 def shapes_table(compare, commands, path, names, runs):
