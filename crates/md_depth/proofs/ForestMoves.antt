@@ -57,7 +57,7 @@ texts-append n (x ∷ xs) ys a b = (a.0, texts-append n xs ys a.1 b)
 texts-more : (m n : ℕ) (xs : List Footnote) → m ≤ n → TextsLead m xs → TextsLead n xs
 texts-more m n [] few a = tt
 texts-more m n (x ∷ xs) few a =
-    (leads-kept 0 m n x.text a.0 (omega (arith, few)), texts-more m n xs few a.1)
+    (leads-kept a.0 (omega arith), texts-more m n xs few a.1)
 
 -- what nodes print, a heading that is found, and the texts of footnotes
 pub record Opens (d : Document) (n : ℕ) (made : Outcome) : Type 0 where
@@ -133,24 +133,21 @@ solid d p name n e room built ready waits known below =
     record {
       prints = node-moves s t (n - 2) n room name ready.suits.0 e
           (not_part (is_part name || is_source name) stands) built.1
-          (λ _. (n - 1, omega (arith, room), waits)) known.found.resource inner.pieces a
+          (λ _. (n - 1, omega arith, waits)) known.found.resource inner.pieces a
           (λ is. (below is).prints);
-      heading = heading-here t name n (layout d.context.ending inner.pieces) e (λ is. leads-kept 0
-          (n - 2) (n - 1) (layout d.context.ending inner.pieces) (laid d.context.ending (n - 2)
-          inner.pieces (below is).prints) (omega (arith, room)));
+      heading = heading-here t name n (layout d.context.ending inner.pieces) e (λ is.
+          leads-kept (laid (below is).prints) (omega arith));
       texts = texts-append n inner.footnotes (when (named GfmFootnoteDefinition name)
           (own d p name ∷ [])) (inside (is_blocks (content_of name Blocks)) refl) (cond_both
           (named GfmFootnoteDefinition name) (own d p name ∷ []) [] (TextsLead n) (λ is. (
-            leads-kept 0 (n - 2) n (layout d.context.ending inner.pieces) (laid d.context.ending
-                (n - 2) inner.pieces (below (footnote-blocks name is)).prints)
-                (omega (arith, room)),
+            leads-kept (laid (below (footnote-blocks name is)).prints) (omega arith),
             tt,
           )) (λ _. tt));
     }
   where
     inside : (blocks : Bool) → is_blocks (content_of name Blocks) ≡ blocks →
         TextsLead n (inner_of d p name).footnotes
-    inside true is = texts-more (n - 2) n (inner_of d p name).footnotes (omega (arith, room))
+    inside true is = texts-more (n - 2) n (inner_of d p name).footnotes (omega arith)
         (below is).texts
     inside false is =
         let same : is_blocks (content_inside Blocks name) ≡ is_blocks (content_of name Blocks) = ap
@@ -162,7 +159,7 @@ solid d p name n e room built ready waits known below =
 pub opens : (d : Document) (forest : Forest) (around : Surroundings) (before : Before) (n : ℕ) →
     Fits d around before n forest → Opens d n (outcome d.context around before forest)
 opens d Empty around before n f = record {
-  prints = none d.context.ending n 0;
+  prints = none;
   heading = tt;
   texts =
       tt;
@@ -206,7 +203,7 @@ opens d (Node name start end children rest) around before n f =
     }
   where
     least : (a b n : ℕ) → 2 * max (suc a) b ≤ n → 2 * b ≤ n
-    least a b n room = omega (arith, room)
+    least a b n room = omega arith
 
     by : (through_it : Bool) → is_transparent name ≡ through_it → (p : Place) (n : ℕ) →
         2 * max (suc (height p.children)) (height p.rest) ≤ n →
@@ -221,12 +218,12 @@ opens d (Node name start end children rest) around before n f =
         (λ b. cond b p.before.heading []) e in
         let blocks : is_blocks (content_inside Blocks name) ≡ true = ap
         (λ b. is_blocks (cond b Blocks (content_of name Blocks))) e in
-        through d p name n e (below n (omega (arith, room)) (subst (Waits n) (sym same) waits)
+        through d p name n e (below n (omega arith) (subst (Waits n) (sym same) waits)
         blocks)
     by false e p n room built ready waits known below =
         let same : (inner_before p name).heading ≡ [] = ap (λ b. cond b p.before.heading []) e in
         let inside : is_blocks (content_inside Blocks name) ≡ is_blocks (content_of name Blocks) =
         ap (λ b. is_blocks (cond b Blocks (content_of name Blocks))) e in
-        let none : Waits (n - 2) [] = leads-quiet 0 ((n - 2) - 1) [] refl in
-        solid d p name n e (omega (arith, room)) built ready waits known (λ is. below (n - 2)
-        (omega (arith, room)) (subst (Waits (n - 2)) (sym same) none) (inside ∙ is))
+        let none : Waits (n - 2) [] = leads-quiet [] refl in
+        solid d p name n e (omega arith) built ready waits known (λ is. below (n - 2)
+        (omega arith) (subst (Waits (n - 2)) (sym same) none) (inside ∙ is))
