@@ -1,7 +1,7 @@
 -- How long a footnote call is.
-use Rattle.std.proofs.Common.{ℕ, suc, ◌+◌, ◌*◌, ◌^◌, ◌≤◌, ◌<◌, true, not}
+use Rattle.std.proofs.Common.{ℕ, suc, ◌+◌, ◌*◌, ◌^◌, ◌≤◌, ◌<◌, not}
 use Rattle.std.proofs.Common.{List, [], ◌∷◌, length, arith, codes, lit≤, lit<}
-use Rattle.std.proofs.Common.{Option, Some, None, bytes_eq, string_bytes, ◌-◌}
+use Rattle.std.proofs.Common.{Option, bytes_eq, string_bytes, ◌-◌}
 use Rattle.std.specs.Prelude.{option_map, String}
 use Rattle.std.specs.declared.alloc.Global.{Global}
 use Rattle.std.specs.Fmt.{decimal}
@@ -52,8 +52,7 @@ decimal-short n few = length-decimal-le 20 n (lit< tt) (omega (arith, few)) few
 pub option-short : (text : Option (String Global)) (unset : List ℕ) →
     length (option_or (option_map string_bytes text) unset)
     ≤ length unset + 6 * option_length text
-option-short None unset = omega arith
-option-short (Some set) unset = omega (arith, encoded-short true (string_bytes set))
+option-short text unset = grind (arith, encoded-short)
 
 pub id-short : (options : CompileOptions) (kind identifier : List ℕ) (number : ℕ) →
     length kind ≤ 6 → number < 2 ^ 64 →

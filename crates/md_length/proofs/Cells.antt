@@ -5,7 +5,6 @@ use Rattle.std.proofs.Common.{not, List, [], ◌∷◌, ◌++◌, length, refl, 
 use Rattle.std.proofs.Common.{append_assoc}
 use Rattle.std.specs.Prelude.{if◌then◌else◌}
 use Rattle.std.proofs.Math.Nat.{add-zero}
-use Rattle.std.proofs.lemmas.Bool.{and_parts, and_from, not-true}
 use Rattle.std.proofs.lemmas.List.{length-append}
 use Rattle.md_base.proofs.Lies.{lie}
 use Rattle.md_base.specs.declared.event.AlignKind.{AlignKind}
@@ -21,7 +20,6 @@ use Rattle.md_base.specs.Tree.{Forest, Empty, Node, flatten, entering, exiting}
 use Rattle.md_pattern.specs.Alignments.{alignments, alignment_of}
 use Rattle.md_steps.specs.Content.{Content, Blocks, BeforeLabel, Rows, Fits, is_allowed}
 use Rattle.md_steps.specs.Content.{content_inside, content_past, content_after_node}
-use Rattle.md_steps.proofs.Standing.{picked}
 use Rattle.md_steps.proofs.Staying.{node-same}
 use Rattle.md_length.specs.Costs.{nodes}
 use Rattle.md_length.proofs.Pieces.{either-number}
@@ -70,22 +68,13 @@ unrowed _ _ = refl
 inner-name : (content : Content) (name : Name) → is_inner content ≡ true →
     is_allowed content name ≡ true →
     (is GfmTable name ≡ false) × (is_inner (content_inside content name) ≡ true)
-inner-name content name h may =
-    let both = and_parts (not (is GfmTable name)) (is_inner (content_inside content name))
-    (picked (is_inner content && is_allowed content name) (is_tableless content name) true
-    (tableless content name) (and_from (is_inner content) (is_allowed content name) h may)) in
-    (not-true (is GfmTable name) both.0, both.1)
+inner-name content name h may = grind (arith, tableless content name)
 
 rowless-name : (content : Content) (name : Name) → is_rowless content ≡ true →
     is_allowed content name ≡ true →
     (is GfmTable name ≡ false) × (is GfmTableRow name ≡ false)
     × (is_rowless (content_inside content name) ≡ true)
-rowless-name content name h may =
-    let both = and_parts (not (is GfmTable name)) _ (picked (is_rowless content
-    && is_allowed content name) (is_unrowed content name) true (unrowed content name)
-    (and_from (is_rowless content) (is_allowed content name) h may)) in
-    let row = and_parts (not (is GfmTableRow name)) _ both.1 in
-    (not-true (is GfmTable name) both.0, not-true (is GfmTableRow name) row.0, row.1)
+rowless-name content name h may = grind (arith, unrowed content name)
 
 -- ---- how many columns are entered
 abbrev pub values : Forest → ℕ

@@ -1,7 +1,6 @@
 -- The events of a definition: those of its children, before the next event of a definition.
 use Rattle.std.proofs.Common.{◌≡◌, ℕ, zero, suc, true, false, List, ◌∷◌, [], ◌++◌, drop, refl}
-use Rattle.std.proofs.Common.{ap, sym, ◌∙◌, append_assoc}
-use Rattle.std.specs.Prelude.{if◌then◌else◌}
+use Rattle.std.proofs.Common.{ap, sym, ◌∙◌, append_assoc, arith}
 use Rattle.md_base.proofs.Lies.{lie}
 use Rattle.md_base.specs.declared.event.Event.{Event}
 use Rattle.md_base.specs.declared.event.Name.{Name}
@@ -35,20 +34,12 @@ pub before-low : (content : Content) (forest : Forest) (tail : List Event) →
 before-low content Empty tail low fits = refl
 before-low content (Node name start end children rest) tail low fits =
     let other = not-defining name (plain content name low fits.0) in
-    let later : List Event = flatten rest ++ tail in
-    ap (λ b. if b then []
-    else entering name start ∷ before_definition ((flatten children ++ exiting name end
-    ∷ flatten rest) ++ tail)) other
-    ∙ ap (λ events. entering name start ∷ events)
-    (ap before_definition (append_assoc (flatten children) (exiting name end ∷ flatten rest) tail)
-    ∙ before-low (content_inside content name) children (exiting name end ∷ later)
-    ((allowed-facts content name fits.0).callless low).0 fits.1
-    ∙ ap (λ events. flatten children ++ events) (ap (λ b. if b then []
-    else exiting name end ∷ before_definition later) other
-    ∙ ap (λ events. exiting name end ∷ events) (before-low (content_after_node content name
-    children) rest tail (node-same is_callless past-callless content name children ∙ low) fits.2))
-    ∙ sym (append_assoc (flatten children) (exiting name end ∷ flatten rest)
-    (before_definition tail)))
+    let inner = before-low (content_inside content name) children
+    (exiting name end ∷ (flatten rest ++ tail)) ((allowed-facts content name fits.0).callless low).0
+    fits.1 in
+    let later = before-low (content_after_node content name children) rest tail
+    (node-same is_callless past-callless content name children ∙ low) fits.2 in
+    grind (arith, append_assoc, other, inner, later)
 
 -- one event further
 dropped : (events : List Event) (index : ℕ) (event : Event) (following : List Event) →

@@ -1,8 +1,8 @@
 -- The target of a definition takes no more than its nodes may print, and that no more than what is
 -- read in the definition and its events.
-use Rattle.std.proofs.Common.{◌≡◌, ℕ, suc, ◌*◌, ◌≤◌, Bool, true, false, ◌&&◌, List, [], ◌∷◌, ◌++◌}
-use Rattle.std.proofs.Common.{length, map, drop, refl, sym, ap, ◌∙◌, subst, arith, Option, Some}
-use Rattle.std.proofs.Common.{None, bytes_eq, append_assoc, append-nil}
+use Rattle.std.proofs.Common.{◌≡◌, ℕ, suc, ◌*◌, ◌≤◌, Bool, true, ◌&&◌, List, [], ◌∷◌, ◌++◌}
+use Rattle.std.proofs.Common.{length, map, drop, refl, sym, ap, ◌∙◌, subst, arith, Option}
+use Rattle.std.proofs.Common.{bytes_eq, append_assoc, append-nil}
 use Rattle.std.specs.Prelude.{if◌then◌else◌, find, option_map}
 use Rattle.std.specs.Option.{option_map_or}
 use Rattle.md_base.proofs.Lies.{lie}
@@ -158,8 +158,7 @@ definitions-below context around before content (Node name start end children re
 -- the target of the first definition that has an identifier
 suc-at : (m : ℕ) (ms : List ℕ) (place : Option ℕ) →
     length_at (m ∷ ms) (option_map (λ place. suc place) place) ≡ length_at ms place
-suc-at m ms None = refl
-suc-at m ms (Some place) = refl
+suc-at m ms place = grind arith
 
 pub first-below : (times : ℕ) (events : List Event) (definitions : List Defined)
     (entries : List ℕ) (identifier : List ℕ) → AreBelow times events definitions entries →
@@ -171,19 +170,4 @@ pub first-below : (times : ℕ) (events : List Event) (definitions : List Define
 first-below times events [] entries identifier below = omega arith
 first-below times events (defined ∷ definitions) [] identifier below = absurd below
 first-below times events (defined ∷ definitions) (entry ∷ entries) identifier below =
-    let lengths : List ℕ = map (definition_length events) entries in
-    let place : Option ℕ =
-    first_of (map (λ (defined : Defined). defined.identifier) definitions) identifier in
-    elim (bytes_eq defined.identifier identifier) as
-    (λ b. weight (option_map_or (λ (defined : Defined). defined.target)
-    (if b then Some defined
-    else find (λ defined. bytes_eq defined.identifier identifier) definitions)
-    (target_in nothing_found)) ≤ times * length_at (definition_length events entry ∷ lengths)
-    (if b then Some 0 else option_map (λ place. suc place) place)) [
-      | true ↦ below.0
-      | false ↦ omega (
-        arith,
-        first-below times events definitions entries identifier below.1,
-        ap (λ n. times * n) (suc-at (definition_length events entry) lengths place),
-      )
-    ]
+    grind (arith, below, first-below times events definitions entries identifier below.1)

@@ -1,7 +1,7 @@
 -- What some nodes print, and what is kept of their texts, is no longer than what the nodes may
 -- print and what they use.
 use Rattle.std.proofs.Common.{◌≡◌, ℕ, ◌+◌, ◌^◌, ◌≤◌, ◌<◌, Bool, true, false, ◌&&◌, List}
-use Rattle.std.proofs.Common.{length, refl, sym, ap, ◌∙◌, arith, Option, Some, None, unwrap_or}
+use Rattle.std.proofs.Common.{length, refl, ap, arith, Option, None, unwrap_or}
 use Rattle.std.specs.Prelude.{if◌then◌else◌, is_some}
 use Rattle.std.proofs.lemmas.List.{length-append}
 use Rattle.md_base.specs.Children.{is_empty, or_else}
@@ -10,12 +10,11 @@ use Rattle.md_base.specs.Tree.{Forest, Empty, Node}
 use Rattle.md_tree.specs.declared.mention.Referral.TheVariants as referral
 use Rattle.md_tree.specs.Rules.{target_of}
 use Rattle.md_meaning.specs.declared.surroundings.Surroundings.{Surroundings}
-use Rattle.md_meaning.specs.Meaning.At.{Target, Context, At, Before}
+use Rattle.md_meaning.specs.Meaning.At.{Context, At, Before}
 use Rattle.md_meaning.specs.Meaning.Before.{before_children}
 use Rattle.md_meaning.specs.Meaning.Nodes.{Outcome, outcome}
 use Rattle.md_steps.specs.Claim.{inner_of, at_node, node_of, next_before}
 use Rattle.md_steps.specs.Content.{Content, Fits, content_inside, content_after_node}
-use Rattle.md_steps.specs.State.{is_resource}
 use Rattle.md_steps.proofs.ResourceFound.{resource-found}
 use Rattle.md_content.specs.References.{Everywhere}
 use Rattle.md_content.specs.Underlined.{waits_past, waits_after, IsUnderlined}
@@ -41,8 +40,7 @@ AreShort context around before waits forest =
 
 unwrap-else : (later first : Option (List ℕ)) (before : List ℕ) →
     unwrap_or (or_else later first) before ≡ unwrap_or later (unwrap_or first before)
-unwrap-else None first before = refl
-unwrap-else (Some text) first before = refl
+unwrap-else later first before = grind arith
 
 -- the target that is a resource is found
 has_resource : (context : Context) (around : Surroundings) (before : Before) (content : Content)
@@ -50,13 +48,9 @@ has_resource : (context : Context) (around : Surroundings) (before : Before) (co
     target_of children referral.Missing ≡ referral.Resource →
     is_some (outcome context around before children).found.resource ≡ true
 has_resource context around before content children fits is =
-    by (outcome context around before children).found.resource
-    (λ none. sym (resource-found context around before content children fits none referral.Missing
-    refl) ∙ ap is_resource is)
-  where
-    by : (resource : Option Target) → (resource ≡ None → false ≡ true) → is_some resource ≡ true
-    by None none = none refl
-    by (Some target) none = refl
+    let none = λ (none : (outcome context around before children).found.resource ≡ None).
+    resource-found context around before content children fits none referral.Missing refl in
+    grind (arith, none)
 
 pub nodes-short : (context : Context) (around : Surroundings) (before : Before) (waits : Bool)
     (content : Content) (forest : Forest) → length context.ending ≤ 2 →

@@ -1,17 +1,15 @@
 -- What the lengths ask of a document holds of each document of the grammar.
-use Rattle.std.proofs.Common.{◌≡◌, ℕ, ◌≤◌, Bool, true, false, ◌||◌, cond}
-use Rattle.std.proofs.Common.{List, [], ◌∷◌, length, refl, ap, arith, Option, Some}
-use Rattle.std.proofs.Common.{None, lit≤, bytes_eq}
-use Rattle.std.specs.Prelude.{if◌then◌else◌, is_some}
+use Rattle.std.proofs.Common.{◌≡◌, ℕ, ◌≤◌, true}
+use Rattle.std.proofs.Common.{List, [], ◌∷◌, length, arith, Option, Some}
+use Rattle.std.proofs.Common.{None, lit≤}
+use Rattle.std.specs.Prelude.{if◌then◌else◌}
 use Rattle.std.specs.Option.{option_map_or}
 use Rattle.std.proofs.lemmas.Slice.Eq.{bytes_eq-Decides}
-use Rattle.md_base.proofs.Lies.{lie}
 use Rattle.md_base.specs.declared.event.Name.{Name}
 use Rattle.md_base.specs.declared.event.Name.TheVariants as name_variants
 use name_variants.{Link, Image, HeadingAtx, LineEnding, BlankLineEnding}
 use Rattle.md_base.specs.declared.event.Point.{Point}
 use Rattle.md_base.specs.declared.event.Position.{Position}
-use Rattle.md_base.specs.Children.{or_else}
 use Rattle.md_base.specs.NameTests.{is_line_ending as is_ending}
 use Rattle.md_base.specs.Place.{text_between}
 use Rattle.md_base.specs.Tree.{Forest, Empty, Node}
@@ -21,8 +19,6 @@ use Rattle.md_pattern.specs.declared.kinds.Role.{Role}
 use Rattle.md_pattern.specs.Standing.{standing_of}
 use Rattle.md_text.specs.declared.options.CompileOptions.{CompileOptions}
 use Rattle.md_text.specs.declared.line_ending.LineEnding.{LineEnding as Ending}
-use Rattle.md_text.specs.declared.line_ending.LineEnding.TheVariants.{CarriageReturnLineFeed}
-use Rattle.md_text.specs.declared.line_ending.LineEnding.TheVariants.{CarriageReturn, LineFeed}
 use Rattle.md_text.specs.LineEnding.{ending_text}
 use Rattle.md_tree.specs.declared.mention.Referral.{Referral}
 use Rattle.md_tree.specs.declared.mention.Referral.TheVariants as referral
@@ -39,12 +35,12 @@ use Rattle.md_content.proofs.Fitting.{fit}
 use Rattle.md_content.proofs.RanksAndNumbers.{text_fits}
 use Rattle.md_content.proofs.TextsThere.{everywhere}
 use Rattle.md_length.specs.Sound.{IsSound}
+use Rattle.md_length.proofs.Pieces.{either-some}
 
 -- ---- targets and ranks
 media-target : (target : Referral) → broken_by_target target ≡ None →
     target ≡ referral.Missing → ⊥
-media-target referral.Missing e h = cc
-media-target _ e h = cc
+media-target target e h = cc
 
 pub grammatical-sound : (bytes : List ℕ) (names : List (List ℕ × List ℕ)) (document : Forest) →
     IsGrammatical bytes names document → Everywhere IsSound document
@@ -65,27 +61,12 @@ grammatical-sound bytes names document is =
 -- ---- line endings
 ending-few : (text : List ℕ) → is_line_ending text ≡ true → length text ≤ 2
 ending-few text h =
-    by (bytes_eq (13 ∷ 10 ∷ []) text) (bytes_eq (13 ∷ []) text) (bytes_eq (10 ∷ []) text)
-    (λ e. omega (arith, ap length ((bytes_eq-Decides (13 ∷ 10 ∷ []) text).0 e)))
-    (λ e. omega (arith, ap length ((bytes_eq-Decides (13 ∷ []) text).0 e)))
-    (λ e. omega (arith, ap length ((bytes_eq-Decides (10 ∷ []) text).0 e)))
-    (found (bytes_eq (13 ∷ 10 ∷ []) text) (bytes_eq (13 ∷ []) text) (bytes_eq (10 ∷ []) text)
-    _ _ _ h)
-  where
-    found : {A : Type 0} (a b c : Bool) (x y z : A) →
-        is_some (cond a (Some x) (cond b (Some y) (cond c (Some z) None))) ≡ true →
-        (a || (b || c)) ≡ true
-    found true b c x y z h = refl
-    found false true c x y z h = refl
-    found false false true x y z h = refl
-    found false false false x y z h = lie h
-
-    by : (a b c : Bool) → (a ≡ true → length text ≤ 2) → (b ≡ true → length text ≤ 2) →
-        (c ≡ true → length text ≤ 2) → (a || (b || c)) ≡ true → length text ≤ 2
-    by true b c f g i h = f refl
-    by false true c f g i h = g refl
-    by false false true f g i h = i refl
-    by false false false f g i h = lie h
+    grind (
+      arith,
+      (bytes_eq-Decides (13 ∷ 10 ∷ []) text).0,
+      (bytes_eq-Decides (13 ∷ []) text).0,
+      (bytes_eq-Decides (10 ∷ []) text).0,
+    )
 
 -- the text of a line ending has at most two bytes
 abbrev HasShortEnding : List ℕ → Name → Point → Point → Forest → Type 0
@@ -104,33 +85,31 @@ own-ending bytes LineEnding start end children h = h
 own-ending bytes BlankLineEnding start end children h = h
 own-ending bytes _ start end children h = lit≤ tt
 
-either-ending : (bytes : List ℕ) (first later : Option Position) → found_length bytes first ≤ 2 →
-    found_length bytes later ≤ 2 → found_length bytes (or_else first later) ≤ 2
-either-ending bytes None later h k = k
-either-ending bytes (Some found) later h k = h
-
 first-few : (bytes : List ℕ) (forest : Forest) → Everywhere (HasShortEnding bytes) forest →
     found_length bytes (first_ending forest) ≤ 2
 first-few bytes Empty all = lit≤ tt
 first-few bytes (Node name start end children rest) all =
-    let own : Option Position = if is_ending name then Some (place start end) else None in
-    either-ending bytes (first_ending children) (or_else own (first_ending rest))
-    (first-few bytes children all.1)
-    (either-ending bytes own (first_ending rest) (own-ending bytes name start end children all.0)
-    (first-few bytes rest all.2))
+    omega (
+      arith,
+      either-some {A = Position},
+      own-ending bytes name start end children all.0,
+      first-few bytes children all.1,
+      first-few bytes rest all.2,
+    )
 
 default-few : (ending : Ending) → length (ending_text ending) ≤ 2
-default-few CarriageReturnLineFeed = lit≤ tt
-default-few CarriageReturn = lit≤ tt
-default-few LineFeed = lit≤ tt
+default-few ending = grind arith
 
 pub grammatical-ending : (options : CompileOptions) (bytes : List ℕ)
     (names : List (List ℕ × List ℕ)) (document : Forest) → IsGrammatical bytes names document →
     length (ending_at options bytes (first_ending document)) ≤ 2
 grammatical-ending options bytes names document is =
-    by (first_ending document) (first-few bytes document
-    (everywhere bytes names (HasShortEnding bytes) each document role.Flow None
-    (fine bytes names document role.Flow None is.shape.0 is.rules)))
+    grind (
+      arith,
+      default-few options.default_line_ending,
+      first-few bytes document (everywhere bytes names (HasShortEnding bytes) each document
+          role.Flow None (fine bytes names document role.Flow None is.shape.0 is.rules)),
+    )
   where
     each : (around : Role) (before : Option Symbol) (name : Name) (start end : Point)
         (children : Forest) → IsFine bytes names around before name start end children →
@@ -143,8 +122,3 @@ grammatical-ending options bytes names document is =
         text_fits is_line_ending rule.LineEnding (λ text. length text ≤ 2) ending-few
         (text_between bytes start end) here.1
     each around before _ start end children here inside = tt
-
-    by : (found : Option Position) → found_length bytes found ≤ 2 →
-        length (ending_at options bytes found) ≤ 2
-    by None h = default-few options.default_line_ending
-    by (Some found) h = h

@@ -1,16 +1,14 @@
 -- The identifiers of footnote calls are at most twelve times as long as their labels, each of which
 -- is read once.
-use Rattle.std.proofs.Common.{ℕ, ◌+◌, ◌*◌, ◌≤◌, Bool, true, false, List, [], length}
-use Rattle.std.proofs.Common.{arith, Option, Some, None, unwrap_or}
-use Rattle.std.specs.Prelude.{if◌then◌else◌, option_map}
+use Rattle.std.proofs.Common.{ℕ, ◌+◌, ◌*◌, ◌≤◌, Bool, List, [], length}
+use Rattle.std.proofs.Common.{arith, unwrap_or}
+use Rattle.std.specs.Prelude.{if◌then◌else◌}
 use Rattle.md_base.specs.declared.event.Name.{Name}
 use Rattle.md_base.specs.declared.event.Name.TheVariants as name_variants
 use name_variants.{GfmFootnoteCall}
 use Rattle.md_base.specs.declared.event.Point.{Point}
 use Rattle.md_base.specs.declared.event.Position.{Position}
-use Rattle.md_base.specs.Identifier.{normalized}
 use Rattle.md_base.specs.Is.{is}
-use Rattle.md_base.specs.Place.{label_between}
 use Rattle.md_base.specs.Tree.{Forest, Empty, Node}
 use Rattle.md_pattern.specs.Standing.{standing_of}
 use Rattle.md_tree.specs.declared.mention.Referral.{Referral}
@@ -31,12 +29,7 @@ label_span left = elim left [ referral.Label at ↦ span at.start at.end | _ ↦
 identifier-short : (bytes : List ℕ) (label : Position) →
     length (unwrap_or (identifier_at bytes label) []) ≤ 12 * span label.start label.end
 identifier-short bytes label =
-    by (label_between bytes label.start label.end) (label-short bytes label.start label.end)
-  where
-    by : (text : Option (List ℕ)) → length (unwrap_or text []) ≤ span label.start label.end →
-        length (unwrap_or (option_map normalized text) []) ≤ 12 * span label.start label.end
-    by None h = omega arith
-    by (Some text) h = omega (arith, normalized-short text, h)
+    grind (arith, label-short bytes label.start label.end, normalized-short)
 
 -- by what a call refers
 abbrev left_identifier : List ℕ → Referral → List ℕ
@@ -45,9 +38,7 @@ left_identifier bytes left =
 
 referred-short : (bytes : List ℕ) (left : Referral) →
     length (left_identifier bytes left) ≤ 12 * label_span left
-referred-short bytes referral.Missing = omega arith
-referred-short bytes referral.Resource = omega arith
-referred-short bytes (referral.Label at) = identifier-short bytes at
+referred-short bytes left = grind (arith, identifier-short)
 
 -- what a node leaves, of what its children take
 node-left : (bytes : List ℕ) (name : Name) (start end : Point) (children : Forest)
@@ -96,5 +87,4 @@ called-split f fixed times bytes (Node name start end children rest) each =
     own : (b : Bool) (taken long : ℕ) → taken ≤ fixed + times * long →
         (if b then taken else 0)
         ≤ (if b then 1 else 0) * fixed + times * (if b then long else 0)
-    own true taken long h = omega arith
-    own false taken long h = omega arith
+    own b taken long h = grind arith

@@ -5,7 +5,6 @@ use Rattle.std.proofs.Common.{subst, arith, append-nil, Option}
 use Rattle.std.specs.Prelude.{if◌then◌else◌}
 use Rattle.md_base.specs.declared.event.Name.{Name}
 use Rattle.md_base.specs.declared.event.Name.TheVariants.{Link, Image}
-use Rattle.md_base.specs.declared.event.Point.{Point}
 use Rattle.md_base.specs.declared.event.Position.{Position}
 use Rattle.md_base.specs.Tree.{Forest, Empty, Node, flatten}
 use Rattle.md_pattern.specs.Standing.{standing_of}
@@ -44,44 +43,24 @@ led-append : (lengths : List ℕ) (leads : Mention → Option ℕ) (xs ys : List
 led-append lengths leads [] ys = omega arith
 led-append lengths leads (x ∷ xs) ys = omega (arith, led-append lengths leads xs ys)
 
--- what a link or an image refers to takes at most so many times the length of its definition
-abbrev IsLed : Context → ℕ → List ℕ → (Mention → Option ℕ) → Name → Point → Point → Forest → Type 0
-IsLed context times lengths leads name start end children = led context children
-    ≤ times
-    * length_at lengths (leads (mention_of reading.Media (target_of children referral.Missing)))
-
-links-led : (context : Context) (times : ℕ) (lengths : List ℕ) (leads : Mention → Option ℕ)
-    (forest : Forest) → Everywhere (IsLed context times lengths leads) forest →
-    referred context forest ≤ times * resolved_lengths lengths leads (mentions_of forest)
-links-led context times lengths leads Empty each = omega arith
-links-led context times lengths leads (Node name start end children rest) each =
-    let mention : Mention =
-    mention_of (reading_of (standing_of name)) (target_of children referral.Missing) in
-    omega (
-      arith,
-      own name each.0,
-      links-led context times lengths leads children each.1,
-      links-led context times lengths leads rest each.2,
-      ap (λ n. times * n)
-          (led-append lengths leads (mentions_of children) (mention ∷ mentions_of rest)),
-    )
-  where
-    own : (name : Name) → IsLed context times lengths leads name start end children →
-        (if is_media name then led context children else 0) ≤ times * length_at lengths
-        (leads (mention_of (reading_of (standing_of name)) (target_of children referral.Missing)))
-    own Link h = h
-    own Image h = h
-    own _ h = omega arith
+-- what a link or an image with these children refers to takes at most so many times the length of
+-- its definition
+abbrev IsLed : List ℕ → List (List ℕ × List ℕ) → CompileOptions → Forest → Forest → Type 0
+IsLed bytes names options document children =
+    led (given_in options names bytes document) children
+    ≤ half_unit names * length_at (definition_lengths document)
+    (definition_for bytes (mentions_of document)
+    (mention_of reading.Media (target_of children referral.Missing)))
 
 -- the check resolves them to the definitions that the meaning finds
 target-led : (bytes : List ℕ) (names : List (List ℕ × List ℕ)) (options : CompileOptions)
-    (document : Forest) → IsGrammatical bytes names document →
-    (name : Name) (start end : Point) (children : Forest) →
-    ResolvesAlike bytes document name start end children →
-    IsLed (given_in options names bytes document) (half_unit names) (definition_lengths document)
-    (definition_for bytes (mentions_of document)) name start end children
-target-led bytes names options document grammatical name start end children alike =
-    by (target_of children referral.Missing) (λ label e. (alike label e).0)
+    (document : Forest) → IsGrammatical bytes names document → (children : Forest) →
+    ((label : Position) → target_of children referral.Missing ≡ referral.Label label →
+    definition_for bytes (mentions_of document) (Reference label)
+    ≡ first_of (defined_in bytes document) (identifier_of bytes children)) →
+    IsLed bytes names options document children
+target-led bytes names options document grammatical children same =
+    by (target_of children referral.Missing) same
   where
     called : Context
     called = called_in options names bytes document
@@ -117,21 +96,39 @@ target-led bytes names options document grammatical name start end children alik
         (sym (same label refl)) found
     by _ same = omega arith
 
+links-led : (bytes : List ℕ) (names : List (List ℕ × List ℕ)) (options : CompileOptions)
+    (document : Forest) → IsGrammatical bytes names document → (forest : Forest) →
+    Everywhere (ResolvesAlike bytes document) forest →
+    referred (given_in options names bytes document) forest ≤ half_unit names
+    * resolved_lengths (definition_lengths document) (definition_for bytes (mentions_of document))
+    (mentions_of forest)
+links-led bytes names options document is Empty alike = omega arith
+links-led bytes names options document is (Node name start end children rest) alike =
+    let mention : Mention =
+    mention_of (reading_of (standing_of name)) (target_of children referral.Missing) in
+    omega (
+      arith,
+      own name (target-led bytes names options document is children
+          (λ label e. (alike.0 label e).0)),
+      links-led bytes names options document is children alike.1,
+      links-led bytes names options document is rest alike.2,
+      ap (λ n. half_unit names * n) (led-append (definition_lengths document)
+          (definition_for bytes (mentions_of document)) (mentions_of children)
+          (mention ∷ mentions_of rest)),
+    )
+  where
+    own : (name : Name) → IsLed bytes names options document children →
+        (if is_media name then led (given_in options names bytes document) children else 0)
+        ≤ half_unit names * length_at (definition_lengths document)
+        (definition_for bytes (mentions_of document)
+        (mention_of (reading_of (standing_of name)) (target_of children referral.Missing)))
+    own Link h = h
+    own Image h = h
+    own _ h = omega arith
+
 pub referred-short : (options : CompileOptions) (names : List (List ℕ × List ℕ)) (bytes : List ℕ)
     (document : Forest) → IsGrammatical bytes names document →
     referred (given_in options names bytes document) document
     ≤ half_unit names * reused bytes document
 referred-short options names bytes document is =
-    links-led (given_in options names bytes document) (half_unit names)
-    (definition_lengths document) (definition_for bytes (mentions_of document)) document
-    (each document (leads-alike bytes names document is))
-  where
-    each : (forest : Forest) → Everywhere (ResolvesAlike bytes document) forest →
-        Everywhere (IsLed (given_in options names bytes document) (half_unit names)
-        (definition_lengths document) (definition_for bytes (mentions_of document))) forest
-    each Empty alike = tt
-    each (Node name start end children rest) alike = (
-      target-led bytes names options document is name start end children alike.0,
-      each children alike.1,
-      each rest alike.2,
-    )
+    links-led bytes names options document is document (leads-alike bytes names document is)

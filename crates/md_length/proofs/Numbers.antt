@@ -17,18 +17,13 @@ use Rattle.md_meaning.specs.Meaning.Finds.{first_named, in_first_named}
 use Rattle.md_length.specs.Costs.{own, nodes}
 use Rattle.md_length.specs.Lengths.{lengths}
 use Rattle.md_length.specs.Uses.{number_length, numbers}
+use Rattle.md_length.proofs.Pieces.{either-some}
 use Rattle.md_length.proofs.Places.{text-short}
 
 either-long : (f : Position → ℕ) (first later : Option (Option Position)) →
     option_map_or f (unwrap_or (or_else first later) None) 0
     ≤ option_map_or f (unwrap_or first None) 0 + option_map_or f (unwrap_or later None) 0
-either-long f None later = omega arith
-either-long f (Some found) later = omega arith
-
-either-place : (f : Position → ℕ) (first later : Option Position) →
-    option_map_or f (or_else first later) 0 ≤ option_map_or f first 0 + option_map_or f later 0
-either-place f None later = omega arith
-either-place f (Some found) later = omega arith
+either-long f first later = grind arith
 
 abbrev long : List ℕ → Option Position → ℕ
 long bytes found = option_map_or (λ place. length (text_in bytes place)) found 0
@@ -80,7 +75,7 @@ numbers-all bytes (Node name start end children rest) =
       arith,
       numbers-own bytes name start end children _ (numbers-all bytes children),
       numbers-all bytes rest,
-      either-place,
+      either-some {A = Position},
       either-long,
     )
 

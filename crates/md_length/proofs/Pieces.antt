@@ -1,7 +1,9 @@
 -- How long pieces are, where a line ending has at most two bytes.
 use Rattle.std.proofs.Common.{◌≡◌, ℕ, ◌+◌, ◌≤◌, Bool, true, false, List, [], ◌∷◌, ◌++◌, length}
-use Rattle.std.proofs.Common.{arith, Option, unwrap_or}
+use Rattle.std.proofs.Common.{arith, Option, Some, None, unwrap_or}
 use Rattle.std.specs.Prelude.{if◌then◌else◌, max}
+use Rattle.std.specs.Option.{option_map_or}
+use Rattle.md_base.specs.Children.{or_else}
 use Rattle.std.proofs.lemmas.List.{length-append}
 use Rattle.md_meaning.specs.Meaning.Layout.{Piece, Text, Needed, Forced, begins_line, laid_after}
 use Rattle.md_meaning.specs.Meaning.Layout.{layout}
@@ -25,23 +27,25 @@ bytes-append xs ys = length-append xs ys
 -- one of two texts, or of two lists of pieces, is no longer than the longer one
 pub either-length : (b : Bool) (xs ys : List ℕ) →
     length (if b then xs else ys) ≤ max (length xs) (length ys)
-either-length true xs ys = omega arith
-either-length false xs ys = omega arith
+either-length b xs ys = grind arith
 
 pub either-size : (b : Bool) (xs ys : List Piece) →
     size (if b then xs else ys) ≤ max (size xs) (size ys)
-either-size true xs ys = omega arith
-either-size false xs ys = omega arith
+either-size b xs ys = grind arith
 
 pub either-found : (b : Bool) (x y : Option (List ℕ)) →
     length (unwrap_or (if b then x else y) [])
     ≤ max (length (unwrap_or x [])) (length (unwrap_or y []))
-either-found true x y = omega arith
-either-found false x y = omega arith
+either-found b x y = grind arith
 
 pub either-number : (b : Bool) (m n : ℕ) → (if b then m else n) ≤ max m n
-either-number true m n = omega arith
-either-number false m n = omega arith
+either-number b m n = grind arith
+
+-- the first of two options that has a value counts
+pub either-some : {A : Type 0} (f : A → ℕ) (first later : Option A) →
+    option_map_or f (or_else first later) 0
+    ≤ max (option_map_or f first 0) (option_map_or f later 0)
+either-some f first later = grind arith
 
 -- the lengths of what is joined, and of what a test chooses
 pub ruleset sizes = (arith, bytes-append, size-append, either-length, either-size, either-found)

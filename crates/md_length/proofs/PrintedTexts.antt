@@ -8,7 +8,6 @@ use Rattle.std.specs.Fmt.{decimal}
 use Rattle.std.proofs.lemmas.Fmt.{length-decimal-le}
 use Rattle.std.proofs.lemmas.List.{length-drop, length-take}
 use Rattle.md_base.specs.declared.event.AlignKind.{AlignKind}
-use Rattle.md_base.specs.declared.event.AlignKind.TheVariants as align
 use Rattle.md_base.specs.declared.event.Position.{Position}
 use Rattle.md_text.specs.Encode.{encoded}
 use Rattle.md_text.specs.declared.options.CompileOptions.{CompileOptions}
@@ -67,8 +66,7 @@ reference-short context at =
 -- ---- targets
 title-short : (title : Option (List ℕ)) →
     size (title_attribute title) ≤ 9 + option_map_or (λ text. length text) title 0
-title-short None = lit≤ tt
-title-short (Some text) = omega arith
+title-short title = grind arith
 
 pub anchor-short : (options : CompileOptions) (target : Target) (label : List ℕ) →
     size (anchor options target label) ≤ 32 + weight target + length label
@@ -103,8 +101,7 @@ zeros-short (digit ∷ digits) = omega (sizes, zeros-short digits)
 pub number-short : (bytes : List ℕ) (found : Option Position) →
     length (without_zeros (option_map_or (text_in bytes) found (codes "1")))
     ≤ 1 + option_map_or (λ place. length (text_in bytes place)) found 0
-number-short bytes None = zeros-short (codes "1")
-number-short bytes (Some place) = omega (arith, zeros-short (text_in bytes place))
+number-short bytes found = grind (arith, zeros-short)
 
 pub rank-one : (context : Context) (at : At) → length (decimal (underline_rank context at)) ≤ 1
 rank-one context at = elim (is_at 45 context.bytes at.place.start.index) as
@@ -132,15 +129,11 @@ code-short at tag text =
 
 -- ---- cells
 align-short : (kind : AlignKind) → length (align_attribute kind) ≤ 15
-align-short align.None = lit≤ tt
-align-short align.Left = lit≤ tt
-align-short align.Right = lit≤ tt
-align-short align.Center = lit≤ tt
+align-short kind = grind arith
 
 pub cell-short : (in_head : Bool) (text : List ℕ) (found : Option AlignKind) →
     size (option_map_or (λ kind. cell_of in_head text kind) found []) ≤ 32 + length text
-cell-short in_head text None = omega arith
-cell-short in_head text (Some kind) = omega (sizes, align-short kind)
+cell-short in_head text found = grind (arith, align-short)
 
 pub filled-short : (in_head : Bool) (columns : List AlignKind) →
     size (flat_map (cell_of in_head []) columns) ≤ 32 * length columns

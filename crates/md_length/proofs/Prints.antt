@@ -1,23 +1,19 @@
 -- What a node prints beyond what its children print is no longer than a unit, its own text and, of
 -- a few names, what else is used there.
-use Rattle.std.proofs.Common.{ℕ, ◌+◌, ◌*◌, ◌≤◌, ◌||◌, List, [], ◌++◌, length, arith, codes, lit≤}
+use Rattle.std.proofs.Common.{ℕ, ◌+◌, ◌*◌, ◌≤◌, List, [], ◌++◌, length, arith, codes}
 use Rattle.std.specs.Prelude.{slice_get, count_by}
 use Rattle.std.specs.Fmt.{decimal}
 use Rattle.std.proofs.lemmas.List.{length-drop}
-use Rattle.md_base.specs.Children.{spine_names}
 use Rattle.md_base.specs.Is.{is}
 use Rattle.md_base.specs.declared.event.AlignKind.{AlignKind}
 use Rattle.md_base.specs.declared.event.Name.{Name}
 use Rattle.md_base.specs.declared.event.Name.TheVariants as name_variants
 use name_variants.{ListOrdered, HeadingAtx, HeadingSetextUnderlineSequence, Link, Image}
-use name_variants.{GfmTableRow, GfmTableCell, GfmFootnoteCall, CharacterReferenceValue}
+use name_variants.{GfmTableRow, GfmTableCell, GfmFootnoteCall}
 use name_variants.{GfmTaskListItemCheck}
-use name_variants.{CodeFlowChunk, MathFlowChunk, CodeText, MathText, AutolinkEmail}
-use name_variants.{AutolinkProtocol, GfmAutolinkLiteralEmail, GfmAutolinkLiteralMailto}
-use name_variants.{GfmAutolinkLiteralProtocol, GfmAutolinkLiteralWww, GfmAutolinkLiteralXmpp}
 use Rattle.md_text.specs.Encode.{encoded}
 use Rattle.md_base.specs.Place.{serialized_between}
-use Rattle.std.proofs.Common.{unwrap_or, drop, true}
+use Rattle.std.proofs.Common.{unwrap_or, true}
 use Rattle.md_meaning.specs.Meaning.At.{Context, At}
 use Rattle.md_meaning.specs.Meaning.Blocks.{atx_rank}
 use Rattle.md_meaning.specs.Meaning.Finds.{number_in_list}
@@ -31,7 +27,7 @@ use Rattle.md_length.specs.Uses.{weight, number_length}
 use Rattle.md_length.proofs.Pieces.{size, size-append, sizes, layout-short}
 use Rattle.md_length.proofs.Places.{serialized-short}
 use Rattle.md_length.proofs.Texts.{encoded-short}
-use Rattle.md_length.proofs.PrintedTexts.{place-short, escaped-short, raw-short, reference-short}
+use Rattle.md_length.proofs.PrintedTexts.{line_ending-short, escaped-short, raw-short, reference-short}
 use Rattle.md_length.proofs.PrintedTexts.{anchor-short, picture-short, autolink-short, number-short}
 use Rattle.md_length.proofs.PrintedTexts.{rank-one, code-short, cell-short, filled-short}
 
@@ -67,82 +63,40 @@ chunk-short context at =
 
 pub prints-short : (context : Context) (at : At) (inner : List Piece) (name : Name) →
     length context.ending ≤ 2 → IsShort context at inner name
-prints-short context at inner CharacterReferenceValue few =
-    omega (arith, reference-short context at)
-prints-short context at inner CodeFlowChunk few = omega (arith, chunk-short context at)
-prints-short context at inner MathFlowChunk few = omega (arith, chunk-short context at)
-prints-short context at inner AutolinkEmail few =
-    omega (arith, autolink-short context at at.around.in_image (codes "mailto:") (lit≤ tt))
-prints-short context at inner AutolinkProtocol few =
-    omega (arith, autolink-short context at at.around.in_image [] (lit≤ tt))
-prints-short context at inner GfmAutolinkLiteralEmail few =
-    omega (
-      arith,
-      autolink-short context at (at.around.in_image || at.around.in_link)
-          (codes "mailto:") (lit≤ tt),
-    )
-prints-short context at inner GfmAutolinkLiteralWww few =
-    omega (
-      arith,
-      autolink-short context at (at.around.in_image || at.around.in_link)
-          (codes "http://") (lit≤ tt),
-    )
-prints-short context at inner GfmAutolinkLiteralMailto few =
-    omega (arith, autolink-short context at (at.around.in_image || at.around.in_link) [] (lit≤ tt))
-prints-short context at inner GfmAutolinkLiteralProtocol few =
-    omega (arith, autolink-short context at (at.around.in_image || at.around.in_link) [] (lit≤ tt))
-prints-short context at inner GfmAutolinkLiteralXmpp few =
-    omega (arith, autolink-short context at (at.around.in_image || at.around.in_link) [] (lit≤ tt))
-prints-short context at inner ListOrdered few =
-    omega (sizes, number-short context.bytes (number_in_list at.children))
-prints-short context at inner HeadingSetextUnderlineSequence few =
-    omega (sizes, rank-one context at)
-prints-short context at inner CodeText few =
-    omega (
-      arith,
-      code-short at (codes "<code>") (layout context.ending inner),
-      layout-short context.ending inner few,
-    )
-prints-short context at inner MathText few =
-    omega (
-      arith,
-      code-short at (codes "<code class=\"language-math math-inline\">")
-          (layout context.ending inner),
-      layout-short context.ending inner few,
-    )
+prints-short context at inner GfmTaskListItemCheck few =
+    omega (sizes, size-append (task_start context) (inner ++ said (codes "/>")))
 prints-short context at inner Link few =
     omega (
       sizes,
       anchor-short context.options (leads_to context at) (layout context.ending inner),
-      layout-short context.ending inner few,
+      layout-short,
     )
 prints-short context at inner Image few =
     omega (
       sizes,
       picture-short context.options (leads_to context at) (layout context.ending inner),
-      layout-short context.ending inner few,
-    )
-prints-short context at inner GfmTaskListItemCheck few =
-    omega (sizes, size-append (task_start context) (inner ++ said (codes "/>")))
-prints-short context at inner GfmTableRow few =
-    let cells = count_by (is GfmTableCell) (spine_names at.children) in
-    let filled : List AlignKind = drop cells at.before.columns in
-    omega (
-      sizes,
-      filled-short at.around.in_head filled,
-      length-drop cells at.before.columns,
+      layout-short,
     )
 prints-short context at inner GfmTableCell few =
     omega (
       arith,
       cell-short at.around.in_head (layout context.ending inner)
           (slice_get at.before.columns (count_by (is GfmTableCell) at.before.spine)),
-      layout-short context.ending inner few,
+      layout-short,
     )
 prints-short context at inner _ few =
     omega (
       sizes,
       escaped-short context at,
       raw-short context at,
-      place-short context.bytes at.place,
+      reference-short context at,
+      line_ending-short context at,
+      chunk-short context at,
+      number-short context.bytes (number_in_list at.children),
+      rank-one context at,
+      autolink-short,
+      code-short,
+      filled-short,
+      length-drop {A = AlignKind},
+      layout-short,
     )

@@ -1,8 +1,8 @@
 -- The section of footnotes is no longer than its texts and what its calls take.
-use Rattle.std.proofs.Common.{◌≡◌, ℕ, zero, suc, ◌+◌, ◌-◌, ◌*◌, ◌^◌, ◌≤◌, ◌<◌, Bool, true, false}
-use Rattle.std.proofs.Common.{not, List, [], ◌∷◌, length, refl}
-use Rattle.std.proofs.Common.{arith, codes, lit≤, Option, Some, None, bytes_eq}
-use Rattle.std.proofs.Common.{string_bytes, cond}
+use Rattle.std.proofs.Common.{ℕ, zero, suc, ◌+◌, ◌-◌, ◌*◌, ◌^◌, ◌≤◌, ◌<◌, Bool}
+use Rattle.std.proofs.Common.{not, List, [], ◌∷◌, length}
+use Rattle.std.proofs.Common.{arith, codes, lit≤, Option, bytes_eq}
+use Rattle.std.proofs.Common.{string_bytes}
 use Rattle.std.specs.Prelude.{filter, find, String}
 use Rattle.std.specs.declared.alloc.Global.{Global}
 use Rattle.std.specs.Option.{option_map_or}
@@ -59,7 +59,6 @@ item-short context footnotes identifier few =
     let fits = number-few context.calls identifier few in
     let footnote = find (λ footnote. bytes_eq footnote.identifier identifier) footnotes in
     let text : List ℕ = option_map_or (λ footnote. footnote.text) footnote [] in
-    let same_text : length text ≡ first_text footnotes identifier = chosen footnote in
     let count = count_of context.calls identifier in
     let rare : count < 2 ^ 63 = omega (arith, count-few context.calls identifier, few) in
     omega (
@@ -67,14 +66,8 @@ item-short context footnotes identifier few =
       size-append,
       id-short context.options (codes "fn-") identifier number (lit≤ tt) fits,
       body-short text (backreferences context.options identifier number count),
-      same_text,
       backs-short context.options identifier number count fits rare,
     )
-  where
-    chosen : (found : Option Footnote) → length (option_map_or (λ footnote. footnote.text) found [])
-        ≡ option_map_or (λ (footnote : Footnote). length footnote.text) found 0
-    chosen None = refl
-    chosen (Some footnote) = refl
 
 items-short : (context : Context) (footnotes : List Footnote) (identifiers : List (List ℕ)) →
     length context.calls < 2 ^ 63 → size (flat_map (item context footnotes) identifiers)
@@ -95,12 +88,7 @@ items-short context footnotes (identifier ∷ identifiers) few =
 filter-sum : (f : List ℕ → ℕ) (test : List ℕ → Bool) (identifiers : List (List ℕ)) →
     sum_of f (filter test identifiers) ≤ sum_of f identifiers
 filter-sum f test [] = omega arith
-filter-sum f test (identifier ∷ identifiers) = elim (test identifier) as
-    (λ b. sum_of f (cond b (identifier ∷ filter test identifiers) (filter test identifiers))
-    ≤ f identifier + sum_of f identifiers) [
-      | true ↦ omega (arith, filter-sum f test identifiers)
-      | false ↦ omega (arith, filter-sum f test identifiers)
-    ]
+filter-sum f test (identifier ∷ identifiers) = grind (arith, filter-sum f test identifiers)
 
 distinct-sum : (f : List ℕ → ℕ) (calls : List (List ℕ)) →
     sum_of f (distinct calls) ≤ sum_of f calls
@@ -115,8 +103,7 @@ distinct-sum f (call ∷ calls) =
 attributes-short : (attributes : Option (String Global)) →
     length (option_map_or string_bytes attributes (codes "class=\"sr-only\""))
     ≤ 16 + option_length attributes
-attributes-short None = lit≤ tt
-attributes-short (Some set) = omega arith
+attributes-short attributes = grind arith
 
 start-short : (options : CompileOptions) →
     size (section_start options) ≤ for_document options - 32

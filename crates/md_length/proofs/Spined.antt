@@ -3,7 +3,6 @@ use Rattle.std.proofs.Common.{◌≡◌, ℕ, ◌+◌, Bool, true, false, ◌&&�
 use Rattle.std.proofs.Common.{ap, ◌∙◌, subst, arith}
 use Rattle.std.specs.Prelude.{if◌then◌else◌}
 use Rattle.std.specs.List.{list_all}
-use Rattle.std.proofs.lemmas.Bool.{and_parts}
 use Rattle.md_base.proofs.Lies.{lie}
 use Rattle.md_pattern.specs.declared.kinds.Class.TheVariants.{Only}
 use Rattle.md_pattern.specs.declared.kinds.Item.{Item}
@@ -51,9 +50,7 @@ for_rows-append amount (x ∷ xs) ys = omega (arith, for_rows-append amount xs y
 no-rows : (amount : ℕ) (symbols : List Symbol) → list_all after_row symbols ≡ true →
     for_rows amount symbols ≡ 0
 no-rows amount [] h = refl
-no-rows amount (symbol.TableRow ∷ symbols) h = lie h
-no-rows amount (seen ∷ symbols) h =
-    omega (arith, no-rows amount symbols (and_parts (after_row seen) _ h).1)
+no-rows amount (seen ∷ symbols) h = grind (arith, no-rows amount symbols)
 
 -- these symbols begin no group
 tails : (test : Symbol → Bool) → test symbol.ReferenceMarker ≡ false →

@@ -1,7 +1,7 @@
 -- Sums over identifiers that come once each.
-use Rattle.std.proofs.Common.{◌≡◌, ℕ, ◌+◌, ◌*◌, ◌≤◌, Bool, true, false}
-use Rattle.std.proofs.Common.{List, [], ◌∷◌, length, refl, sym, ap, ◌∙◌}
-use Rattle.std.proofs.Common.{arith, Some, bytes_eq}
+use Rattle.std.proofs.Common.{◌≡◌, ℕ, ◌+◌, ◌*◌, ◌≤◌, false}
+use Rattle.std.proofs.Common.{List, [], ◌∷◌, length, refl}
+use Rattle.std.proofs.Common.{arith, bytes_eq}
 use Rattle.std.specs.Prelude.{if◌then◌else◌, find}
 use Rattle.std.specs.Option.{option_map_or}
 use Rattle.std.proofs.lemmas.Bool.{or_parts}
@@ -21,27 +21,24 @@ none-there : (wanted : List ℕ) (amount : ℕ) (identifiers : List (List ℕ)) 
     is_in wanted identifiers ≡ false → of_one wanted amount identifiers ≡ 0
 none-there wanted amount [] out = refl
 none-there wanted amount (identifier ∷ identifiers) out =
-    let parts = or_parts (bytes_eq identifier wanted) (is_in wanted identifiers) out in
-    omega (
+    grind (
       arith,
-      ap (λ b. if b then amount else 0)
-          (bytes_eq-sym wanted identifier ∙ parts.0),
-      none-there wanted amount identifiers parts.1,
+      or_parts (bytes_eq identifier wanted) (is_in wanted identifiers) out,
+      bytes_eq-sym wanted identifier,
+      none-there wanted amount identifiers,
     )
 
 once : (wanted : List ℕ) (amount : ℕ) (identifiers : List (List ℕ)) → Apart identifiers →
     of_one wanted amount identifiers ≤ amount
 once wanted amount [] apart = omega arith
 once wanted amount (identifier ∷ identifiers) apart =
-    elim (bytes_eq wanted identifier) as (λ b. bytes_eq wanted identifier ≡ b →
-    (if b then amount else 0) + of_one wanted amount identifiers ≤ amount) [
-      | true ↦ λ e. omega (
-        arith,
-        none-there wanted amount identifiers
-            (ap (λ w. is_in w identifiers) (same wanted identifier e) ∙ apart.0),
-      )
-      | false ↦ λ e. omega (arith, once wanted amount identifiers apart.1)
-    ] refl
+    grind (
+      arith,
+      apart,
+      same wanted identifier,
+      none-there wanted amount identifiers,
+      once wanted amount identifiers apart.1,
+    )
 
 sum-add : (f g : List ℕ → ℕ) (identifiers : List (List ℕ)) →
     sum_of (λ identifier. f identifier + g identifier) identifiers
@@ -87,19 +84,13 @@ counted f identifiers (call ∷ calls) apart =
     one-more call (f call) (sum_of f calls)
     (λ identifier. count_of (call ∷ calls) identifier * f identifier)
     (λ identifier. count_of calls identifier * f identifier) identifiers apart
-    (λ identifier. by (bytes_eq call identifier) (count_of calls identifier) (f identifier) (f call)
-    (λ h. ap f (sym (same call identifier h))))
+    (λ identifier. grind (arith, same call identifier))
     (counted f identifiers calls apart)
-  where
-    by : (b : Bool) (n own other : ℕ) → (b ≡ true → own ≡ other) →
-        ((if b then 1 else 0) + n) * own ≤ (if b then other else 0) + n * own
-    by true n own other e = omega (arith, e refl)
-    by false n own other e = omega arith
 
 -- the texts of the first footnotes with these identifiers
 abbrev pub first_text : List Footnote → List ℕ → ℕ
-first_text footnotes identifier = option_map_or (λ (footnote : Footnote). length footnote.text)
-    (find (λ footnote. bytes_eq footnote.identifier identifier) footnotes) 0
+first_text footnotes identifier = length (option_map_or (λ (footnote : Footnote). footnote.text)
+    (find (λ footnote. bytes_eq footnote.identifier identifier) footnotes) [])
 
 pub texts-once : (footnotes : List Footnote) (identifiers : List (List ℕ)) → Apart identifiers →
     sum_of (first_text footnotes) identifiers ≤ notes footnotes
@@ -113,11 +104,4 @@ texts-once (footnote ∷ footnotes) identifiers apart =
     each : (identifier : List ℕ) → first_text (footnote ∷ footnotes) identifier
         ≤ (if bytes_eq footnote.identifier identifier then length footnote.text else 0)
         + first_text footnotes identifier
-    each identifier = elim (bytes_eq footnote.identifier identifier) as
-        (λ b. option_map_or (λ (footnote : Footnote). length footnote.text)
-        (if b then Some footnote
-        else find (λ footnote. bytes_eq footnote.identifier identifier) footnotes) 0
-        ≤ (if b then length footnote.text else 0) + first_text footnotes identifier) [
-          | true ↦ omega arith
-          | false ↦ omega arith
-        ]
+    each identifier = grind arith

@@ -130,8 +130,7 @@ paid amount [] = 0
 paid amount (seen ∷ symbols) = amount
 
 paid-most : (amount : ℕ) (symbols : List Symbol) → paid amount symbols ≤ amount
-paid-most amount [] = omega arith
-paid-most amount (seen ∷ symbols) = omega arith
+paid-most amount symbols = grind arith
 
 -- with the first symbols nothing has come, or the head, and then only what comes after it follows
 abbrev Comes : List Symbol → List Symbol → Type 0

@@ -1,6 +1,6 @@
 -- How long the texts are that are printed of what is read: escaped, as URLs, and as identifiers.
 use Rattle.std.proofs.Common.{inl, inr, ℕ, zero, suc, ◌+◌, ◌-◌, ◌*◌, ◌/◌, ◌%◌, ◌≤◌}
-use Rattle.std.proofs.Common.{Bool, true, false, cond, List, [], ◌∷◌}
+use Rattle.std.proofs.Common.{Bool, true, false, List, [], ◌∷◌}
 use Rattle.std.proofs.Common.{length, refl, ap, arith, lit≤}
 use Rattle.std.proofs.Common.{filter}
 use Rattle.std.specs.Prelude.{if◌then◌else◌, encode_utf8, encode_utf8_all}
@@ -101,12 +101,7 @@ filter-total : (test : List ℕ → Bool) (texts : List (List ℕ)) → total (f
     texts
 unfolding total
 filter-total test [] = lit≤ tt
-filter-total test (text ∷ texts) = elim (test text) as
-    (λ b. total (cond b (text ∷ filter test texts) (filter test texts))
-    ≤ suc (length text) + total texts) [
-      | true ↦ omega (arith, filter-total test texts)
-      | false ↦ omega (arith, filter-total test texts)
-    ]
+filter-total test (text ∷ texts) = grind (arith, filter-total test texts)
 
 onto-total : (b : ℕ) (texts : List (List ℕ)) → 1 ≤ total texts →
     (total (onto_first b texts) ≤ suc (total texts)) × (1 ≤ total (onto_first b texts))
@@ -121,13 +116,7 @@ split-total test [] = (lit≤ tt, lit≤ tt)
 split-total test (b ∷ text) =
     let later = split-total test text in
     let onto = onto-total b (slice_split test text) later.1 in
-    elim (test b) as (λ s. (total (cond s ([] ∷ slice_split test text)
-    (onto_first b (slice_split test text))) ≤ suc (suc (length text)))
-    × (1 ≤ total (cond s ([] ∷ slice_split test text)
-    (onto_first b (slice_split test text))))) [
-      | true ↦ (omega (arith, later), omega arith)
-      | false ↦ (omega (arith, later, onto), onto.1)
-    ]
+    grind (arith, later, onto)
 
 collapsed-short : (text : List ℕ) → length (collapsed text) ≤ length text
 collapsed-short text =
