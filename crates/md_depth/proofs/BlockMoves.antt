@@ -23,8 +23,7 @@ use Rattle.md_text.proofs.HtmlAngles.{all-append}
 use Rattle.md_meaning.specs.Meaning.At.{At, text_in}
 use Rattle.md_meaning.specs.Meaning.Inherited.{is_tight}
 use Rattle.md_meaning.specs.Meaning.Finds.{number_in_list}
-use Rattle.md_meaning.specs.Meaning.Layout.{Piece, Text, Needed, layout, said, on_own_line}
-use Rattle.md_meaning.specs.Meaning.Layout.{when}
+use Rattle.md_meaning.specs.Meaning.Layout.{Piece, Text, layout, said}
 use Rattle.md_meaning.specs.Meaning.Means.{prints}
 use Rattle.md_meaning.specs.Meaning.Blocks.{without_zeros, ends_in_line, heading_tag}
 use Rattle.md_meaning.specs.Meaning.Blocks.{heading, atx_rank, underline_rank, code_end, runs_out}
@@ -43,7 +42,7 @@ use Rattle.md_depth.proofs.Machine.{Leads, ◌▹◌, leads-open, leads-close, l
 use Rattle.md_depth.proofs.Moves as moves
 use Rattle.md_depth.proofs.Moves.{Moves, ◌▸◌, none, needed, forced, adds-quiet, more, laid, plain}
 use Rattle.md_depth.proofs.Moves.{part, IsOpening, IsClosing, open_tag, close_tag, void_tag, kept}
-use Rattle.md_depth.proofs.Moves.{open_line, close_line, when_needed, when_forced}
+use Rattle.md_depth.proofs.Moves.{open_line, close_line, choose}
 use Rattle.md_depth.proofs.SpanMoves.{Room, Below}
 
 -- ---- headings
@@ -76,17 +75,6 @@ digits_of : (bytes : List ℕ) (found : Option Position) →
 digits_of bytes None fits = refl
 digits_of bytes (Some place) fits = fits
 
-start-moves : {e : List ℕ} {n a : ℕ} (number : List ℕ) → Escaped number → (one : Bool) →
-    Moves e n a a (when (not one) (Text (codes " start=\"") ∷ Text number ∷ Text (codes "\"") ∷ []))
-start-moves number h true = none
-start-moves number h false =
-    part (codes " start=\"") refl ▸ plain number h ▸ part (codes "\"") refl
-
-item-end : {e : List ℕ} {n : ℕ} → Escaped e → (holds : Bool) →
-    Moves e n 1 1 (cond holds [] (Needed ∷ []))
-item-end h true = none
-item-end h false = needed h
-
 -- ---- code
 
 info-quiet : (tag x : List ℕ) → IsInfo tag x → list_all no_angle x ≡ true
@@ -109,7 +97,7 @@ code-closes =
 
 end-moves : {e : List ℕ} {n : ℕ} (t : At) → Escaped e → Moves e n 2 0 (code_end t)
 end-moves t h =
-    when_needed h (list_any is_chunk (spine_names t.children)) ▸ code-closes
+    choose (list_any is_chunk (spine_names t.children)) (needed h) none ▸ code-closes
 
 fenced-moves : (s : Setting) (t : At) (n : ℕ) → suc 1 ≤ n → (tag second : List ℕ) →
     tag ≡ codes "<pre>" ++ second → IsOpening second → (inner : List Piece) →
@@ -123,8 +111,8 @@ fenced-moves s t n room tag second is opens inner a =
     (escaped-angle raw.body raw.escaped))) a) in
     let first : Moves e n 0 2 (Text tag ∷ []) =
     subst (λ tag. Moves e n 0 2 (Text tag ∷ [])) (sym is) (code-opens room second opens) in
-    (needed s.ending ▸ first) ▸ inside ▸ when_forced s.ending (runs_out t)
-    ▸ end-moves t s.ending ▸ when_needed s.ending (is_unclosed t)
+    (needed s.ending ▸ first) ▸ inside ▸ choose (runs_out t) (forced s.ending) none
+    ▸ end-moves t s.ending ▸ choose (is_unclosed t) (needed s.ending) none
 
 -- ---- blocks with tags or raw text
 
@@ -143,7 +131,8 @@ flow-moves s t m n room ListOrdered is fit head inner a below =
     let number : Escaped (without_zeros first) =
     zeros-escaped first (digits_of s.context.bytes (number_in_list t.children) fit) in
     open_line (codes "<ol") s.ending (λ l t. refl) (omega arith)
-    ▸ start-moves (without_zeros first) number (bytes_eq (without_zeros first) (codes "1"))
+    ▸ choose (not (bytes_eq (without_zeros first) (codes "1"))) (part (codes " start=\"") refl
+    ▸ plain (without_zeros first) number ▸ part (codes "\"") refl) none
     ▸ part (codes ">") refl ▸ more (omega arith) (below refl)
     ▸ forced s.ending ▸ close_tag (codes "</ol>") (λ l t. refl)
 flow-moves s t m n room ListUnordered is fit head inner a below =
@@ -153,19 +142,11 @@ flow-moves s t m n room ListUnordered is fit head inner a below =
 flow-moves s t m n room ListItem is fit head inner a below =
     open_line (codes "<li>") s.ending (λ l t. refl) (omega arith)
     ▸ more (omega arith) (below refl)
-    ▸ item-end s.ending (ends_in_line t) ▸ close_tag (codes "</li>") (λ l t. refl)
-flow-moves s t m n room Paragraph is fit head inner a below = by (is_tight t.around.container)
-  where
-    e : List ℕ
-    e = s.context.ending
-
-    by : (tight : Bool) → Moves e n 0 0
-        (cond tight inner (on_own_line (codes "<p>") ++ (inner ++ said (codes "</p>"))))
-    by true = more (omega arith) (below refl)
-    by false =
-        open_line (codes "<p>") s.ending (λ l t. refl) (omega arith)
-        ▸ more (omega arith) (below refl)
-        ▸ close_tag (codes "</p>") (λ l t. refl)
+    ▸ choose (ends_in_line t) none (needed s.ending) ▸ close_tag (codes "</li>") (λ l t. refl)
+flow-moves s t m n room Paragraph is fit head inner a below =
+    choose (is_tight t.around.container) (more (omega arith) (below refl))
+    (open_line (codes "<p>") s.ending (λ l t. refl) (omega arith)
+    ▸ more (omega arith) (below refl) ▸ close_tag (codes "</p>") (λ l t. refl))
 flow-moves s t m n room ThematicBreak is fit head inner a below =
     needed s.ending
     ▸ void_tag (codes "<hr />") (λ l t. refl) (omega arith)

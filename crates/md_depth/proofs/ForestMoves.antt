@@ -2,9 +2,9 @@
 -- nodes: one induction over them. Other contents are known to open none.
 use Rattle.std.proofs.Common.{◌≡◌, ℕ, ◌-◌, ◌*◌, ◌≤◌, suc, max, Bool, true, false, ◌||◌}
 use Rattle.std.proofs.Common.{cond, List, [], ◌∷◌, ◌++◌, refl, sym, ap, ◌∙◌, subst, arith}
-use Rattle.std.proofs.Common.{append-nil}
+use Rattle.std.proofs.Common.{append-nil, inl, inr}
 use Rattle.std.specs.Prelude.{Option, Some, None, unwrap_or}
-use Rattle.std.proofs.lemmas.Bool.{cond_both}
+use Rattle.std.proofs.lemmas.Bool.{cond_both, cases_Bool}
 use Rattle.md_base.proofs.Lies.{lie}
 use Rattle.md_base.specs.declared.event.Name.{Name}
 use Rattle.md_base.specs.declared.event.Name.TheVariants as name_variants
@@ -187,8 +187,20 @@ opens d (Node name start end children rest) around before n f =
       waits = waits;
       room = room;
     }) in
-    let one : Opens d n here = by (is_transparent name) refl p n f.room f.built f.ready f.waits
-    known below in
+    let kind = λ (b : Bool). is_blocks (cond b Blocks (content_of name Blocks)) in
+    let one : Opens d n here = elim (cases_Bool (is_transparent name)) [
+      | inl e ↦
+          let same : (inner_before p name).heading ≡ before.heading =
+          ap (λ b. cond b before.heading []) e in
+          through d p name n e (below n (omega (arith, f.room))
+          (subst (Waits n) (sym same) f.waits) (ap kind e))
+      | inr e ↦
+          let same : (inner_before p name).heading ≡ [] = ap (λ b. cond b before.heading []) e in
+          let none : Waits (n - 2) [] = leads-quiet [] refl in
+          solid d p name n e (omega (arith, f.room)) f.built f.ready f.waits known
+          (λ is. below (n - 2) (omega (arith, f.room)) (subst (Waits (n - 2)) (sym same) none)
+          (ap kind e ∙ is))
+    ] in
     let later : Opens d n others = opens d rest around next n (record {
       built = subst (λ c. IsBuilt d.context.bytes c rest) (after-blocks name children) f.built.3;
       ready = subst (Ready (read_in d) around next) (after-blocks name children)
@@ -204,26 +216,3 @@ opens d (Node name start end children rest) around before n f =
   where
     least : (a b n : ℕ) → 2 * max (suc a) b ≤ n → 2 * b ≤ n
     least a b n room = omega arith
-
-    by : (through_it : Bool) → is_transparent name ≡ through_it → (p : Place) (n : ℕ) →
-        2 * max (suc (height p.children)) (height p.rest) ≤ n →
-        IsBuilt d.context.bytes Blocks (Node name p.start p.end p.children p.rest) →
-        Ready (read_in d) p.around p.before Blocks → Waits n p.before.heading → Means (read_in d)
-        (inner_around d p name) (content_inside Blocks name) p.children (inner_of d p name) → ((k :
-        ℕ) → 2 * height p.children ≤ k → Waits k (inner_before p name).heading → is_blocks
-        (content_inside Blocks name) ≡ true → Opens d k (inner_of d p name)) →
-        Opens d n (here_of d p name)
-    by true e p n room built ready waits known below =
-        let same : (inner_before p name).heading ≡ p.before.heading = ap
-        (λ b. cond b p.before.heading []) e in
-        let blocks : is_blocks (content_inside Blocks name) ≡ true = ap
-        (λ b. is_blocks (cond b Blocks (content_of name Blocks))) e in
-        through d p name n e (below n (omega arith) (subst (Waits n) (sym same) waits)
-        blocks)
-    by false e p n room built ready waits known below =
-        let same : (inner_before p name).heading ≡ [] = ap (λ b. cond b p.before.heading []) e in
-        let inside : is_blocks (content_inside Blocks name) ≡ is_blocks (content_of name Blocks) =
-        ap (λ b. is_blocks (cond b Blocks (content_of name Blocks))) e in
-        let none : Waits (n - 2) [] = leads-quiet [] refl in
-        solid d p name n e (omega arith) built ready waits known (λ is. below (n - 2)
-        (omega arith) (subst (Waits (n - 2)) (sym same) none) (inside ∙ is))

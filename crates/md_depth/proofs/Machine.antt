@@ -98,6 +98,12 @@ pub ◌▹◌ : {a b c n : ℕ} {x y : List ℕ} → Leads a b n x → Leads b c
       run-append (at (l + a) t) x y ∙ ap (λ s. run s y) (f.leads l t few) ∙ g.leads l t few;
 }
 
+-- one or the other
+pub leads-either : {a b n : ℕ} (test : Bool) {x y : List ℕ} → Leads a b n x → Leads a b n y →
+    Leads a b n (cond test x y)
+leads-either true f g = f
+leads-either false f g = g
+
 -- a start tag, as each computes
 pub leads-open : {a n : ℕ} (x : List ℕ) →
     ((l t : ℕ) → run (at l t) x ≡ at (suc l) (max t (suc l))) → suc a ≤ n → Leads a (suc a) n x

@@ -4,7 +4,7 @@ use Rattle.std.proofs.Common.{◌≡◌, ℕ, ◌+◌, ◌≤◌, suc, max, Bool
 use Rattle.std.proofs.Common.{◌∷◌, ◌++◌, refl, ap, sym, ◌∙◌, arith}
 use Rattle.md_text.proofs.HtmlNames.{no_angle, escaped-angle}
 use Rattle.md_meaning.specs.Meaning.Layout.{Piece, Text, Needed, Forced, begins_line, laid_after}
-use Rattle.md_meaning.specs.Meaning.Layout.{layout, on_own_line, when}
+use Rattle.md_meaning.specs.Meaning.Layout.{layout, on_own_line}
 use Rattle.md_safe.proofs.Texts.{Escaped}
 use Rattle.md_safe.proofs.Laid.{Adds, adds-weaker, laid-append}
 use Rattle.md_depth.proofs.Machine.{State, at, run, run-append, quiet, Leads, leads-quiet}
@@ -49,6 +49,12 @@ needed {e} {n} {a} h = record {
     by s text l t true before = before
     by s text l t false before =
         run-append s text e ∙ ap (λ s. run s e) before ∙ quiet e (escaped-angle e h) (l + a) t
+
+-- one or the other
+pub choose : {e : List ℕ} {n a b : ℕ} (test : Bool) {xs ys : List Piece} → Moves e n a b xs →
+    Moves e n a b ys → Moves e n a b (cond test xs ys)
+choose true f g = f
+choose false f g = g
 
 -- pieces that add a text without `<`
 pub adds-quiet : {e : List ℕ} {n a : ℕ} (pieces : List Piece) →
@@ -124,13 +130,3 @@ open_line x h computes fits = needed h ▸ open_tag x computes fits
 pub close_line : {e : List ℕ} {n a : ℕ} (x : List ℕ) → Escaped e → IsClosing x →
     Moves e n (suc a) a (on_own_line x)
 close_line x h computes = needed h ▸ close_tag x computes
-
-pub when_needed : {e : List ℕ} {n a : ℕ} → Escaped e → (holds : Bool) →
-    Moves e n a a (when holds (Needed ∷ []))
-when_needed h true = needed h
-when_needed h false = none
-
-pub when_forced : {e : List ℕ} {n a : ℕ} → Escaped e → (holds : Bool) →
-    Moves e n a a (when holds (Forced ∷ []))
-when_forced h true = forced h
-when_forced h false = none

@@ -12,7 +12,7 @@ use Rattle.std.proofs.lemmas.Slice.Eq.{bytes_eq-Decides}
 use Rattle.md_text.specs.declared.options.CompileOptions.{CompileOptions}
 use Rattle.md_text.proofs.EncodeLaws.{is_escaped-encoded}
 use Rattle.md_meaning.specs.Meaning.At.{Footnote, Context}
-use Rattle.md_meaning.specs.Meaning.Layout.{Piece, Text, Needed, Forced}
+use Rattle.md_meaning.specs.Meaning.Layout.{Piece, Text, Needed}
 use Rattle.md_meaning.specs.Meaning.Footnotes.{option_or, id_of, call_id, backreference}
 use Rattle.md_meaning.specs.Meaning.Footnotes.{backreferences, unended_length, body, item}
 use Rattle.md_meaning.specs.Meaning.Footnotes.{section_start, section, distinct, place_among}
@@ -22,12 +22,12 @@ use Rattle.md_safe.proofs.Texts.{Escaped, decimal-escaped}
 use Rattle.md_safe.proofs.Calls.{label-escaped, id-escaped, call_id-escaped}
 use Rattle.md_safe.proofs.Section.{heading_label_of, text_among}
 use Rattle.md_text.proofs.HtmlNames.{escaped-angle}
-use Rattle.md_depth.proofs.Machine.{Leads, ◌▹◌, leads-quiet, leads-open, leads-close}
+use Rattle.md_depth.proofs.Machine.{Leads, ◌▹◌, leads-either, leads-quiet, leads-open, leads-close}
 use Rattle.md_depth.proofs.Machine.{run}
 use Rattle.md_depth.proofs.Moves as moves
 use Rattle.md_depth.proofs.Moves.{Moves, ◌▸◌, none, needed, forced, plain, part, open_tag}
 use Rattle.md_depth.proofs.Moves.{close_tag}
-use Rattle.md_depth.proofs.Moves.{close_line, kept}
+use Rattle.md_depth.proofs.Moves.{close_line, kept, choose}
 use Rattle.md_depth.proofs.Insertion.{leads-put}
 use Rattle.md_depth.proofs.ForestMoves.{TextsLead}
 
@@ -42,15 +42,6 @@ back-escaped options = by (option_map string_bytes options.gfm_footnote_back_lab
     by None = refl
     by (Some x) = is_escaped-encoded x
 
-which-leads : (occurrence : ℕ) (one : Bool) →
-    Leads 1 1 2 (cond one [] (codes "<sup>" ++ (decimal occurrence ++ codes "</sup>")))
-which-leads occurrence true = leads-quiet [] refl
-which-leads occurrence false =
-    leads-open (codes "<sup>") (λ l t. refl) (omega arith)
-    ▹ leads-quiet (decimal occurrence)
-    (escaped-angle (decimal occurrence) (decimal-escaped occurrence))
-    ▹ leads-close (codes "</sup>") (λ l t. refl)
-
 back-leads : (options : CompileOptions) (identifier : List ℕ) (number occurrence : ℕ) →
     Leads 0 0 2 (backreference options identifier number occurrence)
 back-leads options identifier number occurrence =
@@ -63,18 +54,20 @@ back-leads options identifier number occurrence =
     ▹ leads-quiet label (escaped-angle label (back-escaped options))
     ▹ leads-quiet (codes "\" class=\"data-footnote-backref\">") refl
     ▹ leads-quiet (226 ∷ 134 ∷ 169 ∷ []) refl
-    ▹ which-leads occurrence (occurrence == 1) ▹ leads-close (codes "</a>") (λ l t. refl)
+    ▹ leads-either (occurrence == 1) (leads-quiet [] refl)
+    (leads-open (codes "<sup>") (λ l t. refl) (omega arith)
+    ▹ leads-quiet (decimal occurrence)
+    (escaped-angle (decimal occurrence) (decimal-escaped occurrence))
+    ▹ leads-close (codes "</sup>") (λ l t. refl))
+    ▹ leads-close (codes "</a>") (λ l t. refl)
 
 backs-lead : (options : CompileOptions) (identifier : List ℕ) (number count : ℕ) →
     Leads 0 0 2 (backreferences options identifier number count)
 backs-lead options identifier number zero = leads-quiet [] refl
 backs-lead options identifier number (suc count) =
-    backs-lead options identifier number count ▹ between (count == 0)
+    backs-lead options identifier number count
+    ▹ leads-either (count == 0) (leads-quiet [] refl) (leads-quiet (codes " ") refl)
     ▹ back-leads options identifier number (suc count)
-  where
-    between : (first : Bool) → Leads 0 0 2 (cond first [] (codes " "))
-    between true = leads-quiet [] refl
-    between false = leads-quiet (codes " ") refl
 
 -- ---- a footnote's text with the ways back
 
@@ -223,18 +216,8 @@ pub section-moves : (e : List ℕ) (n k : ℕ) → Escaped e → (context : Cont
     context.options.gfm_footnote_label_attributes ≡ None → (footnotes : List Footnote) →
     TextsLead k footnotes → k + 5 ≤ n → Moves e n 0 0 (section context footnotes)
 section-moves e n k h context no_tag no_attributes footnotes f room =
-    by (not (length context.calls == 0))
-  where
-    items : List Piece
-    items = flat_map (item context footnotes) (distinct context.calls)
-
-    by : (some : Bool) → Moves e n 0 0 (cond some (section_start context.options
-        ++ (flat_map (item context footnotes) (distinct context.calls) ++
-        (Forced ∷ Text (codes "</ol>")
-        ∷ Forced ∷ Text (codes "</section>") ∷ Forced ∷ []))) [])
-    by true =
-        start-moves e n (omega arith) h context.options no_tag no_attributes
-        ▸ items-move e n 2 k h context footnotes f (omega arith) (distinct context.calls)
-        ▸ forced h ▸ close_tag (codes "</ol>") (λ l t. refl) ▸ forced h
-        ▸ close_tag (codes "</section>") (λ l t. refl) ▸ forced h
-    by false = none
+    choose (not (length context.calls == 0))
+    (start-moves e n (omega arith) h context.options no_tag no_attributes
+    ▸ items-move e n 2 k h context footnotes f (omega arith) (distinct context.calls)
+    ▸ forced h ▸ close_tag (codes "</ol>") (λ l t. refl) ▸ forced h
+    ▸ close_tag (codes "</section>") (λ l t. refl) ▸ forced h) none

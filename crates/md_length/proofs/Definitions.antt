@@ -10,8 +10,6 @@ use Rattle.md_base.specs.declared.event.Event.{Event}
 use Rattle.md_base.specs.declared.event.Name.{Name}
 use Rattle.md_base.specs.declared.event.Name.TheVariants as name_variants
 use name_variants.{Definition, Resource}
-use name_variants.{BlockQuotePrefix, SpaceOrTab}
-use name_variants.{Other}
 use Rattle.md_base.specs.Is.{is}
 use Rattle.md_base.specs.Children.{is_empty}
 use Rattle.md_base.specs.NameTests.{is_transparent, is_link_definition}
@@ -46,10 +44,7 @@ source-kept : (at : At) (name : Name) (text : List ℕ) (spent : ℕ) → is_pla
     6 * length text ≤ spent → (is_transparent name ≡ true → kept at.found ≤ spent) →
     kept (found_at at name text) ≤ spent
 source-kept at Resource text spent is few clear = lie is
-source-kept at BlockQuotePrefix text spent is few clear = clear refl
-source-kept at SpaceOrTab text spent is few clear = clear refl
-source-kept at (Other number) text spent is few clear = clear refl
-source-kept at _ text spent is few clear = omega arith
+source-kept at _ text spent is few clear = grind (arith, clear)
 
 sources-short : (context : Context) (around : Surroundings) (before : Before) (content : Content)
     (forest : Forest) →

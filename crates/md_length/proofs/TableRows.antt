@@ -8,13 +8,12 @@ use Rattle.std.proofs.Math.Nat.{add-zero}
 use Rattle.std.proofs.lemmas.Bool.{and_parts, and_from}
 use Rattle.std.proofs.lemmas.List.{length-append}
 use Rattle.std.proofs.lemmas.List.Folds.{list_all-append}
-use Rattle.md_base.proofs.Lies.{lie}
 use Rattle.md_base.specs.declared.event.AlignKind.{AlignKind}
 use Rattle.md_base.specs.declared.event.Event.{Event}
 use Rattle.md_base.specs.declared.event.Name.{Name}
 use Rattle.md_base.specs.declared.event.Name.TheVariants as name_variants
-use name_variants.{GfmTableRow, GfmTableHead, GfmTableBody, LineEnding, BlockQuotePrefix}
-use name_variants.{SpaceOrTab, Other, GfmTableDelimiterRow, GfmTableDelimiterCellValue}
+use name_variants.{GfmTableRow, GfmTableHead, LineEnding}
+use name_variants.{SpaceOrTab, GfmTableDelimiterRow, GfmTableDelimiterCellValue}
 use Rattle.md_base.specs.Is.{is}
 use Rattle.md_base.specs.NameTests.{leads_to_values}
 use Rattle.md_base.specs.Tree.{Forest, Empty, Node, flatten, entering, exiting}
@@ -83,12 +82,7 @@ head-rows columns (Node name start end children rest) around before fits shaped 
         omega (arith, no-cells Parts columns children refl inside)
     own LineEnding may inside stands h inner =
         omega (arith, no-cells Childless columns children refl inside)
-    own SpaceOrTab may inside stands h inner = omega (arith, ap (cells columns) stands)
-    own BlockQuotePrefix may inside stands h inner = omega (arith, inner inside h)
-    own (Other number) may inside stands h inner = omega (arith, inner inside h)
-    own GfmTableHead may inside stands h inner = lie h
-    own GfmTableBody may inside stands h inner = lie h
-    own _ may inside stands h inner = lie may
+    own _ may inside stands h inner = grind (arith, inner)
 
 -- ---- the rows of a table
 -- after a head no columns follow
@@ -109,15 +103,8 @@ none-aligned (Node name start end children rest) around before fits shaped h =
         list_all in_table (shows name children) ≡ true →
         (Fits Rows children → list_all in_table (spine children) ≡ true →
         alignments children ≡ []) → own_alignments name children ≡ []
-    own GfmTableHead may inside stands h inner = lie h
-    own GfmTableDelimiterRow may inside stands h inner = lie h
     own SpaceOrTab may inside stands h inner = ap alignments stands
-    own BlockQuotePrefix may inside stands h inner = inner inside h
-    own (Other number) may inside stands h inner = inner inside h
-    own GfmTableBody may inside stands h inner = refl
-    own GfmTableRow may inside stands h inner = refl
-    own LineEnding may inside stands h inner = refl
-    own _ may inside stands h inner = lie may
+    own _ may inside stands h inner = grind (arith, inner)
 
 aligned-node : (name : Name) (children : Forest) → length (own_alignments name children)
     ≤ (if is_column name then 1 else 0) + values children
@@ -234,15 +221,7 @@ table-rows columns (Node name start end children rest) around before k after tai
               (exiting SpaceOrTab end ∷ (flatten rest ++ tail)) refl inside (omega arith)
               (omega arith),
         )
-    own BlockQuotePrefix may inside shaped stands h few inner =
-        omega (arith, inner inside h few (omega arith))
-    own (Other number) may inside shaped stands h few inner =
-        omega (arith, inner inside h few (omega arith))
-    own LineEnding may inside shaped stands h few inner = lie h
-    own GfmTableBody may inside shaped stands h few inner = lie h
-    own GfmTableRow may inside shaped stands h few inner = lie h
-    own GfmTableDelimiterRow may inside shaped stands h few inner = lie h
-    own _ may inside shaped stands h few inner = lie may
+    own _ may inside shaped stands h few inner = grind (arith, inner)
 
 -- the cells of a table
 pub cells-of-table : (children : Forest) (before : Option Symbol) (tail : List Event) →
