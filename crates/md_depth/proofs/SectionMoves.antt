@@ -26,8 +26,7 @@ use Rattle.md_depth.proofs.Machine.{Leads, ◌▹◌, leads-either, leads-quiet,
 use Rattle.md_depth.proofs.Machine.{run}
 use Rattle.md_depth.proofs.Moves as moves
 use Rattle.md_depth.proofs.Moves.{Moves, ◌▸◌, none, needed, forced, plain, part, open_tag}
-use Rattle.md_depth.proofs.Moves.{close_tag}
-use Rattle.md_depth.proofs.Moves.{close_line, kept, choose}
+use Rattle.md_depth.proofs.Moves.{close_tag, close_line, kept, choose}
 use Rattle.md_depth.proofs.Insertion.{leads-put}
 use Rattle.md_depth.proofs.ForestMoves.{TextsLead}
 

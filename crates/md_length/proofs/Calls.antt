@@ -1,7 +1,6 @@
 -- How long a footnote call is.
-use Rattle.std.proofs.Common.{ℕ, suc, ◌+◌, ◌*◌, ◌^◌, ◌≤◌, ◌<◌, not}
-use Rattle.std.proofs.Common.{List, [], ◌∷◌, length, arith, codes, lit≤, lit<}
-use Rattle.std.proofs.Common.{Option, bytes_eq, string_bytes, ◌-◌}
+use Rattle.std.proofs.Common.{ℕ, suc, ◌+◌, ◌*◌, ◌^◌, ◌≤◌, ◌<◌, not, List, [], ◌∷◌, length, arith}
+use Rattle.std.proofs.Common.{codes, lit≤, lit<, Option, bytes_eq, string_bytes, ◌-◌}
 use Rattle.std.specs.Prelude.{option_map, String}
 use Rattle.std.specs.declared.alloc.Global.{Global}
 use Rattle.std.specs.Fmt.{decimal}

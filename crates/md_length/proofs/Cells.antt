@@ -1,8 +1,7 @@
 -- The cells of tables' rows are bounded by what work counts for them: after a table's columns are
 -- known, each row counts all of them, and its head has one row before.
-use Rattle.std.proofs.Common.{◌≡◌, ℕ, ◌+◌, ◌*◌, ◌≤◌, Bool, true, false, ◌&&◌}
-use Rattle.std.proofs.Common.{not, List, [], ◌∷◌, ◌++◌, length, refl, sym, ap, ◌∙◌, arith}
-use Rattle.std.proofs.Common.{append_assoc}
+use Rattle.std.proofs.Common.{◌≡◌, ℕ, ◌+◌, ◌*◌, ◌≤◌, Bool, true, false, ◌&&◌, not, List, [], ◌∷◌}
+use Rattle.std.proofs.Common.{◌++◌, length, refl, sym, ap, ◌∙◌, arith, append_assoc}
 use Rattle.std.specs.Prelude.{if◌then◌else◌}
 use Rattle.std.proofs.Math.Nat.{add-zero}
 use Rattle.std.proofs.lemmas.List.{length-append}
@@ -11,8 +10,7 @@ use Rattle.md_base.specs.declared.event.AlignKind.{AlignKind}
 use Rattle.md_base.specs.declared.event.Event.{Event}
 use Rattle.md_base.specs.declared.event.Name.{Name}
 use Rattle.md_base.specs.declared.event.Name.TheVariants as name_variants
-use name_variants.{GfmTable, GfmTableRow}
-use name_variants.{Data, GfmTableDelimiterCellValue}
+use name_variants.{GfmTable, GfmTableRow, Data, GfmTableDelimiterCellValue}
 use Rattle.md_base.specs.declared.event.Point.{Point}
 use Rattle.md_base.specs.Is.{is}
 use Rattle.md_base.specs.NameTests.{leads_to_values}
@@ -24,8 +22,7 @@ use Rattle.md_steps.proofs.Staying.{node-same}
 use Rattle.md_length.specs.Costs.{nodes}
 use Rattle.md_length.proofs.Pieces.{either-number}
 use Rattle.md_length.specs.Uses.{cells, columns_in}
-use Rattle.md_length.specs.Work.{is_row, is_column, exits, columns_after}
-use Rattle.md_length.specs.Work.{cells as counted}
+use Rattle.md_length.specs.Work.{is_row, is_column, exits, columns_after, cells as counted}
 
 -- ---- where no table stands
 abbrev pub is_inner : Content → Bool
@@ -117,7 +114,6 @@ own-row _ columns k end few = omega arith
 entered-columns : (name : Name) (start : Point) (k : ℕ) → is GfmTable name ≡ false →
     columns_after k (entering name start) ≡ (if is_column name then 1 else 0) + k
 entered-columns GfmTable start k other = lie (sym other)
-entered-columns GfmTableDelimiterCellValue start k other = omega arith
 entered-columns _ start k other = omega arith
 
 pub same-columns : (columns : List AlignKind) (name : Name) (children : Forest) →

@@ -1,9 +1,9 @@
 -- The target of a definition takes no more than its nodes may print, and that no more than what is
 -- read in the definition and its events.
 use Rattle.std.proofs.Common.{◌≡◌, ℕ, suc, ◌*◌, ◌≤◌, Bool, true, ◌&&◌, List, [], ◌∷◌, ◌++◌}
-use Rattle.std.proofs.Common.{length, map, drop, refl, sym, ap, ◌∙◌, subst, arith, Option}
+use Rattle.std.proofs.Common.{length, map, drop, refl, ap, ◌∙◌, arith}
 use Rattle.std.proofs.Common.{bytes_eq, append_assoc, append-nil}
-use Rattle.std.specs.Prelude.{if◌then◌else◌, find, option_map}
+use Rattle.std.specs.Prelude.{if◌then◌else◌, find}
 use Rattle.std.specs.Option.{option_map_or}
 use Rattle.md_base.proofs.Lies.{lie}
 use Rattle.md_base.specs.declared.event.Event.{Event}
@@ -78,53 +78,34 @@ sources-short context around before content (Node name start end children rest) 
 
 -- ---- the definitions, in the order of their exits
 -- each takes at most so many times the length of its events
-abbrev pub AreBelow : ℕ → List Event → List Defined → List ℕ → Type 0
-AreBelow times events [] entries = entries ≡ []
-AreBelow times events (defined ∷ definitions) [] = ⊥
-AreBelow times events (defined ∷ definitions) (entry ∷ entries) =
-    (weight defined.target ≤ times * definition_length events entry)
-    × AreBelow times events definitions entries
+pub data AreBelow (times : ℕ) (events : List Event) : List Defined → List ℕ → Type 0 where
+  none : AreBelow times events [] []
+  more : {defined : Defined} {definitions : List Defined} {entry : ℕ} {entries : List ℕ} →
+      weight defined.target ≤ times * definition_length events entry →
+      AreBelow times events definitions entries →
+      AreBelow times events (defined ∷ definitions) (entry ∷ entries)
 
-below-append : (times : ℕ) (events : List Event) (xs ys : List Defined) (ms ns : List ℕ) →
+below-append : {times : ℕ} {events : List Event} {xs ys : List Defined} {ms ns : List ℕ} →
     AreBelow times events xs ms → AreBelow times events ys ns →
     AreBelow times events (xs ++ ys) (ms ++ ns)
-below-append times events [] ys ms ns h k =
-    subst (λ ms. AreBelow times events ys (ms ++ ns)) (sym h) k
-below-append times events (x ∷ xs) ys [] ns h k = absurd h
-below-append times events (x ∷ xs) ys (m ∷ ms) ns h k =
-    (h.0, below-append times events xs ys ms ns h.1 k)
+below-append none others = others
+below-append (more here later) others = more here (below-append later others)
 
 pub definitions-below : (context : Context) (around : Surroundings) (before : Before)
     (content : Content) (forest : Forest) (events : List Event) (index : ℕ) (tail : List Event) →
     length context.ending ≤ 2 → Fits content forest → drop index events ≡ flatten forest ++ tail →
     AreBelow (half_unit context.names) events (outcome context around before forest).definitions
     (definition_entries index forest)
-definitions-below context around before content Empty events index tail few fits split = refl
+definitions-below context around before content Empty events index tail few fits split = none
 definitions-below context around before content (Node name start end children rest) events index
     tail few fits split =
-    let times : ℕ = half_unit context.names in
     let last : Bool = around.is_outermost && is_empty rest in
-    let inner : Outcome = inner_of context around before name children in
     let next : Before = next_before context around before last name start end children in
-    let later : Outcome = outcome context around next rest in
-    let following : List Event = flatten rest ++ tail in
-    let entries : List ℕ = definition_entries (suc index) children in
-    let entry : List ℕ = if is_link_definition name then index ∷ [] else [] in
-    let others : List ℕ = definition_entries (suc (index_after (suc index) children)) rest in
-    let own : List Defined = when (is Definition name) (record {
-      identifier = identifier_of context.bytes children;
-      target = target_in inner.found;
-    } ∷ []) in
     let inside = inside_node events index name start end children rest tail split in
-    subst (λ es. AreBelow times events ((inner.definitions ++ own) ++ later.definitions) es)
-    (append_assoc entries entry others)
-    (below-append times events (inner.definitions ++ own) later.definitions (entries ++ entry)
-    others
-    (below-append times events inner.definitions own entries entry
+    rw (← append_assoc (definition_entries (suc index) children)) (below-append (below-append
     (definitions-below context (around_in context around name children)
     (before_children name children before) (content_inside content name) children events (suc index)
-    (exiting name end ∷ following) few fits.1 inside)
-    (own-below name fits.1 inside))
+    (exiting name end ∷ (flatten rest ++ tail)) few fits.1 inside) (own-below name fits.1 inside))
     (definitions-below context around next (content_after_node content name children) rest events
     (suc (index_after (suc index) children)) tail few fits.2
     (behind_node events index name start end children rest tail split)))
@@ -135,34 +116,26 @@ definitions-below context around before content (Node name start end children re
           identifier = identifier_of context.bytes children;
           target = target_in (inner_of context around before name children).found;
         } ∷ [])) (if is_link_definition name then index ∷ [] else [])
-    own-below Definition fits there = (
-      omega (
-        arith,
-        target-kept (inner_of context around before Definition children).found,
-        sources-short context (around_in context around Definition children)
-            (before_children Definition children before) Sources children few refl fits,
-        cost-short context.names children,
-        ap (λ es. half_unit context.names * inner_length es) (ap before_definition there
-            ∙ before-low Sources children (exiting Definition end ∷ (flatten rest ++ tail)) refl fits
-            ∙ append-nil (flatten children)),
-      ),
-      refl,
-    )
-    own-below _ fits there = refl
+    own-below Definition fits there =
+        more (omega (
+          arith,
+          target-kept (inner_of context around before Definition children).found,
+          sources-short context (around_in context around Definition children)
+              (before_children Definition children before) Sources children few refl fits,
+          cost-short context.names children,
+          ap (λ es. half_unit context.names * inner_length es) (ap before_definition there
+              ∙ before-low Sources children (exiting Definition end ∷ (flatten rest ++ tail)) refl
+              fits ∙ append-nil (flatten children)),
+        )) none
+    own-below _ fits there = none
 
 -- the target of the first definition that has an identifier
-suc-at : (m : ℕ) (ms : List ℕ) (place : Option ℕ) →
-    length_at (m ∷ ms) (option_map (λ place. suc place) place) ≡ length_at ms place
-suc-at m ms place = grind arith
-
-pub first-below : (times : ℕ) (events : List Event) (definitions : List Defined)
-    (entries : List ℕ) (identifier : List ℕ) → AreBelow times events definitions entries →
+pub first-below : {times : ℕ} {events : List Event} {definitions : List Defined}
+    {entries : List ℕ} (identifier : List ℕ) → AreBelow times events definitions entries →
     weight (option_map_or (λ (defined : Defined). defined.target)
     (find (λ defined. bytes_eq defined.identifier identifier) definitions)
     (target_in nothing_found))
     ≤ times * length_at (map (definition_length events) entries)
     (first_of (map (λ (defined : Defined). defined.identifier) definitions) identifier)
-first-below times events [] entries identifier below = omega arith
-first-below times events (defined ∷ definitions) [] identifier below = absurd below
-first-below times events (defined ∷ definitions) (entry ∷ entries) identifier below =
-    grind (arith, below, first-below times events definitions entries identifier below.1)
+first-below identifier none = omega arith
+first-below identifier (more here later) = grind (arith, here, first-below identifier later)

@@ -1,7 +1,6 @@
 -- What the lengths ask of a document holds of each document of the grammar.
-use Rattle.std.proofs.Common.{◌≡◌, ℕ, ◌≤◌, true}
-use Rattle.std.proofs.Common.{List, [], ◌∷◌, length, arith, Option, Some}
-use Rattle.std.proofs.Common.{None, lit≤}
+use Rattle.std.proofs.Common.{◌≡◌, ℕ, ◌≤◌, true, List, [], ◌∷◌, length, arith, Option, Some, None}
+use Rattle.std.proofs.Common.{lit≤}
 use Rattle.std.specs.Prelude.{if◌then◌else◌}
 use Rattle.std.specs.Option.{option_map_or}
 use Rattle.std.proofs.lemmas.Slice.Eq.{bytes_eq-Decides}

@@ -1,14 +1,11 @@
 -- The cells of a document's tables are bounded by what work counts for them, and by its columns.
-use Rattle.std.proofs.Common.{ℕ, suc, ◌+◌, ◌*◌, ◌≤◌}
-use Rattle.std.proofs.Common.{List, [], ◌∷◌, ◌++◌, ap}
-use Rattle.std.proofs.Common.{arith}
-use Rattle.std.proofs.Common.{append_assoc, append-nil, Option, None}
+use Rattle.std.proofs.Common.{ℕ, suc, ◌+◌, ◌*◌, ◌≤◌, List, [], ◌∷◌, ◌++◌, ap, arith, append_assoc}
+use Rattle.std.proofs.Common.{append-nil, Option, None}
 use Rattle.std.specs.Prelude.{if◌then◌else◌}
 use Rattle.md_base.specs.declared.event.Event.{Event}
 use Rattle.md_base.specs.declared.event.Name.{Name}
 use Rattle.md_base.specs.declared.event.Name.TheVariants as name_variants
-use name_variants.{GfmTable, GfmTableRow}
-use name_variants.{GfmTableDelimiterCellValue}
+use name_variants.{GfmTable, GfmTableRow, GfmTableDelimiterCellValue}
 use Rattle.md_base.specs.Is.{is}
 use Rattle.md_base.specs.Tree.{Forest, Empty, Node, flatten, entering, exiting}
 use Rattle.md_pattern.specs.declared.kinds.Symbol.{Symbol}
@@ -18,8 +15,7 @@ use Rattle.md_pattern.specs.Shape.{AreShaped, IsStanding, inner_role, inner_befo
 use Rattle.md_pattern.specs.Standing.{standing_of}
 use Rattle.md_tree.specs.Grammar.{IsGrammatical}
 use Rattle.md_steps.proofs.ContentFits.{shaped-fits}
-use Rattle.md_steps.specs.Content.{Content, Blocks, Fits}
-use Rattle.md_steps.specs.Content.{content_inside, content_after_node}
+use Rattle.md_steps.specs.Content.{Content, Blocks, Fits, content_inside, content_after_node}
 use Rattle.md_length.specs.Uses.{cells, columns_in}
 use Rattle.md_length.specs.Work.{is_column, cells as counted}
 use Rattle.md_length.proofs.Cells.{values}

@@ -3,8 +3,7 @@
 use Rattle.std.proofs.Common.{◌≡◌, ℕ, ◌+◌, ◌-◌, ◌*◌, ◌≤◌, suc, Bool, true, false, List, [], ◌∷◌}
 use Rattle.std.proofs.Common.{◌++◌, refl, ap, sym, ◌∙◌, subst, append_assoc, arith}
 use Rattle.std.specs.Prelude.{if◌then◌else◌}
-use Rattle.std.proofs.Math.Nat.{le_trans, le_of_eq, mul-le-mul_left, mul-add, mul-zero}
-use Rattle.std.proofs.Math.Nat.{sub_self}
+use Rattle.std.proofs.Math.Nat.{le_trans, le_of_eq, mul-le-mul_left, mul-add, mul-zero, sub_self}
 use Rattle.std.proofs.lemmas.List.{append-nil}
 use Rattle.md_base.proofs.Lies.{lie}
 use Rattle.md_base.specs.declared.event.Event.{Event}

@@ -1,7 +1,6 @@
 -- The reuse bounds the length of definitions for the links and images that refer to them.
-use Rattle.std.proofs.Common.{◌≡◌, ℕ, ◌+◌, ◌*◌, ◌≤◌}
-use Rattle.std.proofs.Common.{List, [], ◌∷◌, ◌++◌, refl, sym, ap}
-use Rattle.std.proofs.Common.{subst, arith, append-nil, Option}
+use Rattle.std.proofs.Common.{◌≡◌, ℕ, ◌+◌, ◌*◌, ◌≤◌, List, [], ◌∷◌, ◌++◌, refl, sym, ap, subst}
+use Rattle.std.proofs.Common.{arith, append-nil, Option}
 use Rattle.std.specs.Prelude.{if◌then◌else◌}
 use Rattle.md_base.specs.declared.event.Name.{Name}
 use Rattle.md_base.specs.declared.event.Name.TheVariants.{Link, Image}
@@ -27,7 +26,6 @@ use Rattle.md_content.proofs.Alike.{leads-alike}
 use Rattle.md_content.proofs.Listed.{definitions-listed}
 use Rattle.md_steps.specs.Content.{Blocks}
 use Rattle.md_steps.proofs.ContentFits.{shaped-fits}
-use Rattle.md_pattern.specs.Partners.{definition_entries}
 use Rattle.md_length.specs.Reuse.{length_at, resolved_lengths, definition_lengths, is_media}
 use Rattle.md_length.specs.Reuse.{referred as reused}
 use Rattle.md_length.specs.Uses.{referred, led, weight}
@@ -79,8 +77,7 @@ target-led bytes names options document grammatical children same =
     found = subst (λ known. taken ≤ half_unit names
         * length_at (definition_lengths document) (first_of known identifier))
         (definitions-listed called outermost nothing_before document)
-        (first-below (half_unit names) (flatten document) context.definitions
-        (definition_entries 0 document) identifier
+        (first-below identifier
         (definitions-below called outermost nothing_before Blocks document (flatten document) 0 []
         (grammatical-ending options bytes names document grammatical)
         (shaped-fits document grammatical.shape) (sym (append-nil (flatten document)))))

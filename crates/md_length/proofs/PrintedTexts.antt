@@ -1,6 +1,6 @@
 -- How long the texts and the tags are that nodes print, by what they read.
 use Rattle.std.proofs.Common.{ℕ, suc, ◌+◌, ◌-◌, ◌*◌, ◌≤◌, Bool, List, [], ◌∷◌, ◌++◌}
-use Rattle.std.proofs.Common.{length, arith, codes, lit≤, lit<, true, false, Option, Some, None}
+use Rattle.std.proofs.Common.{length, arith, codes, lit≤, lit<, true, Option, Some, None}
 use Rattle.std.specs.Prelude.{if◌then◌else◌, slice_get}
 use Rattle.std.specs.Option.{option_map_or}
 use Rattle.std.specs.List.{flat_map}
@@ -15,7 +15,7 @@ use Rattle.md_meaning.specs.Meaning.At.{Target, Context, At, text_in}
 use Rattle.md_meaning.specs.Meaning.Blocks.{without_zeros, underline_rank}
 use Rattle.md_meaning.specs.Meaning.Media.{title_attribute, anchor, picture, autolink}
 use Rattle.md_meaning.specs.Meaning.Spans.{escaped, reference, line_ending, html, marker, code}
-use Rattle.md_meaning.specs.Meaning.Spans.{trimmed, without_escapes, is_at}
+use Rattle.md_meaning.specs.Meaning.Spans.{trimmed, without_escapes}
 use Rattle.md_meaning.specs.Meaning.Tables.{cell_of, align_attribute}
 use Rattle.md_length.specs.Longest.{longest}
 use Rattle.md_length.specs.Costs.{span}
@@ -104,11 +104,12 @@ pub number-short : (bytes : List ℕ) (found : Option Position) →
 number-short bytes found = grind (arith, zeros-short)
 
 pub rank-one : (context : Context) (at : At) → length (decimal (underline_rank context at)) ≤ 1
-rank-one context at = elim (is_at 45 context.bytes at.place.start.index) as
-    (λ b. length (decimal (if b then 2 else 1)) ≤ 1) [
-      | true ↦ length-decimal-le 1 2 (lit< tt) (lit< tt) (lit< tt)
-      | false ↦ length-decimal-le 1 1 (lit< tt) (lit< tt) (lit< tt)
-    ]
+rank-one context at =
+    grind (
+      arith,
+      length-decimal-le 1 2 (lit< tt) (lit< tt) (lit< tt),
+      length-decimal-le 1 1 (lit< tt) (lit< tt) (lit< tt),
+    )
 
 -- ---- code
 trimmed-short : (text : List ℕ) → length (trimmed text) ≤ length text

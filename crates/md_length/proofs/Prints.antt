@@ -9,8 +9,7 @@ use Rattle.md_base.specs.declared.event.AlignKind.{AlignKind}
 use Rattle.md_base.specs.declared.event.Name.{Name}
 use Rattle.md_base.specs.declared.event.Name.TheVariants as name_variants
 use name_variants.{ListOrdered, HeadingAtx, HeadingSetextUnderlineSequence, Link, Image}
-use name_variants.{GfmTableRow, GfmTableCell, GfmFootnoteCall}
-use name_variants.{GfmTaskListItemCheck}
+use name_variants.{GfmTableRow, GfmTableCell, GfmFootnoteCall, GfmTaskListItemCheck}
 use Rattle.md_text.specs.Encode.{encoded}
 use Rattle.md_base.specs.Place.{serialized_between}
 use Rattle.std.proofs.Common.{unwrap_or, true}

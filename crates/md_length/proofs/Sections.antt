@@ -1,8 +1,6 @@
 -- The section of footnotes is no longer than its texts and what its calls take.
-use Rattle.std.proofs.Common.{ℕ, zero, suc, ◌+◌, ◌-◌, ◌*◌, ◌^◌, ◌≤◌, ◌<◌, Bool}
-use Rattle.std.proofs.Common.{not, List, [], ◌∷◌, length}
-use Rattle.std.proofs.Common.{arith, codes, lit≤, Option, bytes_eq}
-use Rattle.std.proofs.Common.{string_bytes}
+use Rattle.std.proofs.Common.{ℕ, zero, suc, ◌+◌, ◌-◌, ◌*◌, ◌^◌, ◌≤◌, ◌<◌, Bool, not, List, [], ◌∷◌}
+use Rattle.std.proofs.Common.{length, arith, codes, lit≤, Option, bytes_eq, string_bytes}
 use Rattle.std.specs.Prelude.{filter, find, String}
 use Rattle.std.specs.declared.alloc.Global.{Global}
 use Rattle.std.specs.Option.{option_map_or}
@@ -10,9 +8,8 @@ use Rattle.std.specs.List.{flat_map}
 use Rattle.std.proofs.lemmas.List.{length-take, length-drop}
 use Rattle.md_text.specs.declared.options.CompileOptions.{CompileOptions}
 use Rattle.md_meaning.specs.Meaning.At.{Footnote, Context}
-use Rattle.md_meaning.specs.Meaning.Footnotes.{distinct, place_among, count_of}
-use Rattle.md_meaning.specs.Meaning.Footnotes.{backreference, backreferences}
-use Rattle.md_meaning.specs.Meaning.Footnotes.{body, item, section_start, section}
+use Rattle.md_meaning.specs.Meaning.Footnotes.{distinct, place_among, count_of, backreference}
+use Rattle.md_meaning.specs.Meaning.Footnotes.{backreferences, body, item, section_start, section}
 use Rattle.md_meaning.proofs.Identifiers.{distinct-apart}
 use Rattle.md_length.specs.Uses.{back_cost, item_cost, sum_of}
 use Rattle.md_length.specs.Reuse.{option_length}

@@ -31,8 +31,7 @@ use Rattle.md_length.specs.Uses.{cells, columns_in}
 use Rattle.md_length.specs.Work.{is_column, cells as counted}
 use Rattle.md_length.proofs.Cells.{values, aligned-few, rows-counted, no-cells}
 use Rattle.md_length.proofs.Spined.{in_table, in_head, is_head, is_ordered, for_rows}
-use Rattle.md_length.proofs.Spined.{for_rows-append}
-use Rattle.md_length.proofs.Spined.{table-ordered, head-letters, head-row}
+use Rattle.md_length.proofs.Spined.{for_rows-append, table-ordered, head-letters, head-row}
 
 -- what a node shows of its children, and the columns that it gives to the table around it
 abbrev shows : Name → Forest → List Symbol

@@ -1,8 +1,6 @@
 -- How long the texts are that are printed of what is read: escaped, as URLs, and as identifiers.
-use Rattle.std.proofs.Common.{inl, inr, ℕ, zero, suc, ◌+◌, ◌-◌, ◌*◌, ◌/◌, ◌%◌, ◌≤◌}
-use Rattle.std.proofs.Common.{Bool, true, false, List, [], ◌∷◌}
-use Rattle.std.proofs.Common.{length, refl, ap, arith, lit≤}
-use Rattle.std.proofs.Common.{filter}
+use Rattle.std.proofs.Common.{inl, inr, ℕ, zero, suc, ◌+◌, ◌-◌, ◌*◌, ◌/◌, ◌%◌, ◌≤◌, Bool, true}
+use Rattle.std.proofs.Common.{false, List, [], ◌∷◌, length, refl, ap, arith, lit≤, filter}
 use Rattle.std.specs.Prelude.{if◌then◌else◌, encode_utf8, encode_utf8_all}
 use Rattle.std.specs.List.{flat_map, slice_split, join_with_byte, onto_first}
 use Rattle.std.specs.Str.{chars, chars_after, continuation_len, lead_bits}

@@ -1,8 +1,6 @@
 -- The text of a document is no longer than the section's heading, what the nodes may print, and
 -- what they use.
-use Rattle.std.proofs.Common.{ℕ, ◌+◌, ◌*◌, ◌^◌, ◌≤◌, ◌<◌, false, List, []}
-use Rattle.std.proofs.Common.{◌++◌, length}
-use Rattle.std.proofs.Common.{arith}
+use Rattle.std.proofs.Common.{ℕ, ◌+◌, ◌*◌, ◌^◌, ◌≤◌, ◌<◌, false, List, [], ◌++◌, length, arith}
 use Rattle.md_base.specs.Is.{is}
 use Rattle.md_base.specs.Tree.{Forest}
 use Rattle.md_text.specs.declared.options.CompileOptions.{CompileOptions}
@@ -19,9 +17,8 @@ use Rattle.md_steps.proofs.ContentFits.{shaped-fits}
 use Rattle.md_content.proofs.Underlines.{grammatical-underlined}
 use Rattle.md_length.specs.Costs.{unit, nodes}
 use Rattle.md_length.specs.Lengths.{lengths}
-use Rattle.md_length.specs.Uses.{referred, cells, called, call_cost, back_cost}
+use Rattle.md_length.specs.Uses.{referred, cells, called, call_cost, back_cost, item_cost}
 use Rattle.md_length.specs.Reuse.{option_length}
-use Rattle.md_length.specs.Uses.{item_cost}
 use Rattle.md_length.specs.Bound.{for_document}
 use Rattle.md_length.proofs.Forests.{nodes-short}
 use Rattle.md_length.proofs.Kept.{calls-few, calls-sum}
