@@ -1,8 +1,7 @@
 -- Blocks leave no element open, and open two at most beside what their children open.
 use Rattle.std.specs.List.{list_all, list_any, flat_map}
-use Rattle.std.proofs.Common.{◌≡◌, ℕ, ◌+◌, ◌≤◌, zero, suc, Bool, true, false, not}
-use Rattle.std.proofs.Common.{cond, List, [], ◌∷◌, ◌++◌, refl, sym, subst, inl, inr, arith}
-use Rattle.std.proofs.Common.{codes, drop}
+use Rattle.std.proofs.Common.{◌≡◌, ℕ, ◌+◌, ◌≤◌, zero, suc, Bool, true, false, not, cond, List, []}
+use Rattle.std.proofs.Common.{◌∷◌, ◌++◌, refl, sym, subst, inl, inr, arith, codes, drop}
 use Rattle.std.specs.Prelude.{Option, Some, None, bytes_eq, count_by, slice_get}
 use Rattle.std.specs.Option.{option_map_or}
 use Rattle.std.specs.Fmt.{digits}
@@ -23,8 +22,7 @@ use Rattle.md_text.proofs.HtmlAngles.{all-append}
 use Rattle.md_meaning.specs.Meaning.At.{At, text_in}
 use Rattle.md_meaning.specs.Meaning.Inherited.{is_tight}
 use Rattle.md_meaning.specs.Meaning.Finds.{number_in_list}
-use Rattle.md_meaning.specs.Meaning.Layout.{Piece, Text, Needed, layout, said, on_own_line}
-use Rattle.md_meaning.specs.Meaning.Layout.{when}
+use Rattle.md_meaning.specs.Meaning.Layout.{Piece, Text, layout, said}
 use Rattle.md_meaning.specs.Meaning.Means.{prints}
 use Rattle.md_meaning.specs.Meaning.Blocks.{without_zeros, ends_in_line, heading_tag}
 use Rattle.md_meaning.specs.Meaning.Blocks.{heading, atx_rank, underline_rank, code_end, runs_out}
@@ -39,46 +37,34 @@ use Rattle.md_safe.proofs.RawElements.{IsRaw, IsInfo, code_tag, math_tag}
 use Rattle.md_safe.proofs.Spot.{Setting, IsFitAt, Prints, Inside}
 use Rattle.md_safe.proofs.FlowNodes.{is_flow, setext-fits}
 use Rattle.md_safe.proofs.BlockNodes.{is_tabular}
-use Rattle.md_depth.proofs.Machine.{Leads, leads-open, leads-close, leads-append, leads-quiet}
+use Rattle.md_depth.proofs.Machine.{Leads, ◌▹◌, leads-open, leads-close, leads-quiet}
 use Rattle.md_depth.proofs.Moves as moves
 use Rattle.md_depth.proofs.Moves.{Moves, ◌▸◌, none, needed, forced, adds-quiet, more, laid, plain}
 use Rattle.md_depth.proofs.Moves.{part, IsOpening, IsClosing, open_tag, close_tag, void_tag, kept}
-use Rattle.md_depth.proofs.Moves.{open_line, close_line, when_needed, when_forced}
+use Rattle.md_depth.proofs.Moves.{open_line, close_line, choose}
 use Rattle.md_depth.proofs.SpanMoves.{Room, Below}
 
 -- ---- headings
 
-heading-opens : (rank : ℕ) → 1 ≤ rank → rank ≤ 6 → IsOpening (heading_tag (codes "<h") rank)
+heading-tags : (rank : ℕ) → 1 ≤ rank → rank ≤ 6 →
+    IsOpening (heading_tag (codes "<h") rank) × IsClosing (heading_tag (codes "</h") rank)
 unfolding digits
-heading-opens zero low high = absurd (omega (arith, low))
-heading-opens (suc zero) low high = λ l t. refl
-heading-opens (suc (suc zero)) low high = λ l t. refl
-heading-opens (suc (suc (suc zero))) low high = λ l t. refl
-heading-opens (suc (suc (suc (suc zero)))) low high = λ l t. refl
-heading-opens (suc (suc (suc (suc (suc zero))))) low high = λ l t. refl
-heading-opens (suc (suc (suc (suc (suc (suc zero)))))) low high = λ l t. refl
-heading-opens (suc (suc (suc (suc (suc (suc (suc rank))))))) low high =
-    absurd (omega (arith, high))
+heading-tags zero low high = absurd (omega arith)
+heading-tags (suc zero) low high = (λ l t. refl, λ l t. refl)
+heading-tags (suc (suc zero)) low high = (λ l t. refl, λ l t. refl)
+heading-tags (suc (suc (suc zero))) low high = (λ l t. refl, λ l t. refl)
+heading-tags (suc (suc (suc (suc zero)))) low high = (λ l t. refl, λ l t. refl)
+heading-tags (suc (suc (suc (suc (suc zero))))) low high = (λ l t. refl, λ l t. refl)
+heading-tags (suc (suc (suc (suc (suc (suc zero)))))) low high = (λ l t. refl, λ l t. refl)
+heading-tags (suc (suc (suc (suc (suc (suc (suc rank))))))) low high = absurd (omega arith)
 
-heading-closes : (rank : ℕ) → 1 ≤ rank → rank ≤ 6 → IsClosing (heading_tag (codes "</h") rank)
-unfolding digits
-heading-closes zero low high = absurd (omega (arith, low))
-heading-closes (suc zero) low high = λ l t. refl
-heading-closes (suc (suc zero)) low high = λ l t. refl
-heading-closes (suc (suc (suc zero))) low high = λ l t. refl
-heading-closes (suc (suc (suc (suc zero)))) low high = λ l t. refl
-heading-closes (suc (suc (suc (suc (suc zero))))) low high = λ l t. refl
-heading-closes (suc (suc (suc (suc (suc (suc zero)))))) low high = λ l t. refl
-heading-closes (suc (suc (suc (suc (suc (suc (suc rank))))))) low high =
-    absurd (omega (arith, high))
-
-heading-moves : (e : List ℕ) (n m rank : ℕ) → Escaped e → suc m ≤ n → 1 ≤ rank → rank ≤ 6 →
-    (inner : List Piece) → Moves e m 0 0 inner → Moves e n 0 0 (heading rank inner)
-heading-moves e n m rank h room low high inner a =
-    open_line e n 0 (heading_tag (codes "<h") rank) h (heading-opens rank low high)
-    (omega (arith, room))
-    ▸ more e 1 m n inner (omega (arith, room)) a
-    ▸ close_tag e n 0 (heading_tag (codes "</h") rank) (heading-closes rank low high)
+heading-moves : {e : List ℕ} {n m : ℕ} (rank : ℕ) → Escaped e → suc m ≤ n → 1 ≤ rank → rank ≤ 6 →
+    {inner : List Piece} → Moves e m 0 0 inner → Moves e n 0 0 (heading rank inner)
+heading-moves rank h room low high a =
+    open_line (heading_tag (codes "<h") rank) h (heading-tags rank low high).0
+    (omega arith)
+    ▸ more (omega arith) a
+    ▸ close_tag (heading_tag (codes "</h") rank) (heading-tags rank low high).1
 
 -- ---- lists
 
@@ -87,17 +73,6 @@ digits_of : (bytes : List ℕ) (found : Option Position) →
     list_all is_digit (option_map_or (text_in bytes) found (codes "1")) ≡ true
 digits_of bytes None fits = refl
 digits_of bytes (Some place) fits = fits
-
-start-moves : (e : List ℕ) (n a : ℕ) (number : List ℕ) → Escaped number → (one : Bool) →
-    Moves e n a a (when (not one) (Text (codes " start=\"") ∷ Text number ∷ Text (codes "\"") ∷ []))
-start-moves e n a number h true = none e n a
-start-moves e n a number h false =
-    part e n a (codes " start=\"") refl ▸ plain e n a number h ▸ part e n a (codes "\"") refl
-
-item-end : (e : List ℕ) (n : ℕ) → Escaped e → (holds : Bool) →
-    Moves e n 1 1 (cond holds [] (Needed ∷ []))
-item-end e n h true = none e n 1
-item-end e n h false = needed e n 1 h
 
 -- ---- code
 
@@ -108,24 +83,20 @@ info-quiet tag x (inr is) =
     (all-append (codes " class=\"language-") (is.0 ++ codes "\"") refl
     (all-append is.0 (codes "\"") (escaped-angle is.0 is.2) refl))
 
-code-opens : (e : List ℕ) (n : ℕ) → suc 1 ≤ n → (second : List ℕ) → IsOpening second →
+code-opens : {e : List ℕ} {n : ℕ} → suc 1 ≤ n → (second : List ℕ) → IsOpening second →
     Moves e n 0 2 (Text (codes "<pre>" ++ second) ∷ [])
-code-opens e n room second opens =
-    moves.text e n 0 2 (codes "<pre>" ++ second)
-    (leads-append 0 1 2 n (codes "<pre>") second
-    (leads-open 0 n (codes "<pre>") (λ l t. refl) (omega (arith, room)))
-    (leads-open 1 n second opens room))
+code-opens room second opens =
+    moves.text (leads-open (codes "<pre>") (λ l t. refl) (omega arith)
+    ▹ leads-open second opens room)
 
-code-closes : (e : List ℕ) (n : ℕ) → Moves e n 2 0 (said (codes "</code></pre>"))
-code-closes e n =
-    moves.text e n 2 0 (codes "</code></pre>")
-    (leads-append 2 1 0 n (codes "</code>") (codes "</pre>")
-    (leads-close 1 n (codes "</code>") (λ l t. refl))
-    (leads-close 0 n (codes "</pre>") (λ l t. refl)))
+code-closes : {e : List ℕ} {n : ℕ} → Moves e n 2 0 (said (codes "</code></pre>"))
+code-closes =
+    moves.text (leads-close (codes "</code>") (λ l t. refl)
+    ▹ leads-close (codes "</pre>") (λ l t. refl))
 
-end-moves : (e : List ℕ) (n : ℕ) (t : At) → Escaped e → Moves e n 2 0 (code_end t)
-end-moves e n t h =
-    when_needed e n 2 h (list_any is_chunk (spine_names t.children)) ▸ code-closes e n
+end-moves : {e : List ℕ} {n : ℕ} (t : At) → Escaped e → Moves e n 2 0 (code_end t)
+end-moves t h =
+    choose (list_any is_chunk (spine_names t.children)) (needed h) none ▸ code-closes
 
 fenced-moves : (s : Setting) (t : At) (n : ℕ) → suc 1 ≤ n → (tag second : List ℕ) →
     tag ≡ codes "<pre>" ++ second → IsOpening second → (inner : List Piece) →
@@ -133,14 +104,14 @@ fenced-moves : (s : Setting) (t : At) (n : ℕ) → suc 1 ≤ n → (tag second 
 fenced-moves s t n room tag second is opens inner a =
     let e : List ℕ = s.context.ending in
     let inside : Moves e n 2 2 inner =
-    adds-quiet e n 2 inner (adds-weaker (λ x raw.
+    adds-quiet inner (adds-weaker (λ x raw.
     subst (λ x. list_all no_angle x ≡ true) (sym raw.whole) (all-append raw.attributes
     (62 ∷ raw.body) (info-quiet tag raw.attributes raw.info)
     (escaped-angle raw.body raw.escaped))) a) in
     let first : Moves e n 0 2 (Text tag ∷ []) =
-    subst (λ tag. Moves e n 0 2 (Text tag ∷ [])) (sym is) (code-opens e n room second opens) in
-    (needed e n 0 s.ending ▸ first) ▸ inside ▸ when_forced e n 2 s.ending (runs_out t)
-    ▸ end-moves e n t s.ending ▸ when_needed e n 0 s.ending (is_unclosed t)
+    subst (λ tag. Moves e n 0 2 (Text tag ∷ [])) (sym is) (code-opens room second opens) in
+    (needed s.ending ▸ first) ▸ inside ▸ choose (runs_out t) (forced s.ending) none
+    ▸ end-moves t s.ending ▸ choose (is_unclosed t) (needed s.ending) none
 
 -- ---- blocks with tags or raw text
 
@@ -150,66 +121,51 @@ pub flow-moves : (s : Setting) (t : At) (m n : ℕ) → Room m n → (name : Nam
     (inner : List Piece) → Inside s t Blocks name inner → Below s m name inner →
     Moves s.context.ending n 0 0 (prints s.context t name inner)
 flow-moves s t m n room BlockQuote is fit head inner a below =
-    let e : List ℕ = s.context.ending in
-    open_line e n 0 (codes "<blockquote>") s.ending (λ l t. refl) (omega (arith, room))
-    ▸ more e 1 m n inner (omega (arith, room)) (below refl)
-    ▸ close_line e n 0 (codes "</blockquote>") s.ending (λ l t. refl)
+    open_line (codes "<blockquote>") s.ending (λ l t. refl) (omega arith)
+    ▸ more (omega arith) (below refl)
+    ▸ close_line (codes "</blockquote>") s.ending (λ l t. refl)
 flow-moves s t m n room ListOrdered is fit head inner a below =
-    let e : List ℕ = s.context.ending in
     let first : List ℕ =
     option_map_or (text_in s.context.bytes) (number_in_list t.children) (codes "1") in
     let number : Escaped (without_zeros first) =
     zeros-escaped first (digits_of s.context.bytes (number_in_list t.children) fit) in
-    open_line e n 0 (codes "<ol") s.ending (λ l t. refl) (omega (arith, room))
-    ▸ start-moves e n 1 (without_zeros first) number (bytes_eq (without_zeros first) (codes "1"))
-    ▸ part e n 1 (codes ">") refl ▸ more e 1 m n inner (omega (arith, room)) (below refl)
-    ▸ forced e n 1 s.ending ▸ close_tag e n 0 (codes "</ol>") (λ l t. refl)
+    open_line (codes "<ol") s.ending (λ l t. refl) (omega arith)
+    ▸ choose (not (bytes_eq (without_zeros first) (codes "1"))) (part (codes " start=\"") refl
+    ▸ plain (without_zeros first) number ▸ part (codes "\"") refl) none
+    ▸ part (codes ">") refl ▸ more (omega arith) (below refl)
+    ▸ forced s.ending ▸ close_tag (codes "</ol>") (λ l t. refl)
 flow-moves s t m n room ListUnordered is fit head inner a below =
-    let e : List ℕ = s.context.ending in
-    open_line e n 0 (codes "<ul>") s.ending (λ l t. refl) (omega (arith, room))
-    ▸ more e 1 m n inner (omega (arith, room)) (below refl)
-    ▸ forced e n 1 s.ending ▸ close_tag e n 0 (codes "</ul>") (λ l t. refl)
+    open_line (codes "<ul>") s.ending (λ l t. refl) (omega arith)
+    ▸ more (omega arith) (below refl)
+    ▸ forced s.ending ▸ close_tag (codes "</ul>") (λ l t. refl)
 flow-moves s t m n room ListItem is fit head inner a below =
-    let e : List ℕ = s.context.ending in
-    open_line e n 0 (codes "<li>") s.ending (λ l t. refl) (omega (arith, room))
-    ▸ more e 1 m n inner (omega (arith, room)) (below refl)
-    ▸ item-end e n s.ending (ends_in_line t) ▸ close_tag e n 0 (codes "</li>") (λ l t. refl)
-flow-moves s t m n room Paragraph is fit head inner a below = by (is_tight t.around.container)
-  where
-    e : List ℕ
-    e = s.context.ending
-
-    by : (tight : Bool) → Moves e n 0 0
-        (cond tight inner (on_own_line (codes "<p>") ++ (inner ++ said (codes "</p>"))))
-    by true = more e 0 m n inner (omega (arith, room)) (below refl)
-    by false =
-        open_line e n 0 (codes "<p>") s.ending (λ l t. refl) (omega (arith, room))
-        ▸ more e 1 m n inner (omega (arith, room)) (below refl)
-        ▸ close_tag e n 0 (codes "</p>") (λ l t. refl)
+    open_line (codes "<li>") s.ending (λ l t. refl) (omega arith)
+    ▸ more (omega arith) (below refl)
+    ▸ choose (ends_in_line t) none (needed s.ending) ▸ close_tag (codes "</li>") (λ l t. refl)
+flow-moves s t m n room Paragraph is fit head inner a below =
+    choose (is_tight t.around.container) (more (omega arith) (below refl))
+    (open_line (codes "<p>") s.ending (λ l t. refl) (omega arith)
+    ▸ more (omega arith) (below refl) ▸ close_tag (codes "</p>") (λ l t. refl))
 flow-moves s t m n room ThematicBreak is fit head inner a below =
-    needed s.context.ending n 0 s.ending
-    ▸ void_tag s.context.ending n 0 (codes "<hr />") (λ l t. refl) (omega (arith, room))
+    needed s.ending
+    ▸ void_tag (codes "<hr />") (λ l t. refl) (omega arith)
 flow-moves s t m n room HeadingAtx is fit head inner a below =
-    heading-moves s.context.ending n m (atx_rank t) s.ending (omega (arith, room)) fit.0 fit.1 inner
-    (below refl)
+    heading-moves (atx_rank t) s.ending (omega arith) fit.0 fit.1 (below refl)
 flow-moves s t m n room HeadingSetextUnderlineSequence is fit head inner a below =
-    let e : List ℕ = s.context.ending in
     let waits = head refl in
     let rank = setext-fits (is_at 45 s.context.bytes t.place.start.index) in
-    heading-moves e n waits.0 (underline_rank s.context t) s.ending waits.1 rank.0 rank.1
-    (said t.before.heading) (moves.text e waits.0 0 0 t.before.heading waits.2)
+    heading-moves (underline_rank s.context t) s.ending waits.1 rank.0 rank.1 (moves.text waits.2)
 flow-moves s t m n room CodeIndented is fit head inner a below =
-    let e : List ℕ = s.context.ending in
-    (needed e n 0 s.ending ▸ code-opens e n (omega (arith, room)) (codes "<code>") (λ l t. refl))
-    ▸ more e 2 m n inner (omega (arith, room)) (below refl) ▸ end-moves e n t s.ending
+    (needed s.ending ▸ code-opens (omega arith) (codes "<code>") (λ l t. refl))
+    ▸ more (omega arith) (below refl) ▸ end-moves t s.ending
 flow-moves s t m n room CodeFenced is fit head inner a below =
-    fenced-moves s t n (omega (arith, room)) code_tag (codes "<code") refl (λ l t. refl) inner a
+    fenced-moves s t n (omega arith) code_tag (codes "<code") refl (λ l t. refl) inner a
 flow-moves s t m n room MathFlow is fit head inner a below =
-    fenced-moves s t n (omega (arith, room)) math_tag
+    fenced-moves s t n (omega arith) math_tag
     (codes "<code class=\"language-math math-display\"") refl (λ l t. refl) inner a
 flow-moves s t m n room HtmlFlow is fit head inner a below =
-    needed s.context.ending n 0 s.ending
-    ▸ more s.context.ending 0 m n inner (omega (arith, room)) (below refl)
+    needed s.ending
+    ▸ more (omega arith) (below refl)
 flow-moves s t m n room _ is fit head inner a below = lie is
 
 -- ---- tables
@@ -220,14 +176,14 @@ align-quiet align.Left = refl
 align-quiet align.Right = refl
 align-quiet align.Center = refl
 
-cell-moves : (e : List ℕ) (n a k : ℕ) → Escaped e → (in_head : Bool) (x : List ℕ) →
+cell-moves : {e : List ℕ} {n a k : ℕ} {x : List ℕ} → Escaped e → (in_head : Bool) →
     Leads 0 0 k x → suc (a + k) ≤ n → (kind : AlignKind) → Moves e n a a (cell_of in_head x kind)
-cell-moves e n a k h in_head x f room kind =
-    open_line e n a (cond in_head (codes "<th") (codes "<td")) h (opens in_head)
-    (omega (arith, room))
-    ▸ part e n (suc a) (align_attribute kind) (align-quiet kind)
-    ▸ part e n (suc a) (codes ">") refl ▸ kept e n (suc a) k x f (omega (arith, room))
-    ▸ close_tag e n a (cond in_head (codes "</th>") (codes "</td>")) (closes in_head)
+cell-moves h in_head f room kind =
+    open_line (cond in_head (codes "<th") (codes "<td")) h (opens in_head)
+    (omega arith)
+    ▸ part (align_attribute kind) (align-quiet kind)
+    ▸ part (codes ">") refl ▸ kept f (omega arith)
+    ▸ close_tag (cond in_head (codes "</th>") (codes "</td>")) (closes in_head)
   where
     opens : (in_head : Bool) → IsOpening (cond in_head (codes "<th") (codes "<td"))
     opens true = λ l t. refl
@@ -237,39 +193,35 @@ cell-moves e n a k h in_head x f room kind =
     closes true = λ l t. refl
     closes false = λ l t. refl
 
-cells-moves : (e : List ℕ) (n a : ℕ) → Escaped e → (in_head : Bool) → suc a ≤ n →
+cells-moves : {e : List ℕ} {n a : ℕ} → Escaped e → (in_head : Bool) → suc a ≤ n →
     (kinds : List AlignKind) → Moves e n a a (flat_map (cell_of in_head []) kinds)
-cells-moves e n a h in_head room [] = none e n a
-cells-moves e n a h in_head room (kind ∷ kinds) =
-    cell-moves e n a 0 h in_head [] (leads-quiet 0 0 [] refl) (omega (arith, room)) kind
-    ▸ cells-moves e n a h in_head room kinds
+cells-moves h in_head room [] = none
+cells-moves h in_head room (kind ∷ kinds) =
+    cell-moves {k = 0} h in_head (leads-quiet [] refl) (omega arith) kind
+    ▸ cells-moves h in_head room kinds
 
 pub table-moves : (s : Setting) (t : At) (m n : ℕ) → Room m n → (name : Name) →
     is_tabular name ≡ true → (inner : List Piece) → Below s m name inner →
     Moves s.context.ending n 0 0 (prints s.context t name inner)
 table-moves s t m n room GfmTable is inner below =
-    let e : List ℕ = s.context.ending in
-    open_line e n 0 (codes "<table>") s.ending (λ l t. refl) (omega (arith, room))
-    ▸ more e 1 m n inner (omega (arith, room)) (below refl)
-    ▸ close_line e n 0 (codes "</table>") s.ending (λ l t. refl)
+    open_line (codes "<table>") s.ending (λ l t. refl) (omega arith)
+    ▸ more (omega arith) (below refl)
+    ▸ close_line (codes "</table>") s.ending (λ l t. refl)
 table-moves s t m n room GfmTableHead is inner below =
-    let e : List ℕ = s.context.ending in
-    open_line e n 0 (codes "<thead>") s.ending (λ l t. refl) (omega (arith, room))
-    ▸ more e 1 m n inner (omega (arith, room)) (below refl)
-    ▸ close_line e n 0 (codes "</thead>") s.ending (λ l t. refl)
+    open_line (codes "<thead>") s.ending (λ l t. refl) (omega arith)
+    ▸ more (omega arith) (below refl)
+    ▸ close_line (codes "</thead>") s.ending (λ l t. refl)
 table-moves s t m n room GfmTableBody is inner below =
-    let e : List ℕ = s.context.ending in
-    open_tag e n 0 (codes "<tbody>") (λ l t. refl) (omega (arith, room))
-    ▸ more e 1 m n inner (omega (arith, room)) (below refl)
-    ▸ close_line e n 0 (codes "</tbody>") s.ending (λ l t. refl)
+    open_tag (codes "<tbody>") (λ l t. refl) (omega arith)
+    ▸ more (omega arith) (below refl)
+    ▸ close_line (codes "</tbody>") s.ending (λ l t. refl)
 table-moves s t m n room GfmTableRow is inner below =
-    let e : List ℕ = s.context.ending in
     let kinds : List AlignKind =
     drop (count_by (named GfmTableCell) (spine_names t.children)) t.before.columns in
-    open_line e n 0 (codes "<tr>") s.ending (λ l t. refl) (omega (arith, room))
-    ▸ more e 1 m n inner (omega (arith, room)) (below refl)
-    ▸ cells-moves e n 1 s.ending t.around.in_head (omega (arith, room)) kinds
-    ▸ close_line e n 0 (codes "</tr>") s.ending (λ l t. refl)
+    open_line (codes "<tr>") s.ending (λ l t. refl) (omega arith)
+    ▸ more (omega arith) (below refl)
+    ▸ cells-moves s.ending t.around.in_head (omega arith) kinds
+    ▸ close_line (codes "</tr>") s.ending (λ l t. refl)
 table-moves s t m n room GfmTableCell is inner below =
     by (slice_get t.before.columns (count_by (named GfmTableCell) t.before.spine))
   where
@@ -281,8 +233,7 @@ table-moves s t m n room GfmTableCell is inner below =
 
     by : (kind : Option AlignKind) → Moves e n 0 0
         (option_map_or (λ kind. cell_of t.around.in_head x kind) kind [])
-    by None = none e n 0
+    by None = none
     by (Some kind) =
-        cell-moves e n 0 m s.ending t.around.in_head x (laid e m inner (below refl))
-        (omega (arith, room)) kind
+        cell-moves s.ending t.around.in_head (laid (below refl)) (omega arith) kind
 table-moves s t m n room _ is inner below = lie is

@@ -1,10 +1,9 @@
 -- The text of blocks leaves no element open, and opens at most twice as many as the nesting of the
 -- nodes: one induction over them. Other contents are known to open none.
-use Rattle.std.proofs.Common.{◌≡◌, ℕ, ◌-◌, ◌*◌, ◌≤◌, suc, max, Bool, true, false, ◌||◌}
-use Rattle.std.proofs.Common.{cond, List, [], ◌∷◌, ◌++◌, refl, sym, ap, ◌∙◌, subst, arith}
-use Rattle.std.proofs.Common.{append-nil}
+use Rattle.std.proofs.Common.{◌≡◌, ℕ, ◌-◌, ◌*◌, ◌≤◌, suc, max, Bool, true, false, ◌||◌, cond, List}
+use Rattle.std.proofs.Common.{[], ◌∷◌, ◌++◌, refl, sym, ap, ◌∙◌, subst, arith, append-nil, inl, inr}
 use Rattle.std.specs.Prelude.{Option, Some, None, unwrap_or}
-use Rattle.std.proofs.lemmas.Bool.{cond_both}
+use Rattle.std.proofs.lemmas.Bool.{cond_both, cases_Bool}
 use Rattle.md_base.proofs.Lies.{lie}
 use Rattle.md_base.specs.declared.event.Name.{Name}
 use Rattle.md_base.specs.declared.event.Name.TheVariants as name_variants
@@ -18,8 +17,7 @@ use Rattle.md_meaning.specs.Meaning.At.{Footnote, Before, At, identifier_of}
 use Rattle.md_meaning.specs.Meaning.Layout.{layout, when}
 use Rattle.md_meaning.specs.Meaning.Nodes.{Outcome, found_at, before_next, outcome}
 use Rattle.md_content.specs.Built.{Blocks, is_part, is_source, may_stand, content_of}
-use Rattle.md_content.specs.Built.{content_inside}
-use Rattle.md_content.specs.Built.{IsBuilt}
+use Rattle.md_content.specs.Built.{content_inside, IsBuilt}
 use Rattle.md_safe.proofs.Contents.{after-blocks}
 use Rattle.md_safe.proofs.Insides.{is_blocks, is_blocks-same}
 use Rattle.md_safe.proofs.Following.{second}
@@ -57,7 +55,7 @@ texts-append n (x ∷ xs) ys a b = (a.0, texts-append n xs ys a.1 b)
 texts-more : (m n : ℕ) (xs : List Footnote) → m ≤ n → TextsLead m xs → TextsLead n xs
 texts-more m n [] few a = tt
 texts-more m n (x ∷ xs) few a =
-    (leads-kept 0 m n x.text a.0 (omega (arith, few)), texts-more m n xs few a.1)
+    (leads-kept a.0 (omega arith), texts-more m n xs few a.1)
 
 -- what nodes print, a heading that is found, and the texts of footnotes
 pub record Opens (d : Document) (n : ℕ) (made : Outcome) : Type 0 where
@@ -133,24 +131,21 @@ solid d p name n e room built ready waits known below =
     record {
       prints = node-moves s t (n - 2) n room name ready.suits.0 e
           (not_part (is_part name || is_source name) stands) built.1
-          (λ _. (n - 1, omega (arith, room), waits)) known.found.resource inner.pieces a
+          (λ _. (n - 1, omega arith, waits)) known.found.resource inner.pieces a
           (λ is. (below is).prints);
-      heading = heading-here t name n (layout d.context.ending inner.pieces) e (λ is. leads-kept 0
-          (n - 2) (n - 1) (layout d.context.ending inner.pieces) (laid d.context.ending (n - 2)
-          inner.pieces (below is).prints) (omega (arith, room)));
+      heading = heading-here t name n (layout d.context.ending inner.pieces) e (λ is.
+          leads-kept (laid (below is).prints) (omega arith));
       texts = texts-append n inner.footnotes (when (named GfmFootnoteDefinition name)
           (own d p name ∷ [])) (inside (is_blocks (content_of name Blocks)) refl) (cond_both
           (named GfmFootnoteDefinition name) (own d p name ∷ []) [] (TextsLead n) (λ is. (
-            leads-kept 0 (n - 2) n (layout d.context.ending inner.pieces) (laid d.context.ending
-                (n - 2) inner.pieces (below (footnote-blocks name is)).prints)
-                (omega (arith, room)),
+            leads-kept (laid (below (footnote-blocks name is)).prints) (omega arith),
             tt,
           )) (λ _. tt));
     }
   where
     inside : (blocks : Bool) → is_blocks (content_of name Blocks) ≡ blocks →
         TextsLead n (inner_of d p name).footnotes
-    inside true is = texts-more (n - 2) n (inner_of d p name).footnotes (omega (arith, room))
+    inside true is = texts-more (n - 2) n (inner_of d p name).footnotes (omega arith)
         (below is).texts
     inside false is =
         let same : is_blocks (content_inside Blocks name) ≡ is_blocks (content_of name Blocks) = ap
@@ -162,7 +157,7 @@ solid d p name n e room built ready waits known below =
 pub opens : (d : Document) (forest : Forest) (around : Surroundings) (before : Before) (n : ℕ) →
     Fits d around before n forest → Opens d n (outcome d.context around before forest)
 opens d Empty around before n f = record {
-  prints = none d.context.ending n 0;
+  prints = none;
   heading = tt;
   texts =
       tt;
@@ -190,8 +185,20 @@ opens d (Node name start end children rest) around before n f =
       waits = waits;
       room = room;
     }) in
-    let one : Opens d n here = by (is_transparent name) refl p n f.room f.built f.ready f.waits
-    known below in
+    let kind = λ (b : Bool). is_blocks (cond b Blocks (content_of name Blocks)) in
+    let one : Opens d n here = elim (cases_Bool (is_transparent name)) [
+      | inl e ↦
+          let same : (inner_before p name).heading ≡ before.heading =
+          ap (λ b. cond b before.heading []) e in
+          through d p name n e (below n (omega (arith, f.room))
+          (subst (Waits n) (sym same) f.waits) (ap kind e))
+      | inr e ↦
+          let same : (inner_before p name).heading ≡ [] = ap (λ b. cond b before.heading []) e in
+          let none : Waits (n - 2) [] = leads-quiet [] refl in
+          solid d p name n e (omega (arith, f.room)) f.built f.ready f.waits known
+          (λ is. below (n - 2) (omega (arith, f.room)) (subst (Waits (n - 2)) (sym same) none)
+          (ap kind e ∙ is))
+    ] in
     let later : Opens d n others = opens d rest around next n (record {
       built = subst (λ c. IsBuilt d.context.bytes c rest) (after-blocks name children) f.built.3;
       ready = subst (Ready (read_in d) around next) (after-blocks name children)
@@ -206,27 +213,4 @@ opens d (Node name start end children rest) around before n f =
     }
   where
     least : (a b n : ℕ) → 2 * max (suc a) b ≤ n → 2 * b ≤ n
-    least a b n room = omega (arith, room)
-
-    by : (through_it : Bool) → is_transparent name ≡ through_it → (p : Place) (n : ℕ) →
-        2 * max (suc (height p.children)) (height p.rest) ≤ n →
-        IsBuilt d.context.bytes Blocks (Node name p.start p.end p.children p.rest) →
-        Ready (read_in d) p.around p.before Blocks → Waits n p.before.heading → Means (read_in d)
-        (inner_around d p name) (content_inside Blocks name) p.children (inner_of d p name) → ((k :
-        ℕ) → 2 * height p.children ≤ k → Waits k (inner_before p name).heading → is_blocks
-        (content_inside Blocks name) ≡ true → Opens d k (inner_of d p name)) →
-        Opens d n (here_of d p name)
-    by true e p n room built ready waits known below =
-        let same : (inner_before p name).heading ≡ p.before.heading = ap
-        (λ b. cond b p.before.heading []) e in
-        let blocks : is_blocks (content_inside Blocks name) ≡ true = ap
-        (λ b. is_blocks (cond b Blocks (content_of name Blocks))) e in
-        through d p name n e (below n (omega (arith, room)) (subst (Waits n) (sym same) waits)
-        blocks)
-    by false e p n room built ready waits known below =
-        let same : (inner_before p name).heading ≡ [] = ap (λ b. cond b p.before.heading []) e in
-        let inside : is_blocks (content_inside Blocks name) ≡ is_blocks (content_of name Blocks) =
-        ap (λ b. is_blocks (cond b Blocks (content_of name Blocks))) e in
-        let none : Waits (n - 2) [] = leads-quiet 0 ((n - 2) - 1) [] refl in
-        solid d p name n e (omega (arith, room)) built ready waits known (λ is. below (n - 2)
-        (omega (arith, room)) (subst (Waits (n - 2)) (sym same) none) (inside ∙ is))
+    least a b n room = omega arith

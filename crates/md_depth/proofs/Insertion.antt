@@ -1,58 +1,34 @@
 -- A text inserted before an end tag of another one opens at most as many elements as it does alone,
 -- in addition to those open there.
-use Rattle.std.proofs.Common.{◌≡◌, ℕ, ◌+◌, ◌-◌, ◌≤◌, ◌==◌, zero, suc, max, Bool, true, false, cond}
+use Rattle.std.proofs.Common.{◌≡◌, ℕ, ◌+◌, ◌-◌, ◌≤◌, zero, suc, max}
 use Rattle.std.proofs.Common.{List, [], ◌∷◌, ◌++◌, refl, ap, sym, ◌∙◌, subst, arith}
 use Rattle.std.proofs.Math.Nat.{le_trans}
-use Rattle.std.proofs.lemmas.Bool.{cond_both}
-use Rattle.md_depth.proofs.Machine.{Spot, Out, Begun, OfB, OfH, Bad, State, at, lower, opened}
-use Rattle.md_depth.proofs.Machine.{voided, closed, to, second, stepped, step, run, run-append}
-use Rattle.md_depth.proofs.Machine.{Leads}
-
--- what holds of each state to which a byte may lead
-step-cases : (P : State → Type 0) (s : State) (byte : ℕ) → P s → ((spot : Spot) → P (to spot s)) →
-    P (opened s) → P (voided s) → P (closed s) → P (step s byte)
-step-cases P s byte same moved open_it void_it close_it = by s.spot
-  where
-    two : P (second s byte)
-    two = cond_both (byte == 114) (voided s) (cond (byte == 60) (to Bad s) (opened s)) P
-        (λ _. void_it)
-        (λ _. cond_both (byte == 60) (to Bad s) (opened s) P (λ _. moved Bad) (λ _. open_it))
-
-    by : (spot : Spot) → P (stepped spot s byte)
-    by Out = cond_both (byte == 60) (to Begun s) s P (λ _. moved Begun) (λ _. same)
-    by Begun =
-        cond_both (byte == 47) (closed s) (cond (byte == 98) (to OfB s)
-        (cond (byte == 104) (to OfH s) (cond (byte == 105) (voided s)
-        (cond (byte == 60) (to Bad s) (opened s))))) P (λ _. close_it)
-        (λ _. cond_both (byte == 98) (to OfB s) (cond (byte == 104) (to OfH s)
-        (cond (byte == 105) (voided s) (cond (byte == 60) (to Bad s) (opened s)))) P
-        (λ _. moved OfB)
-        (λ _. cond_both (byte == 104) (to OfH s) (cond (byte == 105) (voided s)
-        (cond (byte == 60) (to Bad s) (opened s))) P (λ _. moved OfH)
-        (λ _. cond_both (byte == 105) (voided s) (cond (byte == 60) (to Bad s) (opened s)) P
-        (λ _. void_it)
-        (λ _. cond_both (byte == 60) (to Bad s) (opened s) P (λ _. moved Bad) (λ _. open_it)))))
-    by OfB = two
-    by OfH = two
-    by Bad = same
+use Rattle.md_depth.proofs.Machine.{Spot, Out, Begun, OfB, OfH, Bad, State, at, lower, to, Action}
+use Rattle.md_depth.proofs.Machine.{Open, Void, Close, act, action, step, run, run-append, Leads}
 
 lower-less : (n : ℕ) → lower n ≤ n
 lower-less zero = omega arith
 lower-less (suc n) = omega arith
 
 -- no fewer are open at most than before
+act-top : (action : Action) (s : State) → s.top ≤ (act action s).top
+act-top Close s = omega arith
+act-top _ s = omega arith
+
 top-grows : (s : State) (x : List ℕ) → s.top ≤ (run s x).top
 top-grows s [] = omega arith
 top-grows s (byte ∷ x) =
-    le_trans (step-cases (λ r. s.top ≤ r.top) s byte (omega arith) (λ _. omega arith) (omega arith)
-    (omega arith) (omega arith)) (top-grows (step s byte) x)
+    le_trans (act-top (action s.spot byte) s) (top-grows (step s byte) x)
 
 -- at most as many are open as before
+act-below : (action : Action) (s : State) → s.level ≤ s.top →
+    (act action s).level ≤ (act action s).top
+act-below Close s low = le_trans (lower-less s.level) low
+act-below _ s low = omega arith
+
 below-top : (s : State) (x : List ℕ) → s.level ≤ s.top → (run s x).level ≤ (run s x).top
 below-top s [] low = low
-below-top s (byte ∷ x) low =
-    below-top (step s byte) x (step-cases (λ r. r.level ≤ r.top) s byte low (λ _. low) (omega arith)
-    (omega (arith, low)) (le_trans (lower-less s.level) low))
+below-top s (byte ∷ x) low = below-top (step s byte) x (act-below (action s.spot byte) s low)
 
 -- two `<` in a row stay
 bad-stays : (x : List ℕ) (l t : ℕ) → (run (to Bad (at l t)) x).spot ≡ Bad
@@ -63,67 +39,22 @@ bad-stays (byte ∷ x) l t = bad-stays x l t
 abbrev raise : ℕ → State → State
 raise t s = record { spot = s.spot; level = s.level; top = t }
 
-either : (t : ℕ) (test : Bool) (a b c d : State) → (a.top ≤ t → c ≡ raise t a) →
-    (b.top ≤ t → d ≡ raise t b) → (cond test a b).top ≤ t →
-    cond test c d ≡ raise t (cond test a b)
-either t true a b c d f g few = f few
-either t false a b c d f g few = g few
-
-opened-raised : (t : ℕ) (s : State) → (opened s).top ≤ t → opened (raise t s) ≡ raise t (opened s)
-opened-raised t s few =
-    let top : max t (suc s.level) ≡ t = omega (arith, few) in
+act-raised : (t : ℕ) (action : Action) (s : State) → (act action s).top ≤ t →
+    act action (raise t s) ≡ raise t (act action s)
+act-raised t Open s few =
+    let top : max t (suc s.level) ≡ t = omega arith in
     ap (λ top. at (suc s.level) top) top
-
-voided-raised : (t : ℕ) (s : State) → (voided s).top ≤ t → voided (raise t s) ≡ raise t (voided s)
-voided-raised t s few =
-    let top : max t (suc s.level) ≡ t = omega (arith, few) in
+act-raised t Void s few =
+    let top : max t (suc s.level) ≡ t = omega arith in
     ap (λ top. at s.level top) top
-
-step-raised : (t : ℕ) (s : State) (byte : ℕ) → (step s byte).top ≤ t →
-    step (raise t s) byte ≡ raise t (step s byte)
-step-raised t s byte few = by s.spot few
-  where
-    last : (cond (byte == 60) (to Bad s) (opened s)).top ≤ t →
-        cond (byte == 60) (to Bad (raise t s)) (opened (raise t s))
-        ≡ raise t (cond (byte == 60) (to Bad s) (opened s))
-    last = either t (byte == 60) (to Bad s) (opened s) (to Bad (raise t s)) (opened (raise t s))
-        (λ _. refl) (opened-raised t s)
-
-    two : (second s byte).top ≤ t → second (raise t s) byte ≡ raise t (second s byte)
-    two = either t (byte == 114) (voided s) (cond (byte == 60) (to Bad s) (opened s))
-        (voided (raise t s)) (cond (byte == 60) (to Bad (raise t s)) (opened (raise t s)))
-        (voided-raised t s) last
-
-    by : (spot : Spot) → (stepped spot s byte).top ≤ t →
-        stepped spot (raise t s) byte ≡ raise t (stepped spot s byte)
-    by Out few = either t (byte == 60) (to Begun s) (raise s.top s) (to Begun (raise t s))
-        (raise t s) (λ _. refl) (λ _. refl) few
-    by Begun few =
-        either t (byte == 47) (closed s) (cond (byte == 98) (to OfB s) (cond (byte == 104)
-        (to OfH s) (cond (byte == 105) (voided s) (cond (byte == 60) (to Bad s) (opened s)))))
-        (closed (raise t s)) (cond (byte == 98) (to OfB (raise t s)) (cond (byte == 104)
-        (to OfH (raise t s)) (cond (byte == 105) (voided (raise t s))
-        (cond (byte == 60) (to Bad (raise t s)) (opened (raise t s)))))) (λ _. refl)
-        (either t (byte == 98) (to OfB s) (cond (byte == 104) (to OfH s) (cond (byte == 105)
-        (voided s) (cond (byte == 60) (to Bad s) (opened s)))) (to OfB (raise t s))
-        (cond (byte == 104) (to OfH (raise t s)) (cond (byte == 105) (voided (raise t s))
-        (cond (byte == 60) (to Bad (raise t s)) (opened (raise t s))))) (λ _. refl)
-        (either t (byte == 104) (to OfH s) (cond (byte == 105) (voided s)
-        (cond (byte == 60) (to Bad s) (opened s))) (to OfH (raise t s)) (cond (byte == 105)
-        (voided (raise t s)) (cond (byte == 60) (to Bad (raise t s)) (opened (raise t s))))
-        (λ _. refl)
-        (either t (byte == 105) (voided s) (cond (byte == 60) (to Bad s) (opened s))
-        (voided (raise t s)) (cond (byte == 60) (to Bad (raise t s)) (opened (raise t s)))
-        (voided-raised t s) last))) few
-    by OfB few = two few
-    by OfH few = two few
-    by Bad few = refl
+act-raised t _ s few = refl
 
 run-raised : (t : ℕ) (s : State) (x : List ℕ) → (run s x).top ≤ t →
     run (raise t s) x ≡ raise t (run s x)
 run-raised t s [] few = refl
 run-raised t s (byte ∷ x) few =
-    ap (λ s. run s x) (step-raised t s byte (le_trans (top-grows (step s byte) x) few))
+    ap (λ s. run s x)
+    (act-raised t (action s.spot byte) s (le_trans (top-grows (step s byte) x) few))
     ∙ run-raised t (step s byte) x few
 
 -- if a text continues with `<` and ends as required, no tag has begun
@@ -133,7 +64,7 @@ begins-out s z ends = by s.spot refl ends
     stays : (run (to Bad s) z).spot ≡ Out → {A : Type 0} → A
     stays out = absurd (cc (sym (bad-stays z s.level s.top) ∙ out))
 
-    by : (spot : Spot) → s.spot ≡ spot → (run (stepped spot s 60) z).spot ≡ Out → spot ≡ Out
+    by : (spot : Spot) → s.spot ≡ spot → (run (act (action spot 60) s) z).spot ≡ Out → spot ≡ Out
     by Out is out = refl
     by Begun is out = stays out
     by OfB is out = stays out
@@ -149,7 +80,7 @@ pub leads-put : (n k : ℕ) (y w z : List ℕ) → Leads 0 0 n (y ++ (60 ∷ z))
 leads-put n k y w z f g = record {
   leads = λ l t few.
       let low : ℕ = t - k in
-      let room : l + n ≤ low = omega (arith, few) in
+      let room : l + n ≤ low = omega arith in
       let begun : State = at (l + 0) low in
       let here : State = run begun y in
       let whole : run here (60 ∷ z) ≡ begun =
@@ -159,10 +90,10 @@ leads-put n k y w z f g = record {
       same-top low here.top (run here (60 ∷ z)).top (top-grows begun y) (top-grows here (60 ∷ z))
       (ap (λ s. s.top) whole) in
       let level : here.level ≤ low =
-      subst (λ top. here.level ≤ top) most (below-top begun y (omega (arith, room))) in
+      subst (λ top. here.level ≤ top) most (below-top begun y (omega arith)) in
       let is : here ≡ at here.level low = state here out most in
       let first : run (at (l + 0) t) y ≡ at here.level t =
-      run-raised t begun y (omega (arith, most, few)) ∙ ap (raise t) is in
+      run-raised t begun y (omega arith) ∙ ap (raise t) is in
       let none : here.level + 0 ≡ here.level = omega arith in
       let second : run (at here.level t) w ≡ at here.level t =
       ap (λ level. run (at level t) w) (sym none)

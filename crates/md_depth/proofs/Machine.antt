@@ -28,33 +28,40 @@ abbrev pub lower : ℕ → ℕ
 lower zero = 0
 lower (suc n) = n
 
-abbrev pub opened : State → State
-opened s = record { spot = Out; level = suc s.level; top = max s.top (suc s.level) }
-
-abbrev pub voided : State → State
-voided s = record { spot = Out; level = s.level; top = max s.top (suc s.level) }
-
-abbrev pub closed : State → State
-closed s = record { spot = Out; level = lower s.level; top = s.top }
-
 abbrev pub to : Spot → State → State
 to spot s = record { spot = spot; level = s.level; top = s.top }
 
--- after a first letter that a void tag may have
-abbrev pub second : State → ℕ → State
-second s byte = cond (byte == 114) (voided s) (cond (byte == 60) (to Bad s) (opened s))
+-- what a byte does: nothing, it goes on to a spot, opens an element, is in a void tag, or closes an
+-- element
+pub data Action : Type 0 where
+  Stay : Action
+  Move : (spot : Spot) → Action
+  Open : Action
+  Void : Action
+  Close : Action
 
-abbrev pub stepped : Spot → State → ℕ → State
-stepped Out s byte = cond (byte == 60) (to Begun s) s
-stepped Begun s byte = cond (byte == 47) (closed s) (cond (byte == 98) (to OfB s)
-    (cond (byte == 104) (to OfH s) (cond (byte == 105) (voided s)
-    (cond (byte == 60) (to Bad s) (opened s)))))
-stepped OfB s byte = second s byte
-stepped OfH s byte = second s byte
-stepped Bad s byte = s
+abbrev pub act : Action → State → State
+act Stay s = s
+act (Move spot) s = to spot s
+act Open s = record { spot = Out; level = suc s.level; top = max s.top (suc s.level) }
+act Void s = record { spot = Out; level = s.level; top = max s.top (suc s.level) }
+act Close s = record { spot = Out; level = lower s.level; top = s.top }
+
+-- after a first letter that a void tag may have
+abbrev second : ℕ → Action
+second byte = cond (byte == 114) Void (cond (byte == 60) (Move Bad) Open)
+
+abbrev pub action : Spot → ℕ → Action
+action Out byte = cond (byte == 60) (Move Begun) Stay
+action Begun byte = cond (byte == 47) Close (cond (byte == 98) (Move OfB)
+    (cond (byte == 104) (Move OfH) (cond (byte == 105) Void
+    (cond (byte == 60) (Move Bad) Open))))
+action OfB byte = second byte
+action OfH byte = second byte
+action Bad byte = Stay
 
 abbrev pub step : State → ℕ → State
-step s byte = stepped s.spot s byte
+step s byte = act (action s.spot byte) s
 
 abbrev pub run : State → List ℕ → State
 run s [] = s
@@ -72,7 +79,7 @@ quiet (byte ∷ x) h l t =
     by (byte == 60) p.0 ∙ quiet x p.1 l t
   where
     by : (is : Bool) → not is ≡ true →
-        run (cond is (to Begun (at l t)) (at l t)) x ≡ run (at l t) x
+        run (act (cond is (Move Begun) Stay) (at l t)) x ≡ run (at l t) x
     by true h = lie h
     by false h = refl
 
@@ -81,51 +88,57 @@ quiet (byte ∷ x) h l t =
 pub record Leads (a b n : ℕ) (x : List ℕ) : Type 0 where
   pub leads : (l t : ℕ) → l + n ≤ t → run (at (l + a) t) x ≡ at (l + b) t
 
-pub leads-quiet : (a n : ℕ) (x : List ℕ) → list_all no_angle x ≡ true → Leads a a n x
-leads-quiet a n x h = record { leads = λ l t few. quiet x h (l + a) t }
+pub leads-quiet : {a n : ℕ} (x : List ℕ) → list_all no_angle x ≡ true → Leads a a n x
+leads-quiet {a} x h = record { leads = λ l t few. quiet x h (l + a) t }
 
-pub leads-append : (a b c n : ℕ) (x y : List ℕ) → Leads a b n x → Leads b c n y →
-    Leads a c n (x ++ y)
-leads-append a b c n x y f g = record {
+infixr 4 ◌▹◌
+pub ◌▹◌ : {a b c n : ℕ} {x y : List ℕ} → Leads a b n x → Leads b c n y → Leads a c n (x ++ y)
+◌▹◌ {a} {b} {c} {n} {x} {y} f g = record {
   leads = λ l t few.
       run-append (at (l + a) t) x y ∙ ap (λ s. run s y) (f.leads l t few) ∙ g.leads l t few;
 }
 
+-- one or the other
+pub leads-either : {a b n : ℕ} (test : Bool) {x y : List ℕ} → Leads a b n x → Leads a b n y →
+    Leads a b n (cond test x y)
+leads-either true f g = f
+leads-either false f g = g
+
 -- a start tag, as each computes
-pub leads-open : (a n : ℕ) (x : List ℕ) →
+pub leads-open : {a n : ℕ} (x : List ℕ) →
     ((l t : ℕ) → run (at l t) x ≡ at (suc l) (max t (suc l))) → suc a ≤ n → Leads a (suc a) n x
-leads-open a n x computes fits = record {
+leads-open {a} x computes fits = record {
   leads = λ l t few.
       let level : suc (l + a) ≡ l + suc a = omega arith in
-      let top : max t (suc (l + a)) ≡ t = omega (arith, few, fits) in
+      let top : max t (suc (l + a)) ≡ t = omega arith in
       computes (l + a) t ∙ ap (λ level. at level (max t (suc (l + a)))) level
       ∙ ap (λ top. at (l + suc a) top) top;
 }
 
 -- an end tag
-pub leads-close : (a n : ℕ) (x : List ℕ) → ((l t : ℕ) → run (at (suc l) t) x ≡ at l t) →
+pub leads-close : {a n : ℕ} (x : List ℕ) → ((l t : ℕ) → run (at (suc l) t) x ≡ at l t) →
     Leads (suc a) a n x
-leads-close a n x computes = record {
+leads-close {a} x computes = record {
   leads = λ l t few.
       let level : l + suc a ≡ suc (l + a) = omega arith in
       ap (λ level. run (at level t) x) level ∙ computes (l + a) t;
 }
 
 -- a void tag
-pub leads-void : (a n : ℕ) (x : List ℕ) →
+pub leads-void : {a n : ℕ} (x : List ℕ) →
     ((l t : ℕ) → run (at l t) x ≡ at l (max t (suc l))) → suc a ≤ n → Leads a a n x
-leads-void a n x computes fits = record {
+leads-void {a} x computes fits = record {
   leads = λ l t few.
-      let top : max t (suc (l + a)) ≡ t = omega (arith, few, fits) in
+      let top : max t (suc (l + a)) ≡ t = omega arith in
       computes (l + a) t ∙ ap (λ top. at (l + a) top) top;
 }
 
 -- a text that keeps what is open, where some are open
-pub leads-kept : (a m n : ℕ) (x : List ℕ) → Leads 0 0 m x → a + m ≤ n → Leads a a n x
-leads-kept a m n x f fits = record {
+pub leads-kept : {a m n : ℕ} {x : List ℕ} → Leads 0 0 m x → a + m ≤ n → Leads a a n x
+leads-kept {a} {m} {n} {x} f fits = record {
   leads = λ l t few.
       let none : (l + a) + 0 ≡ l + a = omega arith in
-      let room : (l + a) + m ≤ t = omega (arith, few, fits) in
+      let room : (l + a) + m ≤ t = omega arith in
       ap (λ level. run (at level t) x) (sym none) ∙ f.leads (l + a) t room
       ∙ ap (λ level. at level t) none;
 }

@@ -4,7 +4,7 @@ use Rattle.std.proofs.Common.{◌≡◌, ℕ, ◌+◌, ◌≤◌, suc, max, Bool
 use Rattle.std.proofs.Common.{◌∷◌, ◌++◌, refl, ap, sym, ◌∙◌, arith}
 use Rattle.md_text.proofs.HtmlNames.{no_angle, escaped-angle}
 use Rattle.md_meaning.specs.Meaning.Layout.{Piece, Text, Needed, Forced, begins_line, laid_after}
-use Rattle.md_meaning.specs.Meaning.Layout.{layout, on_own_line, when}
+use Rattle.md_meaning.specs.Meaning.Layout.{layout, on_own_line}
 use Rattle.md_safe.proofs.Texts.{Escaped}
 use Rattle.md_safe.proofs.Laid.{Adds, adds-weaker, laid-append}
 use Rattle.md_depth.proofs.Machine.{State, at, run, run-append, quiet, Leads, leads-quiet}
@@ -24,23 +24,23 @@ pub ◌▸◌ : {e : List ℕ} {n a b c : ℕ} {xs ys : List Piece} → Moves e 
       ∙ g.moves s (laid_after e text xs) l t few (f.moves s text l t few before);
 }
 
-pub text : (e : List ℕ) (n a b : ℕ) (x : List ℕ) → Leads a b n x → Moves e n a b (Text x ∷ [])
-text e n a b x f = record {
+pub text : {e : List ℕ} {n a b : ℕ} {x : List ℕ} → Leads a b n x → Moves e n a b (Text x ∷ [])
+text {x = x} f = record {
   moves = λ s text l t few before.
       run-append s text x ∙ ap (λ s. run s x) before ∙ f.leads l t few;
 }
 
-pub none : (e : List ℕ) (n a : ℕ) → Moves e n a a []
-none e n a = record { moves = λ s text l t few before. before }
+pub none : {e : List ℕ} {n a : ℕ} → Moves e n a a []
+none = record { moves = λ s text l t few before. before }
 
-pub forced : (e : List ℕ) (n a : ℕ) → Escaped e → Moves e n a a (Forced ∷ [])
-forced e n a h = record {
+pub forced : {e : List ℕ} {n a : ℕ} → Escaped e → Moves e n a a (Forced ∷ [])
+forced {e} {n} {a} h = record {
   moves = λ s text l t few before.
       run-append s text e ∙ ap (λ s. run s e) before ∙ quiet e (escaped-angle e h) (l + a) t;
 }
 
-pub needed : (e : List ℕ) (n a : ℕ) → Escaped e → Moves e n a a (Needed ∷ [])
-needed e n a h = record {
+pub needed : {e : List ℕ} {n a : ℕ} → Escaped e → Moves e n a a (Needed ∷ [])
+needed {e} {n} {a} h = record {
   moves = λ s text l t few before. by s text l t (begins_line text) before;
 }
   where
@@ -50,45 +50,51 @@ needed e n a h = record {
     by s text l t false before =
         run-append s text e ∙ ap (λ s. run s e) before ∙ quiet e (escaped-angle e h) (l + a) t
 
+-- one or the other
+pub choose : {e : List ℕ} {n a b : ℕ} (test : Bool) {xs ys : List Piece} → Moves e n a b xs →
+    Moves e n a b ys → Moves e n a b (cond test xs ys)
+choose true f g = f
+choose false f g = g
+
 -- pieces that add a text without `<`
-pub adds-quiet : (e : List ℕ) (n a : ℕ) (pieces : List Piece) →
+pub adds-quiet : {e : List ℕ} {n a : ℕ} (pieces : List Piece) →
     Adds e (λ x. list_all no_angle x ≡ true) pieces → Moves e n a a pieces
-adds-quiet e n a pieces adds = record {
+adds-quiet {e} {n} {a} pieces adds = record {
   moves = λ s text l t few before.
       let r = adds.to text in
       ap (run s) r.grown ∙ run-append s text r.added ∙ ap (λ s. run s r.added) before
       ∙ quiet r.added r.it_holds (l + a) t;
 }
 
-pub adds-escaped : (e : List ℕ) (n a : ℕ) (pieces : List Piece) → Adds e Escaped pieces →
+pub adds-escaped : {e : List ℕ} {n a : ℕ} (pieces : List Piece) → Adds e Escaped pieces →
     Moves e n a a pieces
-adds-escaped e n a pieces adds = adds-quiet e n a pieces (adds-weaker escaped-angle adds)
+adds-escaped pieces adds = adds-quiet pieces (adds-weaker escaped-angle adds)
 
 -- pieces in more elements that are open, where more may be
-pub more : (e : List ℕ) (a m n : ℕ) (pieces : List Piece) → a + m ≤ n → Moves e m 0 0 pieces →
+pub more : {e : List ℕ} {a m n : ℕ} {pieces : List Piece} → a + m ≤ n → Moves e m 0 0 pieces →
     Moves e n a a pieces
-more e a m n pieces fits f = record {
+more {e} {a} {m} fits f = record {
   moves = λ s text l t few before.
       let nothing : (l + a) + 0 ≡ l + a = omega arith in
-      let room : (l + a) + m ≤ t = omega (arith, few, fits) in
+      let room : (l + a) + m ≤ t = omega arith in
       f.moves s text (l + a) t room (before ∙ ap (λ level. at level t) (sym nothing))
       ∙ ap (λ level. at level t) nothing;
 }
 
 -- the text of pieces that are laid by themselves
-pub laid : (e : List ℕ) (n : ℕ) (pieces : List Piece) → Moves e n 0 0 pieces →
+pub laid : {e : List ℕ} {n : ℕ} {pieces : List Piece} → Moves e n 0 0 pieces →
     Leads 0 0 n (layout e pieces)
-laid e n pieces f = record { leads = λ l t few. f.moves (at (l + 0) t) [] l t few refl }
+laid f = record { leads = λ l t few. f.moves (at (l + 0) t) [] l t few refl }
 
 -- ---- single pieces
 
-pub plain : (e : List ℕ) (n a : ℕ) (x : List ℕ) → Escaped x → Moves e n a a (Text x ∷ [])
-plain e n a x h = text e n a a x (leads-quiet a n x (escaped-angle x h))
+pub plain : {e : List ℕ} {n a : ℕ} (x : List ℕ) → Escaped x → Moves e n a a (Text x ∷ [])
+plain x h = text (leads-quiet x (escaped-angle x h))
 
 -- a part of a tag
-pub part : (e : List ℕ) (n a : ℕ) (x : List ℕ) → list_all no_angle x ≡ true →
+pub part : {e : List ℕ} {n a : ℕ} (x : List ℕ) → list_all no_angle x ≡ true →
     Moves e n a a (Text x ∷ [])
-part e n a x h = text e n a a x (leads-quiet a n x h)
+part x h = text (leads-quiet x h)
 
 abbrev pub IsOpening : List ℕ → Type 0
 IsOpening x = (l t : ℕ) → run (at l t) x ≡ at (suc l) (max t (suc l))
@@ -99,38 +105,28 @@ IsClosing x = (l t : ℕ) → run (at (suc l) t) x ≡ at l t
 abbrev pub IsVoid : List ℕ → Type 0
 IsVoid x = (l t : ℕ) → run (at l t) x ≡ at l (max t (suc l))
 
-pub open_tag : (e : List ℕ) (n a : ℕ) (x : List ℕ) → IsOpening x → suc a ≤ n →
+pub open_tag : {e : List ℕ} {n a : ℕ} (x : List ℕ) → IsOpening x → suc a ≤ n →
     Moves e n a (suc a) (Text x ∷ [])
-open_tag e n a x computes fits = text e n a (suc a) x (leads-open a n x computes fits)
+open_tag x computes fits = text (leads-open x computes fits)
 
-pub close_tag : (e : List ℕ) (n a : ℕ) (x : List ℕ) → IsClosing x →
+pub close_tag : {e : List ℕ} {n a : ℕ} (x : List ℕ) → IsClosing x →
     Moves e n (suc a) a (Text x ∷ [])
-close_tag e n a x computes = text e n (suc a) a x (leads-close a n x computes)
+close_tag x computes = text (leads-close x computes)
 
-pub void_tag : (e : List ℕ) (n a : ℕ) (x : List ℕ) → IsVoid x → suc a ≤ n →
+pub void_tag : {e : List ℕ} {n a : ℕ} (x : List ℕ) → IsVoid x → suc a ≤ n →
     Moves e n a a (Text x ∷ [])
-void_tag e n a x computes fits = text e n a a x (leads-void a n x computes fits)
+void_tag x computes fits = text (leads-void x computes fits)
 
-pub kept : (e : List ℕ) (n a m : ℕ) (x : List ℕ) → Leads 0 0 m x → a + m ≤ n →
+pub kept : {e : List ℕ} {n a m : ℕ} {x : List ℕ} → Leads 0 0 m x → a + m ≤ n →
     Moves e n a a (Text x ∷ [])
-kept e n a m x f fits = text e n a a x (leads-kept a m n x f fits)
+kept f fits = text (leads-kept f fits)
 
 -- ---- on lines of their own
 
-pub open_line : (e : List ℕ) (n a : ℕ) (x : List ℕ) → Escaped e → IsOpening x → suc a ≤ n →
+pub open_line : {e : List ℕ} {n a : ℕ} (x : List ℕ) → Escaped e → IsOpening x → suc a ≤ n →
     Moves e n a (suc a) (on_own_line x)
-open_line e n a x h computes fits = needed e n a h ▸ open_tag e n a x computes fits
+open_line x h computes fits = needed h ▸ open_tag x computes fits
 
-pub close_line : (e : List ℕ) (n a : ℕ) (x : List ℕ) → Escaped e → IsClosing x →
+pub close_line : {e : List ℕ} {n a : ℕ} (x : List ℕ) → Escaped e → IsClosing x →
     Moves e n (suc a) a (on_own_line x)
-close_line e n a x h computes = needed e n (suc a) h ▸ close_tag e n a x computes
-
-pub when_needed : (e : List ℕ) (n a : ℕ) → Escaped e → (holds : Bool) →
-    Moves e n a a (when holds (Needed ∷ []))
-when_needed e n a h true = needed e n a h
-when_needed e n a h false = none e n a
-
-pub when_forced : (e : List ℕ) (n a : ℕ) → Escaped e → (holds : Bool) →
-    Moves e n a a (when holds (Forced ∷ []))
-when_forced e n a h true = forced e n a h
-when_forced e n a h false = none e n a
+close_line x h computes = needed h ▸ close_tag x computes

@@ -1,7 +1,6 @@
 -- A node among blocks leaves no element open, and opens two at most beside what its children open.
 use Rattle.std.proofs.Common.{◌≡◌, ℕ, ◌≤◌, suc, Bool, true, false, not, ◌||◌, List, refl, sym}
-use Rattle.std.proofs.Common.{◌∙◌, ap, subst, inl, inr, arith}
-use Rattle.std.proofs.lemmas.Bool.{or_cases}
+use Rattle.std.proofs.Common.{◌∙◌, ap, subst, arith}
 use Rattle.md_base.proofs.Lies.{lie}
 use Rattle.md_base.specs.declared.event.Name.{Name}
 use Rattle.md_base.specs.NameTests.{is_transparent}
@@ -22,8 +21,10 @@ use Rattle.md_depth.proofs.Moves.{Moves, none, more, adds-escaped}
 use Rattle.md_depth.proofs.SpanMoves.{Room, Below, span-moves, autolink-moves}
 use Rattle.md_depth.proofs.BlockMoves.{flow-moves, table-moves}
 
-marks : (name : Name) → is_silent name ≡ not (is_marked name)
-marks name = refl
+-- one of two tests holds
+pick : {P : Type 0} (a b : Bool) → (a || b) ≡ true → (a ≡ true → P) → (b ≡ true → P) → P
+pick true b h f g = f refl
+pick false b h f g = g h
 
 pub node-moves : (s : Setting) (t : At) (m n : ℕ) → Room m n → (name : Name) →
     t.around.is_escaping ≡ true → is_transparent name ≡ false →
@@ -41,32 +42,16 @@ node-moves s t m n room name e solid whole fit head good inner a below = by (is_
     by false h =
         let is : is_silent name ≡ true = ap not h in
         subst (Moves ending n 0 0) (sym (silent-prints s.context t name is inner))
-        (more ending 0 m n inner (omega (arith, room)) (below (silent-block name is).0))
-    by true h = elim (or_cases (is_transparent name) _ h) [
-      | inl is ↦ lie (sym solid ∙ is)
-      | inr c ↦ elim (or_cases (is_part name || is_source name) _ c) [
-        | inl is ↦ lie (sym whole ∙ is)
-        | inr c ↦ elim (or_cases (is_text name) _ c) [
-          | inl is ↦ adds-escaped ending n 0 (prints s.context t name inner)
-              (text-node s t Escaped name (λ x h. h e) is fit inner)
-          | inr c ↦ elim (or_cases (is_shown name) _ c) [
-            | inl is ↦ span-moves s t m n room name e is good inner a below
-            | inr c ↦ elim (or_cases (is_autolink name) _ c) [
-              | inl is ↦ autolink-moves s t m n room name is inner
-              | inr c ↦ elim (or_cases (is_flow name) _ c) [
-                | inl is ↦ flow-moves s t m n room name is fit head inner a below
-                | inr c ↦ elim (or_cases (is_leaf name) _ c) [
-                  | inl is ↦ adds-escaped ending n 0 (prints s.context t name inner)
-                      (leaf-escaped s t name e is fit inner)
-                  | inr c ↦ elim (or_cases (is_hidden name) (is_tabular name) c) [
-                    | inl is ↦ subst (Moves ending n 0 0)
-                        (sym (hidden-prints s.context t name is inner)) (none ending n 0)
-                    | inr is ↦ table-moves s t m n room name is inner below
-                  ]
-                ]
-              ]
-            ]
-          ]
-        ]
-      ]
-    ]
+        (more (omega arith) (below (silent-block name is).0))
+    by true h = pick (is_transparent name) _ h (λ is. lie (sym solid ∙ is)) (λ c.
+        pick (is_part name || is_source name) _ c (λ is. lie (sym whole ∙ is)) (λ c.
+        pick (is_text name) _ c (λ is. adds-escaped (prints s.context t name inner)
+        (text-node s t Escaped name (λ x h. h e) is fit inner)) (λ c.
+        pick (is_shown name) _ c (λ is. span-moves s t m n room name e is good inner a below) (λ c.
+        pick (is_autolink name) _ c (λ is. autolink-moves s t m n room name is inner) (λ c.
+        pick (is_flow name) _ c (λ is. flow-moves s t m n room name is fit head inner a below) (λ c.
+        pick (is_leaf name) _ c (λ is. adds-escaped (prints s.context t name inner)
+        (leaf-escaped s t name e is fit inner)) (λ c.
+        pick (is_hidden name) (is_tabular name) c
+        (λ is. subst (Moves ending n 0 0) (sym (hidden-prints s.context t name is inner)) none)
+        (λ is. table-moves s t m n room name is inner below))))))))

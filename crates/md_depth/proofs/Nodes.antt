@@ -1,6 +1,5 @@
 -- The events of a document nest just as deep as its nodes: one induction over the nodes.
-use Rattle.std.proofs.Common.{◌≡◌, ℕ, ◌+◌, ◌-◌, ◌≤◌, suc, max, List, [], ◌∷◌, ◌++◌, ap, sym}
-use Rattle.std.proofs.Common.{◌∙◌}
+use Rattle.std.proofs.Common.{◌≡◌, ℕ, ◌+◌, ◌-◌, ◌≤◌, suc, max, List, [], ◌∷◌, ◌++◌, ap, sym, ◌∙◌}
 use Rattle.std.proofs.Common.{append_assoc, arith}
 use Rattle.std.proofs.lemmas.List.{append-nil}
 use Rattle.md_base.specs.declared.event.Event.{Event}
@@ -22,12 +21,6 @@ one-more most opened event following few =
     let later = open_counts (opened_after opened event) following in
     omega (arith, later, few)
 
-node_nests : (opened children rest later all inner : ℕ) →
-    inner ≡ max (suc opened + children) (max (suc opened) later) →
-    later ≡ max (opened + rest) all → opened ≤ all →
-    max opened inner ≡ max (opened + max (suc children) rest) all
-node_nests opened children rest later all inner into on more = omega arith
-
 -- after a node that many nodes are open again
 left : (name : Name) (end : Point) (opened : ℕ) (events : List Event) →
     deepest (suc opened) (exiting name end ∷ events) ≡ max (suc opened) (deepest opened events)
@@ -39,25 +32,18 @@ left name end opened events = ap (λ n. max (suc opened) (deepest n events)) les
 -- nodes among events
 nests : (nodes : Forest) (opened : ℕ) (events : List Event) →
     deepest opened (flatten nodes ++ events) ≡ max (opened + height nodes) (deepest opened events)
-nests Empty opened events =
-    let more = open_counts opened events in
-    omega arith
+nests Empty opened events = omega (arith, open_counts opened events)
 nests (Node name start end children rest) opened events =
-    let after : List Event = exiting name end ∷ flatten rest ++ events in
-    let into : deepest (suc opened) (flatten children ++ after)
-    ≡ max (suc opened + height children) (deepest (suc opened) after) =
-    nests children (suc opened) after in
-    let closed = into
-    ∙ ap (λ n. max (suc opened + height children) n)
-    (left name end opened (flatten rest ++ events)) in
-    let on = nests rest opened events in
-    let split : (flatten children ++ exiting name end ∷ flatten rest) ++ events
-    ≡ flatten children ++ after =
-    append_assoc (flatten children) (exiting name end ∷ flatten rest) events in
-    ap (λ es. max opened (deepest (suc opened) es)) split
-    ∙ node_nests opened (height children) (height rest) (deepest opened (flatten rest ++ events))
-    (deepest opened events) (deepest (suc opened) (flatten children ++ after)) closed on
-    (open_counts opened events)
+    let after : List Event = flatten rest ++ events in
+    omega (
+      arith,
+      ap (deepest (suc opened))
+          (append_assoc (flatten children) (exiting name end ∷ flatten rest) events),
+      nests children (suc opened) (exiting name end ∷ after),
+      left name end opened after,
+      nests rest opened events,
+      open_counts opened events,
+    )
 
 pub events-nest : (document : Forest) → depth (flatten document) ≡ height document
 events-nest document =

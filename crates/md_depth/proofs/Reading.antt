@@ -4,17 +4,17 @@ use Rattle.std.specs.Str.{bytes_eq}
 use Rattle.std.specs.Prelude.{IsTrue}
 use Rattle.std.specs.List.{list_all}
 use Rattle.std.specs.Cmp.Lexicographic.{bytes_decides}
-use Rattle.std.proofs.Common.{◌≡◌, ℕ, ◌+◌, ◌≤◌, suc, max, Bool, true, false, not, ◌&&◌, List, []}
+use Rattle.std.proofs.Common.{◌≡◌, ℕ, ◌+◌, ◌≤◌, suc, max, Bool, true, not, ◌&&◌, List, []}
 use Rattle.std.proofs.Common.{◌∷◌, ◌++◌, refl, ap, sym, ◌∙◌, subst, arith, inl, inr}
 use Rattle.std.proofs.lemmas.Bool.{and_parts, or_cases}
+use Rattle.std.proofs.lemmas.List.Folds.{list_all-append}
 use Rattle.md_base.proofs.Lies.{lie}
 use Rattle.md_base.specs.Identifier.{is_nonempty}
 use Rattle.md_text.specs.References.{is_escaped}
 use Rattle.md_text.specs.Html.{Forest, Empty, Text, Void, Element, Attribute, written}
 use Rattle.md_text.specs.Html.{written_attributes, are_attributes, elements, void_tags, is_tag}
 use Rattle.md_text.specs.Html.{is_forest, begins_with_text, IsReading}
-use Rattle.md_text.proofs.HtmlNames.{no_angle, is_name_byte, escaped-angle}
-use Rattle.md_text.proofs.HtmlNames.{element-tidy, void-tidy}
+use Rattle.md_text.proofs.HtmlNames.{no_angle, is_name_byte, escaped-angle, element-tidy, void-tidy}
 use Rattle.md_text.proofs.HtmlAngles.{name-angle, tag-angle}
 use Rattle.md_depth.specs.Levels.{levels}
 use Rattle.md_depth.proofs.Machine.{State, at, Begun, to, run, run-append, quiet, Leads}
@@ -59,11 +59,11 @@ tags-void : Each Voids void_tags
 tags-void =
     (λ l t. refl) ⊗ (λ l t. refl) ⊗ (λ l t. refl) ⊗ (λ l t. refl) ⊗ tt
 
--- what follows a text that has no `<`
-rest-angle : (x y : List ℕ) → list_all no_angle (x ++ y) ≡ true → list_all no_angle y ≡ true
-rest-angle [] y h = h
-rest-angle (b ∷ x) y h =
-    rest-angle x y (and_parts (no_angle b) (list_all no_angle (x ++ y)) h).1
+-- the parts of a text without `<`
+parts : (x y : List ℕ) → list_all no_angle (x ++ y) ≡ true →
+    (list_all no_angle x ≡ true) × (list_all no_angle y ≡ true)
+parts x y h =
+    and_parts (list_all no_angle x) (list_all no_angle y) (sym (list_all-append no_angle x y) ∙ h)
 
 -- some text without `<`, and then another
 past : (x y : List ℕ) (l t : ℕ) → list_all no_angle x ≡ true →
@@ -77,24 +77,12 @@ tag : (name : List ℕ) (attributes : List Attribute) (end rest : List ℕ) (l t
     run (at l t) (60 ∷ (name ++ (written_attributes attributes ++ (end ++ rest))))
     ≡ run (at level top) rest
 tag name attributes end rest l t s level top is after h =
-    let around = rest-angle name (written_attributes attributes ++ end) h in
-    let more : list_all no_angle end ≡ true =
-    rest-angle (written_attributes attributes) end around in
+    let around = parts (written_attributes attributes) end
+    (parts name (written_attributes attributes ++ end) h).1 in
     run-append (to Begun (at l t)) name (written_attributes attributes ++ (end ++ rest))
     ∙ ap (λ s. run s (written_attributes attributes ++ (end ++ rest))) (after ∙ is)
-    ∙ past (written_attributes attributes) (end ++ rest) level top
-    (first-angle (written_attributes attributes) end around)
-    ∙ past end rest level top more
-  where
-    first-angle : (x y : List ℕ) → list_all no_angle (x ++ y) ≡ true → list_all no_angle x ≡ true
-    first-angle [] y h = refl
-    first-angle (b ∷ x) y h =
-        let p = and_parts (no_angle b) (list_all no_angle (x ++ y)) h in
-        both (no_angle b) (list_all no_angle x) p.0 (first-angle x y p.1)
-      where
-        both : (a b : Bool) → a ≡ true → b ≡ true → (a && b) ≡ true
-        both true b h g = g
-        both false b h g = h
+    ∙ past (written_attributes attributes) (end ++ rest) level top around.0
+    ∙ past end rest level top around.1
 
 levels-open : (l t inner rest : ℕ) →
     max (max (max t (suc l)) (suc l + inner)) (l + rest) ≡ max t (l + max (suc inner) rest)

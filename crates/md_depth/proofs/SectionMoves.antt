@@ -12,7 +12,7 @@ use Rattle.std.proofs.lemmas.Slice.Eq.{bytes_eq-Decides}
 use Rattle.md_text.specs.declared.options.CompileOptions.{CompileOptions}
 use Rattle.md_text.proofs.EncodeLaws.{is_escaped-encoded}
 use Rattle.md_meaning.specs.Meaning.At.{Footnote, Context}
-use Rattle.md_meaning.specs.Meaning.Layout.{Piece, Text, Needed, Forced}
+use Rattle.md_meaning.specs.Meaning.Layout.{Piece, Text, Needed}
 use Rattle.md_meaning.specs.Meaning.Footnotes.{option_or, id_of, call_id, backreference}
 use Rattle.md_meaning.specs.Meaning.Footnotes.{backreferences, unended_length, body, item}
 use Rattle.md_meaning.specs.Meaning.Footnotes.{section_start, section, distinct, place_among}
@@ -22,12 +22,11 @@ use Rattle.md_safe.proofs.Texts.{Escaped, decimal-escaped}
 use Rattle.md_safe.proofs.Calls.{label-escaped, id-escaped, call_id-escaped}
 use Rattle.md_safe.proofs.Section.{heading_label_of, text_among}
 use Rattle.md_text.proofs.HtmlNames.{escaped-angle}
-use Rattle.md_depth.proofs.Machine.{Leads, leads-quiet, leads-append, leads-open, leads-close}
+use Rattle.md_depth.proofs.Machine.{Leads, ◌▹◌, leads-either, leads-quiet, leads-open, leads-close}
 use Rattle.md_depth.proofs.Machine.{run}
 use Rattle.md_depth.proofs.Moves as moves
 use Rattle.md_depth.proofs.Moves.{Moves, ◌▸◌, none, needed, forced, plain, part, open_tag}
-use Rattle.md_depth.proofs.Moves.{close_tag}
-use Rattle.md_depth.proofs.Moves.{close_line, kept}
+use Rattle.md_depth.proofs.Moves.{close_tag, close_line, kept, choose}
 use Rattle.md_depth.proofs.Insertion.{leads-put}
 use Rattle.md_depth.proofs.ForestMoves.{TextsLead}
 
@@ -42,56 +41,37 @@ back-escaped options = by (option_map string_bytes options.gfm_footnote_back_lab
     by None = refl
     by (Some x) = is_escaped-encoded x
 
-which-leads : (occurrence : ℕ) (one : Bool) →
-    Leads 1 1 2 (cond one [] (codes "<sup>" ++ (decimal occurrence ++ codes "</sup>")))
-which-leads occurrence true = leads-quiet 1 2 [] refl
-which-leads occurrence false =
-    leads-append 1 2 1 2 (codes "<sup>") (decimal occurrence ++ codes "</sup>")
-    (leads-open 1 2 (codes "<sup>") (λ l t. refl) (omega arith))
-    (leads-append 2 2 1 2 (decimal occurrence) (codes "</sup>")
-    (leads-quiet 2 2 (decimal occurrence)
-    (escaped-angle (decimal occurrence) (decimal-escaped occurrence)))
-    (leads-close 1 2 (codes "</sup>") (λ l t. refl)))
-
 back-leads : (options : CompileOptions) (identifier : List ℕ) (number occurrence : ℕ) →
     Leads 0 0 2 (backreference options identifier number occurrence)
 back-leads options identifier number occurrence =
     let id : List ℕ = call_id options identifier number occurrence in
     let label : List ℕ = option_or (option_map string_bytes options.gfm_footnote_back_label)
     (codes "Back to content") in
-    leads-append 0 1 0 2 (codes "<a href=\"#") _
-    (leads-open 0 2 (codes "<a href=\"#") (λ l t. refl) (omega arith))
-    (leads-append 1 1 0 2 id _
-    (leads-quiet 1 2 id
-    (escaped-angle id (call_id-escaped options identifier number occurrence)))
-    (leads-append 1 1 0 2 (codes "\" data-footnote-backref=\"\" aria-label=\"") _
-    (leads-quiet 1 2 (codes "\" data-footnote-backref=\"\" aria-label=\"") refl)
-    (leads-append 1 1 0 2 label _
-    (leads-quiet 1 2 label (escaped-angle label (back-escaped options)))
-    (leads-append 1 1 0 2 (codes "\" class=\"data-footnote-backref\">") _
-    (leads-quiet 1 2 (codes "\" class=\"data-footnote-backref\">") refl)
-    (leads-append 1 1 0 2 (226 ∷ 134 ∷ 169 ∷ []) _
-    (leads-quiet 1 2 (226 ∷ 134 ∷ 169 ∷ []) refl)
-    (leads-append 1 1 0 2 _ (codes "</a>") (which-leads occurrence (occurrence == 1))
-    (leads-close 0 2 (codes "</a>") (λ l t. refl))))))))
+    leads-open (codes "<a href=\"#") (λ l t. refl) (omega arith)
+    ▹ leads-quiet id (escaped-angle id (call_id-escaped options identifier number occurrence))
+    ▹ leads-quiet (codes "\" data-footnote-backref=\"\" aria-label=\"") refl
+    ▹ leads-quiet label (escaped-angle label (back-escaped options))
+    ▹ leads-quiet (codes "\" class=\"data-footnote-backref\">") refl
+    ▹ leads-quiet (226 ∷ 134 ∷ 169 ∷ []) refl
+    ▹ leads-either (occurrence == 1) (leads-quiet [] refl)
+    (leads-open (codes "<sup>") (λ l t. refl) (omega arith)
+    ▹ leads-quiet (decimal occurrence)
+    (escaped-angle (decimal occurrence) (decimal-escaped occurrence))
+    ▹ leads-close (codes "</sup>") (λ l t. refl))
+    ▹ leads-close (codes "</a>") (λ l t. refl)
 
 backs-lead : (options : CompileOptions) (identifier : List ℕ) (number count : ℕ) →
     Leads 0 0 2 (backreferences options identifier number count)
-backs-lead options identifier number zero = leads-quiet 0 2 [] refl
+backs-lead options identifier number zero = leads-quiet [] refl
 backs-lead options identifier number (suc count) =
-    leads-append 0 0 0 2 (backreferences options identifier number count) _
-    (backs-lead options identifier number count)
-    (leads-append 0 0 0 2 (cond (count == 0) [] (codes " ")) _ (between (count == 0))
-    (back-leads options identifier number (suc count)))
-  where
-    between : (first : Bool) → Leads 0 0 2 (cond first [] (codes " "))
-    between true = leads-quiet 0 2 [] refl
-    between false = leads-quiet 0 2 (codes " ") refl
+    backs-lead options identifier number count
+    ▹ leads-either (count == 0) (leads-quiet [] refl) (leads-quiet (codes " ") refl)
+    ▹ back-leads options identifier number (suc count)
 
 -- ---- a footnote's text with the ways back
 
 spaced : (back : List ℕ) → Leads 0 0 2 back → Leads 0 0 2 (32 ∷ back)
-spaced back f = leads-append 0 0 0 2 (32 ∷ []) back (leads-quiet 0 2 (32 ∷ []) refl) f
+spaced back f = leads-quiet (32 ∷ []) refl ▹ f
 
 -- where a paragraph ends it, its end tag is cut off whole
 cut-off : (x : List ℕ) →
@@ -133,7 +113,7 @@ body-moves e n a k h x back f g room =
         joined : (y back z : List ℕ) → Leads 0 0 (k + 2) (y ++ ((32 ∷ back) ++ z)) →
             Moves e n a a (Text y ∷ Text (codes " ") ∷ Text back ∷ Text z ∷ [])
         joined y back z f = texts-joined y (codes " ") back z
-            (kept e n a (k + 2) (y ++ (codes " " ++ (back ++ z))) f room)
+            (kept f room)
           where
             texts-joined : (y s b z : List ℕ) → Moves e n a a (Text (y ++ (s ++ (b ++ z))) ∷ []) →
                 Moves e n a a (Text y ∷ Text s ∷ Text b ∷ Text z ∷ [])
@@ -146,8 +126,8 @@ body-moves e n a k h x back f g room =
                     (((text ++ y) ++ s) ++ b) ++ z ≡ text ++ (y ++ (s ++ (b ++ z)))
                 regrouped text y s b z = simp append_assoc
     by false is =
-        kept e n a k x f (omega (arith, room)) ▸ needed e n a h
-        ▸ kept e n a 2 back g (omega (arith, room))
+        kept f (omega arith) ▸ needed h
+        ▸ kept g (omega arith)
 
 -- ---- an item, and all
 
@@ -158,17 +138,17 @@ item-moves e n a k h context footnotes identifier f room =
     let number : ℕ = place_among (distinct context.calls) identifier in
     let count : ℕ = count_of context.calls identifier in
     let id : List ℕ = id_of context.options (codes "fn-") identifier number in
-    forced e n a h ▸ open_tag e n a (codes "<li id=\"") (λ l t. refl) (omega (arith, room))
-    ▸ plain e n (suc a) id (id-escaped context.options (codes "fn-") identifier number refl)
-    ▸ part e n (suc a) (codes "\">") refl ▸ forced e n (suc a) h
+    forced h ▸ open_tag (codes "<li id=\"") (λ l t. refl) (omega arith)
+    ▸ plain id (id-escaped context.options (codes "fn-") identifier number refl)
+    ▸ part (codes "\">") refl ▸ forced h
     ▸ body-moves e n (suc a) k h (text_among footnotes identifier)
     (backreferences context.options identifier number count) f
     (backs-lead context.options identifier number count) room
-    ▸ close_line e n a (codes "</li>") h (λ l t. refl)
+    ▸ close_line (codes "</li>") h (λ l t. refl)
 
 found-leads : (k : ℕ) (footnotes : List Footnote) (identifier : List ℕ) → TextsLead k footnotes →
     Leads 0 0 k (text_among footnotes identifier)
-found-leads k [] identifier h = leads-quiet 0 k [] refl
+found-leads k [] identifier h = leads-quiet [] refl
 found-leads k (footnote ∷ others) identifier h = by (bytes_eq footnote.identifier identifier)
     (found-leads k others identifier h.1)
   where
@@ -182,7 +162,7 @@ items-move : (e : List ℕ) (n a k : ℕ) → Escaped e → (context : Context)
     (footnotes : List Footnote) →
     TextsLead k footnotes → suc a + (k + 2) ≤ n → (identifiers : List (List ℕ)) →
     Moves e n a a (flat_map (item context footnotes) identifiers)
-items-move e n a k h context footnotes f room [] = none e n a
+items-move e n a k h context footnotes f room [] = none
 items-move e n a k h context footnotes f room (identifier ∷ identifiers) =
     item-moves e n a k h context footnotes identifier (found-leads k footnotes identifier f) room
     ▸ items-move e n a k h context footnotes f room identifiers
@@ -204,17 +184,14 @@ two-texts e n a b x y f = record {
 head-moves : (e : List ℕ) (n : ℕ) → 2 ≤ n → (label : List ℕ) → Escaped label →
     Moves e n 0 1 (head_of (codes "h2") (codes "class=\"sr-only\"") label)
 head-moves e n room label h =
-    let first : suc 0 ≤ n = omega (arith, room) in
     two-texts e n 0 2 (codes "<section data-footnotes=\"\" class=\"footnotes\"><") (codes "h2")
-    (moves.text e n 0 2 (codes "<section data-footnotes=\"\" class=\"footnotes\"><h2")
-    (leads-append 0 1 2 n (codes "<section data-footnotes=\"\" class=\"footnotes\">") (codes "<h2")
-    (leads-open 0 n (codes "<section data-footnotes=\"\" class=\"footnotes\">") (λ l t. refl) first)
-    (leads-open 1 n (codes "<h2") (λ l t. refl) room)))
-    ▸ part e n 2 (codes " id=\"footnote-label\" ") refl
-    ▸ part e n 2 (codes "class=\"sr-only\"") refl
-    ▸ part e n 2 (codes ">") refl ▸ plain e n 2 label h
+    (moves.text (leads-open (codes "<section data-footnotes=\"\" class=\"footnotes\">")
+    (λ l t. refl) (omega arith) ▹ leads-open (codes "<h2") (λ l t. refl) room))
+    ▸ part (codes " id=\"footnote-label\" ") refl
+    ▸ part (codes "class=\"sr-only\"") refl
+    ▸ part (codes ">") refl ▸ plain label h
     ▸ two-texts e n 2 1 (codes "</") (codes "h2")
-    (close_tag e n 1 (codes "</h2") (λ l t. refl)) ▸ part e n 1 (codes ">") refl
+    (close_tag (codes "</h2") (λ l t. refl)) ▸ part (codes ">") refl
 
 start-moves : (e : List ℕ) (n : ℕ) → 2 ≤ n → Escaped e → (options : CompileOptions) →
     options.gfm_footnote_label_tag_name ≡ None → options.gfm_footnote_label_attributes ≡ None →
@@ -230,26 +207,16 @@ start-moves e n room h options no_tag no_attributes =
     (sym tag) (subst (λ attributes. Moves e n 0 1 (head_of (codes "h2") attributes
     (heading_label_of options))) (sym attributes)
     (head-moves e n room (heading_label_of options) (label-escaped options))) in
-    needed e n 0 h ▸ head ▸ forced e n 1 h
-    ▸ open_tag e n 1 (codes "<ol>") (λ l t. refl) room
+    needed h ▸ head ▸ forced h
+    ▸ open_tag (codes "<ol>") (λ l t. refl) room
 
 pub section-moves : (e : List ℕ) (n k : ℕ) → Escaped e → (context : Context) →
     context.options.gfm_footnote_label_tag_name ≡ None →
     context.options.gfm_footnote_label_attributes ≡ None → (footnotes : List Footnote) →
     TextsLead k footnotes → k + 5 ≤ n → Moves e n 0 0 (section context footnotes)
 section-moves e n k h context no_tag no_attributes footnotes f room =
-    by (not (length context.calls == 0))
-  where
-    items : List Piece
-    items = flat_map (item context footnotes) (distinct context.calls)
-
-    by : (some : Bool) → Moves e n 0 0 (cond some (section_start context.options
-        ++ (flat_map (item context footnotes) (distinct context.calls) ++
-        (Forced ∷ Text (codes "</ol>")
-        ∷ Forced ∷ Text (codes "</section>") ∷ Forced ∷ []))) [])
-    by true =
-        start-moves e n (omega (arith, room)) h context.options no_tag no_attributes
-        ▸ items-move e n 2 k h context footnotes f (omega (arith, room)) (distinct context.calls)
-        ▸ forced e n 2 h ▸ close_tag e n 1 (codes "</ol>") (λ l t. refl) ▸ forced e n 1 h
-        ▸ close_tag e n 0 (codes "</section>") (λ l t. refl) ▸ forced e n 0 h
-    by false = none e n 0
+    choose (not (length context.calls == 0))
+    (start-moves e n (omega arith) h context.options no_tag no_attributes
+    ▸ items-move e n 2 k h context footnotes f (omega arith) (distinct context.calls)
+    ▸ forced h ▸ close_tag (codes "</ol>") (λ l t. refl) ▸ forced h
+    ▸ close_tag (codes "</section>") (λ l t. refl) ▸ forced h) none

@@ -19,7 +19,7 @@ use Rattle.md_text.proofs.HtmlNames.{no_angle}
 use Rattle.md_text.proofs.EncodeLaws.{is_escaped-encoded}
 use Rattle.md_text.proofs.EscapedLemmas.{sanitized-escaped, sanitized_with-escaped}
 use Rattle.md_meaning.specs.Meaning.At.{Target, At, text_in, identifier_of}
-use Rattle.md_meaning.specs.Meaning.Layout.{Piece, Text, layout, said, when}
+use Rattle.md_meaning.specs.Meaning.Layout.{Piece, layout, said}
 use Rattle.md_meaning.specs.Meaning.Means.{prints}
 use Rattle.md_meaning.specs.Meaning.Spans.{span, task_start, code, trimmed, without_escapes}
 use Rattle.md_meaning.specs.Meaning.Media.{url, href, src, title_attribute, anchor, picture}
@@ -36,10 +36,10 @@ use Rattle.md_safe.proofs.Spot.{Setting, Prints, Inside, IsGoodTarget, target-ti
 use Rattle.md_safe.proofs.SpanNodes.{is_single, is_shown}
 use Rattle.md_safe.proofs.SpanSorts.{pair_tag, is_pair, by_pair, pair-prints, is_code}
 use Rattle.md_safe.proofs.SpanSorts.{is_math, code_opening, code-prints, code-text}
-use Rattle.md_depth.proofs.Machine.{Leads, leads-open, leads-close, leads-append}
+use Rattle.md_depth.proofs.Machine.{Leads, ◌▹◌, leads-open, leads-close}
 use Rattle.md_depth.proofs.Moves as moves
 use Rattle.md_depth.proofs.Moves.{Moves, ◌▸◌, none, adds-quiet, more, laid, plain, part, IsOpening}
-use Rattle.md_depth.proofs.Moves.{IsClosing, open_tag, close_tag, void_tag, kept}
+use Rattle.md_depth.proofs.Moves.{IsClosing, open_tag, close_tag, void_tag, kept, choose}
 
 -- the bound with two more
 abbrev pub Room : ℕ → ℕ → Type 0
@@ -48,10 +48,9 @@ Room m n = suc (suc m) ≤ n
 around : (e : List ℕ) (m n : ℕ) → Room m n → (in_image : Bool) (o c : List ℕ) → IsOpening o →
     IsClosing c → (inner : List Piece) → Moves e m 0 0 inner →
     Moves e n 0 0 (cond in_image inner (said o ++ (inner ++ said c)))
-around e m n room true o c opens closes inner a = more e 0 m n inner (omega (arith, room)) a
-around e m n room false o c opens closes inner a =
-    open_tag e n 0 o opens (omega (arith, room)) ▸ more e 1 m n inner (omega (arith, room)) a
-    ▸ close_tag e n 0 c closes
+around e m n room in_image o c opens closes inner a =
+    choose in_image (more (omega arith) a)
+    (open_tag o opens (omega arith) ▸ more (omega arith) a ▸ close_tag c closes)
 
 -- ---- links and images
 
@@ -61,38 +60,41 @@ url-escaped any protocols destination =
     cond_both any (sanitized destination) (sanitized_with protocols destination) Escaped
     (λ _. sanitized-escaped destination) (λ _. sanitized_with-escaped protocols destination)
 
-title-moves : (e : List ℕ) (n a : ℕ) (title : Option (List ℕ)) → IsEscapedTitle title →
+title-moves : {e : List ℕ} {n a : ℕ} (title : Option (List ℕ)) → IsEscapedTitle title →
     Moves e n a a (title_attribute title)
-title-moves e n a None h = none e n a
-title-moves e n a (Some x) h =
-    part e n a (codes " title=\"") refl ▸ plain e n a x h ▸ part e n a (codes "\"") refl
+title-moves None h = none
+title-moves (Some x) h =
+    part (codes " title=\"") refl ▸ plain x h ▸ part (codes "\"") refl
 
 anchor-moves : (e : List ℕ) (m n : ℕ) → Room m n → (options : CompileOptions) (target : Target) →
     IsEscapedTitle target.title → (label : List ℕ) → Leads 0 0 m label →
     Moves e n 0 0 (anchor options target label)
 anchor-moves e m n room options target title label f =
-    open_tag e n 0 (codes "<a href=\"") (λ l t. refl) (omega (arith, room))
-    ▸ plain e n 1 (href options target.destination)
+    open_tag (codes "<a href=\"") (λ l t. refl) (omega arith)
+    ▸ plain (href options target.destination)
     (url-escaped _ link_protocols target.destination)
-    ▸ part e n 1 (codes "\"") refl ▸ title-moves e n 1 target.title title
-    ▸ part e n 1 (codes ">") refl ▸ kept e n 1 m label f (omega (arith, room))
-    ▸ close_tag e n 0 (codes "</a>") (λ l t. refl)
+    ▸ part (codes "\"") refl ▸ title-moves target.title title
+    ▸ part (codes ">") refl ▸ kept f (omega arith)
+    ▸ close_tag (codes "</a>") (λ l t. refl)
 
 picture-moves : (e : List ℕ) (m n : ℕ) → Room m n → (options : CompileOptions) (target : Target) →
     IsEscapedTitle target.title → (label : List ℕ) → Escaped label →
     Moves e n 0 0 (picture options target label)
 picture-moves e m n room options target title label h =
-    void_tag e n 0 (codes "<img src=\"") (λ l t. refl) (omega (arith, room))
-    ▸ plain e n 0 (src options target.destination)
+    void_tag (codes "<img src=\"") (λ l t. refl) (omega arith)
+    ▸ plain (src options target.destination)
     (url-escaped _ image_protocols target.destination)
-    ▸ part e n 0 (codes "\" alt=\"") refl ▸ plain e n 0 label h ▸ part e n 0 (codes "\"") refl
-    ▸ title-moves e n 0 target.title title ▸ part e n 0 (codes " />") refl
+    ▸ part (codes "\" alt=\"") refl ▸ plain label h ▸ part (codes "\"") refl
+    ▸ title-moves target.title title ▸ part (codes " />") refl
 
 -- ---- code
 
 code-moves : (e : List ℕ) (m n : ℕ) → Room m n → (t : At) (math : Bool) (x : List ℕ) → Escaped x →
     Moves e n 0 0 (code t (code_opening math) x)
-code-moves e m n room t math x h = by t.around.in_image
+code-moves e m n room t math x h =
+    choose t.around.in_image (plain shown all)
+    (open_tag (code_opening math) (opens math) (omega arith) ▸ plain shown all
+    ▸ close_tag (codes "</code>") (λ l t. refl))
   where
     unescaped : List ℕ
     unescaped = cond t.around.in_table (without_escapes x) x
@@ -108,46 +110,23 @@ code-moves e m n room t math x h = by t.around.in_image
     opens true = λ l t. refl
     opens false = λ l t. refl
 
-    by : (in_image : Bool) → Moves e n 0 0
-        (cond in_image (said shown) (Text (code_opening math) ∷ Text shown ∷ Text (codes "</code>")
-        ∷ []))
-    by true = plain e n 0 shown all
-    by false =
-        open_tag e n 0 (code_opening math) (opens math) (omega (arith, room))
-        ▸ plain e n 1 shown all ▸ close_tag e n 0 (codes "</code>") (λ l t. refl)
-
 -- ---- calls, breaks and tasks
 
 call-moves : (e : List ℕ) (m n : ℕ) → Room m n → (options : CompileOptions)
     (identifier : List ℕ) (number occurrence : ℕ) →
     Moves e n 0 0 (call_tags options identifier number occurrence)
 call-moves e m n room options identifier number occurrence =
-    let first : suc 0 ≤ n = omega (arith, room) in
-    let second : suc 1 ≤ n = omega (arith, room) in
-    moves.text e n 0 2 (codes "<sup><a href=\"#")
-    (leads-append 0 1 2 n (codes "<sup>") (codes "<a href=\"#")
-    (leads-open 0 n (codes "<sup>") (λ l t. refl) first)
-    (leads-open 1 n (codes "<a href=\"#") (λ l t. refl) second))
-    ▸ plain e n 2 (id_of options (codes "fn-") identifier number)
+    moves.text (leads-open (codes "<sup>") (λ l t. refl) (omega arith)
+    ▹ leads-open (codes "<a href=\"#") (λ l t. refl) (omega arith))
+    ▸ plain (id_of options (codes "fn-") identifier number)
     (id-escaped options (codes "fn-") identifier number refl)
-    ▸ part e n 2 (codes "\" id=\"") refl
-    ▸ plain e n 2 (call_id options identifier number occurrence)
+    ▸ part (codes "\" id=\"") refl
+    ▸ plain (call_id options identifier number occurrence)
     (call_id-escaped options identifier number occurrence)
-    ▸ part e n 2 (codes "\" data-footnote-ref=\"\" aria-describedby=\"footnote-label\">") refl
-    ▸ plain e n 2 (decimal number) (decimal-escaped number)
-    ▸ moves.text e n 2 0 (codes "</a></sup>")
-    (leads-append 2 1 0 n (codes "</a>") (codes "</sup>")
-    (leads-close 1 n (codes "</a>") (λ l t. refl)) (leads-close 0 n (codes "</sup>") (λ l t. refl)))
-
-unless : (e : List ℕ) (n : ℕ) (in_image : Bool) (pieces : List Piece) → Moves e n 0 0 pieces →
-    Moves e n 0 0 (when (not in_image) pieces)
-unless e n true pieces a = none e n 0
-unless e n false pieces a = a
-
-break-moves : (e : List ℕ) (m n : ℕ) → Room m n → (in_image : Bool) →
-    Moves e n 0 0 (when (not in_image) (said (codes "<br />")))
-break-moves e m n room in_image = unless e n in_image (said (codes "<br />"))
-    (void_tag e n 0 (codes "<br />") (λ l t. refl) (omega (arith, room)))
+    ▸ part (codes "\" data-footnote-ref=\"\" aria-describedby=\"footnote-label\">") refl
+    ▸ plain (decimal number) (decimal-escaped number)
+    ▸ moves.text (leads-close (codes "</a>") (λ l t. refl)
+    ▹ leads-close (codes "</sup>") (λ l t. refl))
 
 done-quiet : (in_image : Bool) (x : List ℕ) → IsDone in_image x → list_all no_angle x ≡ true
 done-quiet in_image x (inl is) = subst (λ x. list_all no_angle x ≡ true) (sym is) refl
@@ -156,25 +135,13 @@ done-quiet in_image x (inr is) = subst (λ x. list_all no_angle x ≡ true) (sym
 task-moves : (s : Setting) (t : At) (m n : ℕ) → Room m n → (inner : List Piece) →
     Prints s (IsDone t.around.in_image) inner →
     Moves s.context.ending n 0 0 (span t (task_start s.context) inner (said (codes "/>")))
-task-moves s t m n room inner a = by t.around.in_image
-  where
-    mark : Moves s.context.ending n 0 0 inner
-    mark =
-        adds-quiet s.context.ending n 0 inner (adds-weaker (done-quiet t.around.in_image) a)
-
-    checkable : (b : Bool) → Moves s.context.ending n 0 0
-        (when (not b) (said (codes "disabled=\"\" ")))
-    checkable true = none s.context.ending n 0
-    checkable false = part s.context.ending n 0 (codes "disabled=\"\" ") refl
-
-    by : (in_image : Bool) →
-        Moves s.context.ending n 0 0 (cond in_image inner (task_start s.context
-        ++ (inner ++ said (codes "/>"))))
-    by true = mark
-    by false =
-        (void_tag s.context.ending n 0 (codes "<input type=\"checkbox\" ") (λ l t. refl)
-        (omega (arith, room)) ▸ checkable s.context.options.gfm_task_list_item_checkable)
-        ▸ mark ▸ part s.context.ending n 0 (codes "/>") refl
+task-moves s t m n room inner a =
+    let mark : Moves s.context.ending n 0 0 inner =
+    adds-quiet inner (adds-weaker (done-quiet t.around.in_image) a) in
+    choose t.around.in_image mark
+    ((void_tag (codes "<input type=\"checkbox\" ") (λ l t. refl) (omega arith)
+    ▸ choose (not s.context.options.gfm_task_list_item_checkable)
+    (part (codes "disabled=\"\" ") refl) none) ▸ mark ▸ part (codes "/>") refl)
 
 -- ---- each span
 
@@ -205,45 +172,29 @@ single-moves : (s : Setting) (t : At) (m n : ℕ) → Room m n → (name : Name)
     is_single name ≡ true → IsGoodTarget t.found.resource → (inner : List Piece) →
     Inside s t Blocks name inner → Below s m name inner →
     Moves s.context.ending n 0 0 (prints s.context t name inner)
-single-moves s t m n room Link is good inner a below = by t.around.in_image
-  where
-    label : List ℕ
-    label = layout s.context.ending inner
-
-    f : Leads 0 0 m label
-    f = laid s.context.ending m inner (below refl)
-
-    by : (in_image : Bool) → Moves s.context.ending n 0 0 (cond in_image (said label)
-        (anchor s.context.options (leads_to s.context t) label))
-    by true = kept s.context.ending n 0 m label f (omega (arith, room))
-    by false = anchor-moves s.context.ending m n room s.context.options (leads_to s.context t)
-        (target-title s t good) label f
-single-moves s t m n room Image is good inner a below = by t.around.in_image
-  where
-    label : List ℕ
-    label = layout s.context.ending inner
-
-    h : Escaped label
-    h = adds-alone a
-
-    by : (in_image : Bool) → Moves s.context.ending n 0 0 (cond in_image (said label)
-        (picture s.context.options (leads_to s.context t) label))
-    by true = plain s.context.ending n 0 label h
-    by false = picture-moves s.context.ending m n room s.context.options (leads_to s.context t)
-        (target-title s t good) label h
+single-moves s t m n room Link is good inner a below =
+    let f : Leads 0 0 m (layout s.context.ending inner) = laid (below refl) in
+    choose t.around.in_image (kept f (omega arith))
+    (anchor-moves s.context.ending m n room s.context.options (leads_to s.context t)
+    (target-title s t good) (layout s.context.ending inner) f)
+single-moves s t m n room Image is good inner a below =
+    let label : List ℕ = layout s.context.ending inner in
+    let h : Escaped label = adds-alone a in
+    choose t.around.in_image (plain label h)
+    (picture-moves s.context.ending m n room s.context.options (leads_to s.context t)
+    (target-title s t good) label h)
 single-moves s t m n room HardBreakEscape is good inner a below =
-    break-moves s.context.ending m n room t.around.in_image
+    choose (not t.around.in_image) (void_tag (codes "<br />") (λ l t. refl) (omega arith)) none
 single-moves s t m n room HardBreakTrailing is good inner a below =
-    break-moves s.context.ending m n room t.around.in_image
+    choose (not t.around.in_image) (void_tag (codes "<br />") (λ l t. refl) (omega arith)) none
 single-moves s t m n room GfmTaskListItemCheck is good inner a below =
     task-moves s t m n room inner a
 single-moves s t m n room GfmFootnoteCall is good inner a below =
     let identifier : List ℕ = identifier_of s.context.bytes t.children in
     let number : ℕ = place_among (distinct s.context.calls) identifier in
     let occurrence : ℕ = suc (count_of t.calls identifier) in
-    unless s.context.ending n t.around.in_image
-    (call_tags s.context.options identifier number occurrence)
-    (call-moves s.context.ending m n room s.context.options identifier number occurrence)
+    choose (not t.around.in_image)
+    (call-moves s.context.ending m n room s.context.options identifier number occurrence) none
 single-moves s t m n room _ is good inner a below = lie is
 
 pub span-moves : (s : Setting) (t : At) (m n : ℕ) → Room m n → (name : Name) →
@@ -262,20 +213,16 @@ span-moves s t m n room name e is good inner a below = elim (or_cases (is_pair n
 
 link-moves : (s : Setting) (t : At) (m n : ℕ) → Room m n → (prefix : List ℕ) (plainly : Bool) →
     Moves s.context.ending n 0 0 (autolink s.context t plainly prefix)
-link-moves s t m n room prefix plainly = by plainly
-  where
-    x : List ℕ
-    x = text_in s.context.bytes t.place
-
-    led : Target
-    led = record { destination = prefix ++ x; title = None }
-
-    by : (plainly : Bool) → Moves s.context.ending n 0 0 (cond plainly (said (encoded true x))
-        (anchor s.context.options led (encoded true x)))
-    by true = plain s.context.ending n 0 (encoded true x) (is_escaped-encoded x)
-    by false = anchor-moves s.context.ending m n room s.context.options led tt (encoded true x)
-        (laid s.context.ending m (said (encoded true x))
-        (plain s.context.ending m 0 (encoded true x) (is_escaped-encoded x)))
+link-moves s t m n room prefix plainly =
+    let x : List ℕ = encoded true (text_in s.context.bytes t.place) in
+    let h : Escaped x = is_escaped-encoded (text_in s.context.bytes t.place) in
+    let led : Target = record {
+      destination = prefix ++ text_in s.context.bytes t.place;
+      title = None;
+    } in
+    choose plainly (plain x h)
+    (anchor-moves s.context.ending m n room s.context.options led tt x
+    (laid {e = s.context.ending} (plain x h)))
 
 pub autolink-moves : (s : Setting) (t : At) (m n : ℕ) → Room m n → (name : Name) →
     is_autolink name ≡ true → (inner : List Piece) →

@@ -5,11 +5,9 @@ use Rattle.md_base.specs.Tree.{Forest}
 use Rattle.md_text.specs.Html.{any_attribute}
 use Rattle.md_text.specs.declared.options.CompileOptions.{CompileOptions}
 use Rattle.md_tree.specs.Grammar.{IsGrammatical}
-use Rattle.md_meaning.specs.Meaning.{meaning, ending_at}
+use Rattle.md_meaning.specs.Meaning.{meaning}
 use Rattle.md_meaning.specs.Meaning.Inherited.{outermost}
-use Rattle.md_meaning.specs.Meaning.At.{Context}
 use Rattle.md_meaning.specs.Meaning.Before.{nothing_before}
-use Rattle.md_meaning.specs.Meaning.Finds.{first_ending}
 use Rattle.md_meaning.specs.Meaning.Footnotes.{section}
 use Rattle.md_meaning.specs.Meaning.Layout.{layout}
 use Rattle.md_meaning.specs.Meaning.Nodes.{Outcome, outcome}
@@ -38,11 +36,11 @@ document-leads d document built keeps =
     let known : Opens d n all = opens d document outermost nothing_before n (record {
       built = built;
       ready = outermost-ready (read_in d) (reads-whole any_attribute (λ value. refl));
-      waits = leads-quiet 0 _ [] refl;
+      waits = leads-quiet [] refl;
       room = omega arith;
     }) in
-    laid d.context.ending (n + 5) (all.pieces ++ section d.context all.footnotes)
-    (more d.context.ending 0 n (n + 5) all.pieces (omega arith) known.prints
+    laid
+    (more (omega arith) known.prints
     ▸ section-moves d.context.ending (n + 5) n d.ending d.context keeps.usual_tag
     keeps.usual_attributes all.footnotes known.texts (omega arith))
 

@@ -1,206 +1,141 @@
 -- The target of a definition takes no more than its nodes may print, and that no more than what is
 -- read in the definition and its events.
-use Rattle.std.proofs.Common.{◌≡◌, ℕ, suc, ◌*◌, ◌≤◌, Bool, true, false, ◌&&◌}
-use Rattle.std.proofs.Common.{◌||◌, not, List, [], ◌∷◌, ◌++◌, length, map, refl, sym, ap, ◌∙◌}
-use Rattle.std.proofs.Common.{subst, arith, Option, Some, None, bytes_eq}
-use Rattle.std.specs.Prelude.{if◌then◌else◌, find, option_map}
+use Rattle.std.proofs.Common.{◌≡◌, ℕ, suc, ◌*◌, ◌≤◌, Bool, true, ◌&&◌, List, [], ◌∷◌, ◌++◌}
+use Rattle.std.proofs.Common.{length, map, drop, refl, ap, ◌∙◌, arith}
+use Rattle.std.proofs.Common.{bytes_eq, append_assoc, append-nil}
+use Rattle.std.specs.Prelude.{if◌then◌else◌, find}
 use Rattle.std.specs.Option.{option_map_or}
-use Rattle.std.proofs.lemmas.Bool.{and_from}
 use Rattle.md_base.proofs.Lies.{lie}
+use Rattle.md_base.specs.declared.event.Event.{Event}
 use Rattle.md_base.specs.declared.event.Name.{Name}
 use Rattle.md_base.specs.declared.event.Name.TheVariants as name_variants
-use name_variants.{Definition, DefinitionDestinationString, DefinitionTitleString, LineEnding}
-use name_variants.{ResourceDestinationString, ResourceTitleString, DefinitionLabelString, Other}
-use name_variants.{GfmFootnoteDefinitionLabelString, BlockQuotePrefix, SpaceOrTab}
+use name_variants.{Definition, Resource}
 use Rattle.md_base.specs.Is.{is}
 use Rattle.md_base.specs.Children.{is_empty}
-use Rattle.md_base.specs.NameTests.{is_transparent}
-use Rattle.md_base.specs.Tree.{Forest, Empty, Node}
+use Rattle.md_base.specs.NameTests.{is_transparent, is_link_definition}
+use Rattle.md_base.specs.Tree.{Forest, Empty, Node, flatten, exiting}
 use Rattle.md_meaning.specs.declared.surroundings.Surroundings.{Surroundings}
 use Rattle.md_meaning.specs.Meaning.At.{Context, At, Before, Defined, target_in}
 use Rattle.md_meaning.specs.Meaning.At.{identifier_of, nothing_found}
 use Rattle.md_meaning.specs.Meaning.Before.{before_children}
 use Rattle.md_meaning.specs.Meaning.Layout.{layout, when}
 use Rattle.md_meaning.specs.Meaning.Nodes.{Outcome, outcome, found_at}
-use Rattle.md_content.specs.Built.{Content, Sources, IsBuilt, content_inside, content_after_node}
-use Rattle.md_content.specs.Built.{may_stand, content_of, content_after}
-use Rattle.md_steps.specs.Claim.{inner_of, at_node, node_of, next_before}
+use Rattle.md_pattern.specs.Partners.{index_after, definition_entries}
 use Rattle.md_content.specs.References.{first_of}
-use Rattle.md_steps.proofs.Staying.{one_or_other}
-use Rattle.md_steps.proofs.Standing.{picked}
+use Rattle.md_steps.specs.Claim.{inner_of, at_node, node_of, next_before}
+use Rattle.md_steps.specs.Content.{Content, Sources, Fits, content_inside, content_after_node}
+use Rattle.md_steps.proofs.AlikeStrings.{is_plain, plain}
+use Rattle.md_steps.proofs.Quiet.{past-callless}
+use Rattle.md_steps.proofs.Standing.{allowed-facts, is_callless}
+use Rattle.md_steps.proofs.Staying.{node-same}
 use Rattle.md_length.specs.Costs.{cost}
-use Rattle.md_length.specs.Reuse.{length_at}
+use Rattle.md_length.specs.Reuse.{length_at, definition_length}
+use Rattle.md_length.specs.Work.{before_definition}
 use Rattle.md_length.specs.Uses.{weight}
+use Rattle.md_length.proofs.DefinitionEvents.{before-low, inside_node, behind_node}
 use Rattle.md_length.proofs.Kept.{kept, both-kept, target-kept}
-use Rattle.md_length.proofs.Pieces.{size, layout-short}
-use Rattle.md_length.proofs.Strings.{around_in, strings-short, has_strings}
+use Rattle.md_length.proofs.Pieces.{layout-short}
+use Rattle.md_length.proofs.Strings.{around_in, strings-short}
+use Rattle.md_length.proofs.Units.{half_unit, inner_length, cost-short}
 
 -- ---- the content of a definition
-abbrev is_sources : Content → Bool
-is_sources content = elim content [ Sources ↦ true | _ ↦ false ]
+-- what is kept of a node in a definition
+source-kept : (at : At) (name : Name) (text : List ℕ) (spent : ℕ) → is_plain name ≡ true →
+    6 * length text ≤ spent → (is_transparent name ≡ true → kept at.found ≤ spent) →
+    kept (found_at at name text) ≤ spent
+source-kept at Resource text spent is few clear = lie is
+source-kept at _ text spent is few clear = grind (arith, clear)
 
--- what is kept of a node in a definition or a resource
-source-kept : (context : Context) (at : At) (name : Name) (inner : Outcome) (spent : ℕ) →
-    length context.ending ≤ 2 → (is_transparent name || may_stand Sources name) ≡ true →
-    (is_transparent name ≡ true → kept at.found ≤ spent) →
-    (is_transparent name ≡ false → 7 * size inner.pieces ≤ spent) →
-    kept (found_at at name (layout context.ending inner.pieces)) ≤ spent
-source-kept context at DefinitionDestinationString inner spent few may clear strings =
-    omega (arith, strings refl, layout-short context.ending inner.pieces few)
-source-kept context at ResourceDestinationString inner spent few may clear strings =
-    omega (arith, strings refl, layout-short context.ending inner.pieces few)
-source-kept context at DefinitionTitleString inner spent few may clear strings =
-    omega (arith, strings refl, layout-short context.ending inner.pieces few)
-source-kept context at ResourceTitleString inner spent few may clear strings =
-    omega (arith, strings refl, layout-short context.ending inner.pieces few)
-source-kept context at DefinitionLabelString inner spent few may clear strings = omega arith
-source-kept context at GfmFootnoteDefinitionLabelString inner spent few may clear strings =
-    omega arith
-source-kept context at LineEnding inner spent few may clear strings = omega arith
-source-kept context at BlockQuotePrefix inner spent few may clear strings = clear refl
-source-kept context at SpaceOrTab inner spent few may clear strings = clear refl
-source-kept context at (Other number) inner spent few may clear strings = clear refl
-source-kept context at _ inner spent few may clear strings = lie may
-
--- only strings and line endings stand there
-solid-strings : (name : Name) → (is_transparent name || may_stand Sources name) ≡ true →
-    is_transparent name ≡ false → has_strings (content_inside Sources name) ≡ true
-solid-strings name may solid =
-    picked (not (is_transparent name) && (is_transparent name || may_stand Sources name))
-    (has_strings (content_inside Sources name)) true (each name)
-    (and_from (not (is_transparent name)) (is_transparent name || may_stand Sources name)
-    (ap not solid) may)
-  where
-    each : (name : Name) →
-        (if not (is_transparent name) && (is_transparent name || may_stand Sources name)
-        then has_strings (content_inside Sources name) else true) ≡ true
-    each Definition = refl
-    each _ = refl
-
-after-sources : (forest : Forest) → content_after Sources forest ≡ Sources
-after-sources Empty = refl
-after-sources (Node name start end children rest) =
-    ap (λ c. content_after c rest)
-    (one_or_other (is_transparent name) (after-sources children) refl) ∙ after-sources rest
-
-sources-short : (context : Context) (around : Surroundings) (before : Before) (forest : Forest) →
-    length context.ending ≤ 2 → IsBuilt context.bytes Sources forest →
+sources-short : (context : Context) (around : Surroundings) (before : Before) (content : Content)
+    (forest : Forest) →
+    length context.ending ≤ 2 → is_callless content ≡ true → Fits content forest →
     kept (outcome context around before forest).found ≤ cost context.names forest
-sources-short context around before Empty few built = omega arith
-sources-short context around before (Node name start end children rest) few built =
+sources-short context around before content Empty few low fits = omega arith
+sources-short context around before content (Node name start end children rest) few low fits =
     let last : Bool = around.is_outermost && is_empty rest in
     let inner : Outcome = inner_of context around before name children in
     let at : At = at_node context around before last name start end children in
     let here : Outcome = node_of context around before last name start end children in
     let next : Before = next_before context around before last name start end children in
-    let later : Outcome = outcome context around next rest in
-    let own = source-kept context at name inner (cost context.names children) few built.0
-    (λ clear. sources-short context (around_in context around name children)
-    (before_children name children before) children few
-    (subst (λ b. IsBuilt context.bytes (if b then Sources else content_of name Sources) children)
-    clear built.2))
-    (λ solid. omega (
+    let nested : Surroundings = around_in context around name children in
+    let within : Before = before_children name children before in
+    let inside = ((allowed-facts content name fits.0).callless low).0 in
+    let text = layout context.ending inner.pieces in
+    let few_text : 6 * length text ≤ cost context.names children = omega (
       arith,
-      strings-short context (around_in context around name children)
-          (before_children name children before) (content_inside Sources name) children built.2
-          (solid-strings name built.0 solid),
-    )) in
-    let after = sources-short context around next rest few
-    (subst (λ c. IsBuilt context.bytes c rest)
-    (one_or_other (is_transparent name) (after-sources children) refl) built.3) in
-    omega (arith, own, after, both-kept later.found here.found)
+      strings-short context nested within (content_inside content name) children inside fits.1,
+      layout-short context.ending inner.pieces few,
+    ) in
+    omega (
+      arith,
+      source-kept at name text (cost context.names children) (plain content name low fits.0)
+          few_text (λ clear. sources-short context nested within (content_inside content name)
+          children few inside fits.1),
+      sources-short context around next (content_after_node content name children) rest few
+          (node-same is_callless past-callless content name children ∙ low) fits.2,
+      both-kept (outcome context around next rest).found here.found,
+    )
 
 -- ---- the definitions, in the order of their exits
-abbrev pub definition_costs : List (List ℕ × List ℕ) → Forest → List ℕ
-definition_costs names Empty = []
-definition_costs names (Node name start end children rest) =
-    (definition_costs names children ++ when (is Definition name) (cost names children ∷ []))
-    ++ definition_costs names rest
+-- each takes at most so many times the length of its events
+pub data AreBelow (times : ℕ) (events : List Event) : List Defined → List ℕ → Type 0 where
+  none : AreBelow times events [] []
+  more : {defined : Defined} {definitions : List Defined} {entry : ℕ} {entries : List ℕ} →
+      weight defined.target ≤ times * definition_length events entry →
+      AreBelow times events definitions entries →
+      AreBelow times events (defined ∷ definitions) (entry ∷ entries)
 
--- a number of items, each with a maximum length
-abbrev pub AreBelow : List Defined → List ℕ → Type 0
-AreBelow [] costs = costs ≡ []
-AreBelow (defined ∷ definitions) [] = ⊥
-AreBelow (defined ∷ definitions) (most ∷ costs) =
-    (weight defined.target ≤ most) × AreBelow definitions costs
-
-below-append : (xs ys : List Defined) (ms ns : List ℕ) → AreBelow xs ms → AreBelow ys ns →
-    AreBelow (xs ++ ys) (ms ++ ns)
-below-append [] ys ms ns h k = subst (λ ms. AreBelow ys (ms ++ ns)) (sym h) k
-below-append (x ∷ xs) ys [] ns h k = absurd h
-below-append (x ∷ xs) ys (m ∷ ms) ns h k = (h.0, below-append xs ys ms ns h.1 k)
+below-append : {times : ℕ} {events : List Event} {xs ys : List Defined} {ms ns : List ℕ} →
+    AreBelow times events xs ms → AreBelow times events ys ns →
+    AreBelow times events (xs ++ ys) (ms ++ ns)
+below-append none others = others
+below-append (more here later) others = more here (below-append later others)
 
 pub definitions-below : (context : Context) (around : Surroundings) (before : Before)
-    (content : Content) (forest : Forest) → length context.ending ≤ 2 →
-    IsBuilt context.bytes content forest →
-    AreBelow (outcome context around before forest).definitions
-    (definition_costs context.names forest)
-definitions-below context around before content Empty few built = refl
-definitions-below context around before content (Node name start end children rest) few built =
+    (content : Content) (forest : Forest) (events : List Event) (index : ℕ) (tail : List Event) →
+    length context.ending ≤ 2 → Fits content forest → drop index events ≡ flatten forest ++ tail →
+    AreBelow (half_unit context.names) events (outcome context around before forest).definitions
+    (definition_entries index forest)
+definitions-below context around before content Empty events index tail few fits split = none
+definitions-below context around before content (Node name start end children rest) events index
+    tail few fits split =
     let last : Bool = around.is_outermost && is_empty rest in
-    let inner : Outcome = inner_of context around before name children in
     let next : Before = next_before context around before last name start end children in
-    let later : Outcome = outcome context around next rest in
-    let own : Defined = record {
-      identifier = identifier_of context.bytes children;
-      target = target_in inner.found;
-    } in
-    below-append (inner.definitions ++ when (is Definition name) (own ∷ [])) later.definitions
-    (definition_costs context.names children
-    ++ when (is Definition name) (cost context.names children ∷ []))
-    (definition_costs context.names rest)
-    (below-append inner.definitions (when (is Definition name) (own ∷ []))
-    (definition_costs context.names children)
-    (when (is Definition name) (cost context.names children ∷ []))
+    let inside = inside_node events index name start end children rest tail split in
+    rw (← append_assoc (definition_entries (suc index) children)) (below-append (below-append
     (definitions-below context (around_in context around name children)
-    (before_children name children before) (content_inside content name) children few built.2)
-    (own-below name built.2))
-    (definitions-below context around next (content_after_node content name children) rest few
-    built.3)
+    (before_children name children before) (content_inside content name) children events (suc index)
+    (exiting name end ∷ (flatten rest ++ tail)) few fits.1 inside) (own-below name fits.1 inside))
+    (definitions-below context around next (content_after_node content name children) rest events
+    (suc (index_after (suc index) children)) tail few fits.2
+    (behind_node events index name start end children rest tail split)))
   where
-    own-below : (name : Name) → IsBuilt context.bytes (content_inside content name) children →
-        AreBelow (when (is Definition name) (record {
+    own-below : (name : Name) → Fits (content_inside content name) children →
+        drop (suc index) events ≡ flatten children ++ exiting name end ∷ (flatten rest ++ tail) →
+        AreBelow (half_unit context.names) events (when (is Definition name) (record {
           identifier = identifier_of context.bytes children;
           target = target_in (inner_of context around before name children).found;
-        } ∷ [])) (when (is Definition name) (cost context.names children ∷ []))
-    own-below Definition inside = (
-      omega (
-        arith,
-        target-kept (inner_of context around before Definition children).found,
-        sources-short context (around_in context around Definition children)
-            (before_children Definition children before) children few inside,
-      ),
-      refl,
-    )
-    own-below _ inside = refl
+        } ∷ [])) (if is_link_definition name then index ∷ [] else [])
+    own-below Definition fits there =
+        more (omega (
+          arith,
+          target-kept (inner_of context around before Definition children).found,
+          sources-short context (around_in context around Definition children)
+              (before_children Definition children before) Sources children few refl fits,
+          cost-short context.names children,
+          ap (λ es. half_unit context.names * inner_length es) (ap before_definition there
+              ∙ before-low Sources children (exiting Definition end ∷ (flatten rest ++ tail)) refl
+              fits ∙ append-nil (flatten children)),
+        )) none
+    own-below _ fits there = none
 
 -- the target of the first definition that has an identifier
-suc-at : (m : ℕ) (ms : List ℕ) (place : Option ℕ) →
-    length_at (m ∷ ms) (option_map (λ place. suc place) place) ≡ length_at ms place
-suc-at m ms None = refl
-suc-at m ms (Some place) = refl
-
-pub first-below : (definitions : List Defined) (costs : List ℕ) (identifier : List ℕ) →
-    AreBelow definitions costs → weight (option_map_or (λ (defined : Defined). defined.target)
+pub first-below : {times : ℕ} {events : List Event} {definitions : List Defined}
+    {entries : List ℕ} (identifier : List ℕ) → AreBelow times events definitions entries →
+    weight (option_map_or (λ (defined : Defined). defined.target)
     (find (λ defined. bytes_eq defined.identifier identifier) definitions)
     (target_in nothing_found))
-    ≤ length_at costs (first_of (map (λ (defined : Defined). defined.identifier) definitions)
-    identifier)
-first-below [] costs identifier below = omega arith
-first-below (defined ∷ definitions) [] identifier below = absurd below
-first-below (defined ∷ definitions) (most ∷ costs) identifier below =
-    elim (bytes_eq defined.identifier identifier) as
-    (λ b. weight (option_map_or (λ (defined : Defined). defined.target)
-    (if b then Some defined
-    else find (λ defined. bytes_eq defined.identifier identifier) definitions)
-    (target_in nothing_found)) ≤ length_at (most ∷ costs) (if b then Some 0
-    else option_map (λ place. suc place)
-    (first_of (map (λ (defined : Defined). defined.identifier) definitions) identifier))) [
-      | true ↦ below.0
-      | false ↦ omega (
-        arith,
-        first-below definitions costs identifier below.1,
-        suc-at most costs
-            (first_of (map (λ (defined : Defined). defined.identifier) definitions) identifier),
-      )
-    ]
+    ≤ times * length_at (map (definition_length events) entries)
+    (first_of (map (λ (defined : Defined). defined.identifier) definitions) identifier)
+first-below identifier none = omega arith
+first-below identifier (more here later) = grind (arith, here, first-below identifier later)

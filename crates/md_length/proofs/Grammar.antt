@@ -1,20 +1,15 @@
 -- What the lengths ask of a document holds of each document of the grammar.
-use Rattle.std.proofs.Common.{◌≡◌, ℕ, ◌≤◌, Bool, true, false, ◌||◌, cond}
-use Rattle.std.proofs.Common.{List, [], ◌∷◌, length, refl, sym, ap, subst, arith, Option, Some}
-use Rattle.std.proofs.Common.{None, lit≤, bytes_eq}
-use Rattle.std.specs.Prelude.{if◌then◌else◌, is_some}
+use Rattle.std.proofs.Common.{◌≡◌, ℕ, ◌≤◌, true, List, [], ◌∷◌, length, arith, Option, Some, None}
+use Rattle.std.proofs.Common.{lit≤}
+use Rattle.std.specs.Prelude.{if◌then◌else◌}
 use Rattle.std.specs.Option.{option_map_or}
 use Rattle.std.proofs.lemmas.Slice.Eq.{bytes_eq-Decides}
-use Rattle.md_base.proofs.Lies.{lie}
 use Rattle.md_base.specs.declared.event.Name.{Name}
 use Rattle.md_base.specs.declared.event.Name.TheVariants as name_variants
-use name_variants.{Link, Image, Label, Resource, LabelText, ReferenceString, LineEnding, Other}
-use name_variants.{BlankLineEnding, GfmFootnoteDefinitionPrefix, BlockQuotePrefix, Data}
-use name_variants.{DefinitionLabelString, GfmFootnoteDefinitionLabelString}
+use name_variants.{Link, Image, HeadingAtx, LineEnding, BlankLineEnding}
 use Rattle.md_base.specs.declared.event.Point.{Point}
 use Rattle.md_base.specs.declared.event.Position.{Position}
-use Rattle.md_base.specs.Children.{or_else}
-use Rattle.md_base.specs.NameTests.{is_transparent, is_line_ending as is_ending}
+use Rattle.md_base.specs.NameTests.{is_line_ending as is_ending}
 use Rattle.md_base.specs.Place.{text_between}
 use Rattle.md_base.specs.Tree.{Forest, Empty, Node}
 use Rattle.md_pattern.specs.declared.kinds.Role.TheVariants as role
@@ -23,163 +18,54 @@ use Rattle.md_pattern.specs.declared.kinds.Role.{Role}
 use Rattle.md_pattern.specs.Standing.{standing_of}
 use Rattle.md_text.specs.declared.options.CompileOptions.{CompileOptions}
 use Rattle.md_text.specs.declared.line_ending.LineEnding.{LineEnding as Ending}
-use Rattle.md_text.specs.declared.line_ending.LineEnding.TheVariants.{CarriageReturnLineFeed}
-use Rattle.md_text.specs.declared.line_ending.LineEnding.TheVariants.{CarriageReturn, LineFeed}
 use Rattle.md_text.specs.LineEnding.{ending_text}
 use Rattle.md_tree.specs.declared.mention.Referral.{Referral}
 use Rattle.md_tree.specs.declared.mention.Referral.TheVariants as referral
 use Rattle.md_tree.specs.declared.rule.Rule.TheVariants as rule
 use Rattle.md_tree.specs.Grammar.{IsGrammatical}
-use Rattle.md_tree.specs.Rules.{place, target_of, target_after, is_line_ending, broken_by_target}
+use Rattle.md_tree.specs.Rules.{place, is_line_ending, broken_by_target}
 use Rattle.md_pattern.specs.Shape.{inner_role, inner_before}
 use Rattle.md_meaning.specs.Meaning.{ending_at}
 use Rattle.md_meaning.specs.Meaning.At.{text_in}
 use Rattle.md_meaning.specs.Meaning.Finds.{first_ending}
-use Rattle.md_steps.specs.Content.{Content, Blocks, Spans, Sources, Fits, is_allowed}
-use Rattle.md_steps.specs.Content.{content_inside}
-use Rattle.md_steps.specs.Content.{content_past, content_after_node, content_of}
 use Rattle.md_content.specs.References.{Everywhere}
-use Rattle.md_steps.proofs.ContentFits.{shaped-fits}
 use Rattle.md_content.proofs.FineNodes.{fine, IsFine, AreFine}
+use Rattle.md_content.proofs.Fitting.{fit}
 use Rattle.md_content.proofs.RanksAndNumbers.{text_fits}
 use Rattle.md_content.proofs.TextsThere.{everywhere}
-use Rattle.md_steps.proofs.Staying.{node-stays}
-use Rattle.md_steps.proofs.Standing.{picked}
 use Rattle.md_length.specs.Sound.{IsSound}
+use Rattle.md_length.proofs.Pieces.{either-some}
 
--- ---- no resource stands in a label or a prefix
-abbrev is_aside : Content → Bool
-is_aside content = elim content [ Spans ↦ true | Sources ↦ true | _ ↦ false ]
-
-abbrev leads : Name → Bool
-leads name = elim name [
-  | Resource ↦ true
-  | Label ↦ true
-  | GfmFootnoteDefinitionPrefix ↦ true
-  | _ ↦ false
-]
-
-none-leads : (content : Content) (name : Name) → is_aside content ≡ true →
-    is_allowed content name ≡ true → leads name ≡ false
-none-leads Spans name h may = picked (is_allowed Spans name) (leads name) false (spans name) may
-  where
-    spans : (name : Name) → (if is_allowed Spans name then leads name else false) ≡ false
-    spans Data = refl
-    spans _ = refl
-none-leads Sources name h may =
-    picked (is_allowed Sources name) (leads name) false (sources name) may
-  where
-    sources : (name : Name) → (if is_allowed Sources name then leads name else false) ≡ false
-    sources Data = refl
-    sources _ = refl
-none-leads _ name h may = lie h
-
-past-aside : (content : Content) → is_aside content ≡ true → content_past content ≡ content
-past-aside Spans h = refl
-past-aside Sources h = refl
-past-aside _ h = lie h
-
-node-unresourced : (name : Name) (children : Forest) (start end : Point) (left : Referral) →
-    leads name ≡ false → (is_transparent name ≡ true →
-    target_of children left ≡ referral.Resource → left ≡ referral.Resource) →
-    target_after (standing_of name) left (target_of children) (place start end)
-    ≡ referral.Resource → left ≡ referral.Resource
-node-unresourced Resource children start end left none inner h = lie (sym none)
-node-unresourced Label children start end left none inner h = lie (sym none)
-node-unresourced GfmFootnoteDefinitionPrefix children start end left none inner h =
-    lie (sym none)
-node-unresourced LabelText children start end left none inner h = cc
-node-unresourced ReferenceString children start end left none inner h = cc
-node-unresourced DefinitionLabelString children start end left none inner h = cc
-node-unresourced GfmFootnoteDefinitionLabelString children start end left none inner h = cc
-node-unresourced BlockQuotePrefix children start end left none inner h = inner refl h
-node-unresourced (Other number) children start end left none inner h = inner refl h
-node-unresourced _ children start end left none inner h = h
-
-unresourced : (content : Content) (forest : Forest) (left : Referral) → is_aside content ≡ true →
-    Fits content forest → target_of forest left ≡ referral.Resource → left ≡ referral.Resource
-unresourced content Empty left aside fits h = h
-unresourced content (Node name start end children rest) left aside fits h =
-    node-unresourced name children start end left (none-leads content name aside fits.0)
-    (λ clear. unresourced content children left aside
-    (subst (λ b. Fits (if b then content else content_of name) children) clear fits.1))
-    (unresourced content rest _ aside (subst (λ c. Fits c rest)
-    (node-stays content name children (past-aside content aside)) fits.2) h)
-
--- a link or an image has a target
-abbrev HasTarget : Name → Point → Point → Forest → Type 0
-HasTarget Link start end children = target_of children referral.Missing ≡ referral.Missing → ⊥
-HasTarget Image start end children = target_of children referral.Missing ≡ referral.Missing → ⊥
-HasTarget _ start end children = Unit {0}
-
-sound-there : (content : Content) (forest : Forest) → Fits content forest →
-    Everywhere HasTarget forest → Everywhere IsSound forest
-sound-there content Empty fits targets = tt
-sound-there content (Node name start end children rest) fits targets = (
-  here name fits.1 targets.0,
-  sound-there (content_inside content name) children fits.1 targets.1,
-  sound-there (content_after_node content name children) rest fits.2 targets.2,
-)
-  where
-    here : (name : Name) → Fits (content_inside content name) children →
-        HasTarget name start end children → IsSound name start end children
-    here Link fits target = target
-    here Image fits target = target
-    here Label fits target = λ h. lied (unresourced Spans children referral.Missing refl fits h)
-      where
-        lied : referral.Missing ≡ referral.Resource → ⊥
-        lied e = cc
-    here GfmFootnoteDefinitionPrefix fits target =
-        λ h. lied (unresourced Sources children referral.Missing refl fits h)
-      where
-        lied : referral.Missing ≡ referral.Resource → ⊥
-        lied e = cc
-    here _ fits target = tt
-
+-- ---- targets and ranks
 media-target : (target : Referral) → broken_by_target target ≡ None →
     target ≡ referral.Missing → ⊥
-media-target referral.Missing e h = cc
-media-target _ e h = cc
+media-target target e h = cc
 
 pub grammatical-sound : (bytes : List ℕ) (names : List (List ℕ × List ℕ)) (document : Forest) →
     IsGrammatical bytes names document → Everywhere IsSound document
 grammatical-sound bytes names document is =
-    sound-there Blocks document (shaped-fits document is.shape)
-    (everywhere bytes names HasTarget each document role.Flow None
-    (fine bytes names document role.Flow None is.shape.0 is.rules))
+    everywhere bytes names IsSound each document role.Flow None
+    (fine bytes names document role.Flow None is.shape.0 is.rules)
   where
     each : (around : Role) (before : Option Symbol) (name : Name) (start end : Point)
         (children : Forest) → IsFine bytes names around before name start end children →
         AreFine bytes names children (inner_role (standing_of name) around before)
-        (inner_before (standing_of name) before) → HasTarget name start end children
+        (inner_before (standing_of name) before) → IsSound name start end children
     each around before Link start end children here inside = media-target _ here.1
     each around before Image start end children here inside = media-target _ here.1
+    each around before HeadingAtx start end children here inside =
+        (fit bytes names HeadingAtx around before start end children here inside).1
     each around before _ start end children here inside = tt
 
 -- ---- line endings
 ending-few : (text : List ℕ) → is_line_ending text ≡ true → length text ≤ 2
 ending-few text h =
-    by (bytes_eq (13 ∷ 10 ∷ []) text) (bytes_eq (13 ∷ []) text) (bytes_eq (10 ∷ []) text)
-    (λ e. omega (arith, ap length ((bytes_eq-Decides (13 ∷ 10 ∷ []) text).0 e)))
-    (λ e. omega (arith, ap length ((bytes_eq-Decides (13 ∷ []) text).0 e)))
-    (λ e. omega (arith, ap length ((bytes_eq-Decides (10 ∷ []) text).0 e)))
-    (found (bytes_eq (13 ∷ 10 ∷ []) text) (bytes_eq (13 ∷ []) text) (bytes_eq (10 ∷ []) text)
-    _ _ _ h)
-  where
-    found : {A : Type 0} (a b c : Bool) (x y z : A) →
-        is_some (cond a (Some x) (cond b (Some y) (cond c (Some z) None))) ≡ true →
-        (a || (b || c)) ≡ true
-    found true b c x y z h = refl
-    found false true c x y z h = refl
-    found false false true x y z h = refl
-    found false false false x y z h = lie h
-
-    by : (a b c : Bool) → (a ≡ true → length text ≤ 2) → (b ≡ true → length text ≤ 2) →
-        (c ≡ true → length text ≤ 2) → (a || (b || c)) ≡ true → length text ≤ 2
-    by true b c f g i h = f refl
-    by false true c f g i h = g refl
-    by false false true f g i h = i refl
-    by false false false f g i h = lie h
+    grind (
+      arith,
+      (bytes_eq-Decides (13 ∷ 10 ∷ []) text).0,
+      (bytes_eq-Decides (13 ∷ []) text).0,
+      (bytes_eq-Decides (10 ∷ []) text).0,
+    )
 
 -- the text of a line ending has at most two bytes
 abbrev HasShortEnding : List ℕ → Name → Point → Point → Forest → Type 0
@@ -198,33 +84,31 @@ own-ending bytes LineEnding start end children h = h
 own-ending bytes BlankLineEnding start end children h = h
 own-ending bytes _ start end children h = lit≤ tt
 
-either-ending : (bytes : List ℕ) (first later : Option Position) → found_length bytes first ≤ 2 →
-    found_length bytes later ≤ 2 → found_length bytes (or_else first later) ≤ 2
-either-ending bytes None later h k = k
-either-ending bytes (Some found) later h k = h
-
 first-few : (bytes : List ℕ) (forest : Forest) → Everywhere (HasShortEnding bytes) forest →
     found_length bytes (first_ending forest) ≤ 2
 first-few bytes Empty all = lit≤ tt
 first-few bytes (Node name start end children rest) all =
-    let own : Option Position = if is_ending name then Some (place start end) else None in
-    either-ending bytes (first_ending children) (or_else own (first_ending rest))
-    (first-few bytes children all.1)
-    (either-ending bytes own (first_ending rest) (own-ending bytes name start end children all.0)
-    (first-few bytes rest all.2))
+    omega (
+      arith,
+      either-some {A = Position},
+      own-ending bytes name start end children all.0,
+      first-few bytes children all.1,
+      first-few bytes rest all.2,
+    )
 
 default-few : (ending : Ending) → length (ending_text ending) ≤ 2
-default-few CarriageReturnLineFeed = lit≤ tt
-default-few CarriageReturn = lit≤ tt
-default-few LineFeed = lit≤ tt
+default-few ending = grind arith
 
 pub grammatical-ending : (options : CompileOptions) (bytes : List ℕ)
     (names : List (List ℕ × List ℕ)) (document : Forest) → IsGrammatical bytes names document →
     length (ending_at options bytes (first_ending document)) ≤ 2
 grammatical-ending options bytes names document is =
-    by (first_ending document) (first-few bytes document
-    (everywhere bytes names (HasShortEnding bytes) each document role.Flow None
-    (fine bytes names document role.Flow None is.shape.0 is.rules)))
+    grind (
+      arith,
+      default-few options.default_line_ending,
+      first-few bytes document (everywhere bytes names (HasShortEnding bytes) each document
+          role.Flow None (fine bytes names document role.Flow None is.shape.0 is.rules)),
+    )
   where
     each : (around : Role) (before : Option Symbol) (name : Name) (start end : Point)
         (children : Forest) → IsFine bytes names around before name start end children →
@@ -237,8 +121,3 @@ grammatical-ending options bytes names document is =
         text_fits is_line_ending rule.LineEnding (λ text. length text ≤ 2) ending-few
         (text_between bytes start end) here.1
     each around before _ start end children here inside = tt
-
-    by : (found : Option Position) → found_length bytes found ≤ 2 →
-        length (ending_at options bytes found) ≤ 2
-    by None h = default-few options.default_line_ending
-    by (Some found) h = h

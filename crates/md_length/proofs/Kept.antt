@@ -1,29 +1,26 @@
 -- What of nodes is kept to be printed elsewhere, and the target of a link or an image.
-use Rattle.std.proofs.Common.{◌≡◌, ℕ, ◌+◌, ◌*◌, ◌≤◌, Bool, true, false}
-use Rattle.std.proofs.Common.{◌&&◌, List, [], ◌∷◌, ◌++◌, length, refl}
-use Rattle.std.proofs.Common.{arith, Option, Some, None, unwrap_or, lit≤}
+use Rattle.std.proofs.Common.{◌≡◌, ℕ, ◌+◌, ◌*◌, ◌≤◌, Bool, true, ◌&&◌, List, [], ◌∷◌, ◌++◌, length}
+use Rattle.std.proofs.Common.{refl, arith, Option, unwrap_or}
 use Rattle.std.specs.Prelude.{if◌then◌else◌, is_some}
 use Rattle.std.specs.Option.{option_map_or}
-use Rattle.std.proofs.lemmas.List.{length-append}
-use Rattle.md_base.proofs.Lies.{lie}
 use Rattle.md_base.specs.declared.event.Name.TheVariants as name_variants
 use name_variants.{GfmFootnoteCall}
 use Rattle.md_base.specs.Is.{is}
 use Rattle.md_base.specs.Children.{is_empty, or_else}
 use Rattle.md_base.specs.Tree.{Forest, Empty, Node}
-use Rattle.md_tree.specs.declared.mention.Referral.{Referral}
 use Rattle.md_tree.specs.declared.mention.Referral.TheVariants as referral
-use Rattle.md_tree.specs.Rules.{place, target_of}
+use Rattle.md_tree.specs.Rules.{target_of}
 use Rattle.md_meaning.specs.declared.surroundings.Surroundings.{Surroundings}
 use Rattle.md_meaning.specs.Meaning.At.{Target, Context, At, Before, Found}
 use Rattle.md_meaning.specs.Meaning.At.{target_in, identifier_of}
 use Rattle.md_meaning.specs.Meaning.Before.{before_children}
 use Rattle.md_meaning.specs.Meaning.Layout.{when}
 use Rattle.md_meaning.specs.Meaning.Media.{target_defined}
-use Rattle.md_meaning.specs.Meaning.Nodes.{Outcome, outcome}
-use Rattle.md_steps.specs.Claim.{inner_of, next_before}
+use Rattle.md_meaning.specs.Meaning.Nodes.{outcome}
+use Rattle.md_steps.specs.Claim.{next_before}
 use Rattle.md_length.specs.Costs.{nodes}
-use Rattle.md_length.specs.Uses.{weight, led}
+use Rattle.md_length.proofs.Pieces.{either-number, either-some}
+use Rattle.md_length.specs.Uses.{weight, led, called, sum_of}
 use Rattle.md_length.proofs.Strings.{around_in}
 
 -- ---- what is kept of nodes
@@ -39,59 +36,62 @@ kept found = 6 * option_map_or (λ text. length text) found.destination 0
 abbrev pub held : Bool → List ℕ → ℕ
 held waits heading = if waits then length heading else 0
 
-either-short : {A : Type 0} (f : A → ℕ) (later first : Option A) →
-    option_map_or f (or_else later first) 0 ≤ option_map_or f later 0 + option_map_or f first 0
-either-short f None first = omega arith
-either-short f (Some x) first = omega arith
-
 pub both-kept : (later first : Found) → kept (record {
   heading = or_else later.heading first.heading;
   destination = or_else later.destination first.destination;
   title = or_else later.title first.title;
   resource = or_else later.resource first.resource;
 }) ≤ kept first + kept later
-both-kept later first =
-    omega (
-      arith,
-      either-short (λ (t : List ℕ). length t) later.destination first.destination,
-      either-short (λ (t : List ℕ). length t) later.title first.title,
-      either-short weight later.resource first.resource,
-    )
+both-kept later first = omega (arith, either-some {A = List ℕ}, either-some {A = Target})
 
 pub target-kept : (found : Found) → weight (target_in found) ≤ kept found
-target-kept found = by found.destination
-  where
-    by : (destination : Option (List ℕ)) →
-        6 * length (unwrap_or destination []) + title_length found.title
-        ≤ 6 * option_map_or (λ text. length text) destination 0
-        + title_length found.title + option_map_or weight found.resource 0
-    by None = omega arith
-    by (Some text) = omega arith
+target-kept found = grind arith
 
 -- ---- the calls
-pub calls-few : (context : Context) (around : Surroundings) (before : Before) (forest : Forest) →
-    length (outcome context around before forest).calls ≤ nodes forest
-calls-few context around before Empty = lit≤ tt
-calls-few context around before (Node name start end children rest) =
+sum-append : (f : List ℕ → ℕ) (xs ys : List (List ℕ)) →
+    sum_of f (xs ++ ys) ≡ sum_of f xs + sum_of f ys
+sum-append f [] ys = omega arith
+sum-append f (x ∷ xs) ys = omega (arith, sum-append f xs ys)
+
+one-sum : (f : List ℕ → ℕ) (b : Bool) (identifier : List ℕ) →
+    sum_of f (when b (identifier ∷ [])) ≡ (if b then f identifier else 0)
+one-sum f b identifier = grind arith
+
+pub calls-sum : (f : List ℕ → ℕ) (context : Context) (around : Surroundings) (before : Before)
+    (forest : Forest) →
+    sum_of f (outcome context around before forest).calls ≡ called f context.bytes forest
+calls-sum f context around before Empty = refl
+calls-sum f context around before (Node name start end children rest) =
     let last : Bool = around.is_outermost && is_empty rest in
-    let inner : Outcome = inner_of context around before name children in
     let next : Before = next_before context around before last name start end children in
-    let one : List (List ℕ) =
-    when (is GfmFootnoteCall name) (identifier_of context.bytes children ∷ []) in
-    let few : length one ≤ 1 = elim (is GfmFootnoteCall name) as
-    (λ b. length (when b (identifier_of context.bytes children ∷ [])) ≤ 1) [
-      | true ↦ lit≤ tt
-      | false ↦ lit≤ tt
-    ] in
     omega (
       arith,
-      calls-few context (around_in context around name children)
+      sum-append,
+      calls-sum f context (around_in context around name children)
           (before_children name children before) children,
-      calls-few context around next rest,
-      length-append (inner.calls ++ one) (outcome context around next rest).calls,
-      length-append inner.calls one,
-      few,
+      calls-sum f context around next rest,
+      one-sum f (is GfmFootnoteCall name) (identifier_of context.bytes children),
     )
+
+pub calls-few-nodes : (bytes : List ℕ) (forest : Forest) →
+    called (λ identifier. 1) bytes forest ≤ nodes forest
+calls-few-nodes bytes Empty = omega arith
+calls-few-nodes bytes (Node name start end children rest) =
+    omega (arith, either-number, calls-few-nodes bytes children, calls-few-nodes bytes rest)
+
+pub calls-few : (context : Context) (around : Surroundings) (before : Before) (forest : Forest) →
+    length (outcome context around before forest).calls ≤ nodes forest
+calls-few context around before forest =
+    omega (
+      arith,
+      counted (outcome context around before forest).calls,
+      calls-sum (λ identifier. 1) context around before forest,
+      calls-few-nodes context.bytes forest,
+    )
+  where
+    counted : (calls : List (List ℕ)) → length calls ≡ sum_of (λ identifier. 1) calls
+    counted [] = refl
+    counted (call ∷ calls) = omega (arith, counted calls)
 
 -- ---- the target of a link or an image
 pub media-leads : (context : Context) (at : At) (resource : Option Target) →
@@ -99,21 +99,4 @@ pub media-leads : (context : Context) (at : At) (resource : Option Target) →
     (target_of at.children referral.Missing ≡ referral.Resource → is_some resource ≡ true) →
     weight (unwrap_or resource (target_defined context (identifier_of context.bytes at.children)))
     ≤ led context at.children + option_map_or weight resource 0
-media-leads context at (Some target) some found = omega arith
-media-leads context at None some found =
-    by (target_of at.children referral.Missing) some found
-  where
-    target : Target
-    target = target_defined context (identifier_of context.bytes at.children)
-
-    by : (left : Referral) → (left ≡ referral.Missing → ⊥) →
-        (left ≡ referral.Resource → false ≡ true) →
-        weight (target_defined context (identifier_of context.bytes at.children))
-        ≤ (elim left [
-          | referral.Label place ↦
-              weight (target_defined context (identifier_of context.bytes at.children))
-          | _ ↦ 0
-        ]) + 0
-    by referral.Missing some found = absurd (some refl)
-    by referral.Resource some found = lie (found refl)
-    by (referral.Label place) some found = omega arith
+media-leads context at resource some found = grind arith

@@ -1,11 +1,11 @@
 -- What work counts as read is no less than the lengths of a document's nodes that are read, and
--- just these where no index goes back: one induction over the nodes for each.
+-- just these where no index goes back: one induction over the nodes for both.
 use Rattle.std.proofs.Common.{◌≡◌, ℕ, ◌+◌, ◌-◌, ◌*◌, ◌≤◌, suc, Bool, true, false, List, [], ◌∷◌}
 use Rattle.std.proofs.Common.{◌++◌, refl, ap, sym, ◌∙◌, subst, append_assoc, arith}
 use Rattle.std.specs.Prelude.{if◌then◌else◌}
-use Rattle.std.proofs.Math.Nat.{le_trans, le_of_eq, mul-le-mul_left, mul-add, suc-mul, mul-zero}
-use Rattle.std.proofs.Math.Nat.{sub_self}
+use Rattle.std.proofs.Math.Nat.{le_trans, le_of_eq, mul-le-mul_left, mul-add, mul-zero, sub_self}
 use Rattle.std.proofs.lemmas.List.{append-nil}
+use Rattle.md_base.proofs.Lies.{lie}
 use Rattle.md_base.specs.declared.event.Event.{Event}
 use Rattle.md_base.specs.Tree.{Forest, Empty, Node, flatten, exiting}
 use Rattle.md_length.specs.Work.{is_read, read_length, covered_from}
@@ -32,164 +32,134 @@ exit_depth : (read : Bool) (depth : ℕ) →
 exit_depth true depth = omega arith
 exit_depth false depth = refl
 
--- ---- no less
+once : (read : Bool) (depth n : ℕ) → inside read depth * n ≡ depth * n + own read n
+once true depth n = omega arith
+once false depth n = omega arith
 
--- a way over a place between is no shorter, as often as it is gone
-way : (depth a b c : ℕ) → depth * (c - a) ≤ depth * (b - a) + depth * (c - b)
-way depth a b c =
+-- ---- equal if no index goes back, else no less
+abbrev AtLeast : Bool → ℕ → ℕ → Type 0
+AtLeast true most few = most ≡ few
+AtLeast false most few = few ≤ most
+
+same-at_least : (forward : Bool) (most few : ℕ) → most ≡ few → AtLeast forward most few
+same-at_least true most few e = e
+same-at_least false most few e = omega arith
+
+-- a way over a place between, as often as it is gone
+way : (forward : Bool) (depth a b c : ℕ) → (forward ≡ true → (a ≤ b) × (b ≤ c)) →
+    AtLeast forward (depth * (b - a) + depth * (c - b)) (depth * (c - a))
+way true depth a b c ordered =
+    let between = ordered refl in
+    let parts : c - a ≡ (b - a) + (c - b) = omega (arith, between) in
+    sym (ap (λ n. depth * n) parts ∙ mul-add depth (b - a) (c - b))
+way false depth a b c ordered =
     let shorter : c - a ≤ (b - a) + (c - b) = omega arith in
     le_trans (mul-le-mul_left depth shorter) (le_of_eq (mul-add depth (b - a) (c - b)))
 
-node_covers :
-    (read : Bool) (depth before start middle end last children rest total later after : ℕ) →
-    children + (inside read depth * (middle - start) + (inside read depth * (end - middle) + later))
-    ≤ total →
-    rest + (depth * (last - end) + after) ≤ later →
-    (own read (end - start) + children + rest) + (depth * (last - before) + after)
-    ≤ depth * (start - before) + total
-node_covers true depth before start middle end last children rest total later after h k =
-    let over = way (suc depth) start middle end in
-    let once = suc-mul depth (end - start) in
-    let to_end = way depth before start end in
-    let to_last = way depth before end last in
-    omega (arith, over, once, to_end, to_last, h, k)
-node_covers false depth before start middle end last children rest total later after h k =
-    let over = way depth start middle end in
-    let to_end = way depth before start end in
-    let to_last = way depth before end last in
-    omega (arith, over, to_end, to_last, h, k)
+node-read : (forward read : Bool)
+    (depth before start middle end last children rest total later after : ℕ) →
+    (forward ≡ true → (before ≤ start) × (start ≤ middle) × (middle ≤ end) × (end ≤ last)) →
+    AtLeast forward total
+    (children + (inside read depth * (middle - start) + (inside read depth * (end - middle)
+    + later))) → AtLeast forward later (rest + (depth * (last - end) + after)) →
+    AtLeast forward (depth * (start - before) + total)
+    ((own read (end - start) + children + rest) + (depth * (last - before) + after))
+node-read true read depth before start middle end last children rest total later after ordered h k =
+    let o = ordered refl in
+    omega (
+      arith,
+      way true (inside read depth) start middle end (λ _. (o.1, o.2)),
+      once read depth (end - start),
+      way true depth before start end (λ _. omega (arith, o)),
+      way true depth before end last (λ _. omega (arith, o)),
+    )
+node-read false read depth before start middle end last children rest total later after ordered h
+    k =
+    omega (
+      arith,
+      way false (inside read depth) start middle end (λ e. lie e),
+      once read depth (end - start),
+      way false depth before start end (λ e. lie e),
+      way false depth before end last (λ e. lie e),
+    )
 
-covers : (forest : Forest) (index depth : ℕ) (after : List Event) →
-    lengths forest
-    + (depth * (last_index index forest - index) + read_from (last_index index forest) depth after)
-    ≤ read_from index depth (flatten forest ++ after)
-covers Empty index depth after =
+-- nodes that are read, from an index to where the last event stands
+record IsRead (forward : Bool) (forest : Forest) (index depth : ℕ) (after : List Event) : Type 0
+  where
+    read : AtLeast forward (read_from index depth (flatten forest ++ after))
+        (lengths forest + (depth * (last_index index forest - index)
+        + read_from (last_index index forest) depth after))
+    ordered : forward ≡ true →
+        (index ≤ last_index index forest) × GoesForward (last_index index forest) after
+
+nodes-read : (forward : Bool) (forest : Forest) (index depth : ℕ) (after : List Event) →
+    (forward ≡ true → GoesForward index (flatten forest ++ after)) →
+    IsRead forward forest index depth after
+nodes-read forward Empty index depth after goes =
     let none : depth * (index - index) ≡ 0 =
     ap (λ n. depth * n) (sub_self index) ∙ mul-zero depth in
-    omega (arith, none)
-covers (Node name start end children rest) index depth after =
-    let read : Bool = is_read name in
-    let inner : ℕ = inside read depth in
+    record {
+      read = same-at_least forward _ _ (omega (arith, none));
+      ordered = λ e. (omega arith, goes e);
+    }
+nodes-read forward (Node name start end children rest) index depth after goes =
+    let is : Bool = is_read name in
+    let inner : ℕ = inside is depth in
     let later : List Event = flatten rest ++ after in
-    let tail : List Event = exiting name end ∷ later in
+    let split = append_assoc (flatten children) (exiting name end ∷ flatten rest) after in
+    let goes_in = λ (e : forward ≡ true).
+    subst (λ events. GoesForward start.index events) split (goes e).1 in
+    let in_children : IsRead forward children start.index inner (exiting name end ∷ later) =
+    nodes-read forward children start.index inner (exiting name end ∷ later) goes_in in
+    let in_rest : IsRead forward rest end.index depth after =
+    nodes-read forward rest end.index depth after (λ e. (in_children.ordered e).1.1) in
     let middle : ℕ = last_index start.index children in
-    let last : ℕ = last_index end.index rest in
-    let total : ℕ = read_from start.index inner (flatten children ++ tail) in
-    let exit : read_from end.index (if read then inner - 1 else inner) later
-    ≡ read_from end.index depth later =
-    ap (λ n. read_from end.index n later) (exit_depth read depth) in
-    let in_children :
-    lengths children + (inner * (middle - start.index) + (inner * (end.index - middle)
-    + read_from end.index depth later)) ≤ total =
-    subst (λ n. lengths children
-    + (inner * (middle - start.index) + (inner * (end.index - middle) + n)) ≤ total)
-    exit (covers children start.index inner tail) in
-    subst (λ events. (own read (end.index - start.index) + lengths children + lengths rest)
-    + (depth * (last - index) + read_from last depth after)
-    ≤ depth * (start.index - index) + read_from start.index inner events)
-    (sym (append_assoc (flatten children) (exiting name end ∷ flatten rest) after))
-    (node_covers read depth index start.index middle end.index last (lengths children)
-    (lengths rest) total (read_from end.index depth later) (read_from last depth after) in_children
-    (covers rest end.index depth after))
+    let exit = ap (λ n. read_from end.index n later) (exit_depth is depth) in
+    record {
+      read = subst (λ events. AtLeast forward
+          (depth * (start.index - index) + read_from start.index inner events)
+          ((own is (end.index - start.index) + lengths children + lengths rest)
+          + (depth * (last_index end.index rest - index)
+          + read_from (last_index end.index rest) depth after))) (sym split)
+          (node-read forward is depth index start.index middle end.index
+          (last_index end.index rest) (lengths children) (lengths rest) _
+          (read_from end.index depth later) (read_from (last_index end.index rest) depth after)
+          (λ e. (
+            (goes e).0,
+            (in_children.ordered e).0,
+            (in_children.ordered e).1.0,
+            (in_rest.ordered e).0,
+          ))
+          (subst (λ n. AtLeast forward
+          (read_from start.index inner (flatten children ++ exiting name end ∷ later))
+          (lengths children + (inner * (middle - start.index) + (inner * (end.index - middle)
+          + n)))) exit in_children.read) in_rest.read);
+      ordered = λ e. (
+        omega (
+          arith,
+          (goes e).0,
+          (in_children.ordered e).0,
+          (in_children.ordered e).1.0,
+          (in_rest.ordered e).0,
+        ),
+        (in_rest.ordered e).1,
+      );
+    }
+
+whole-read : (forward : Bool) (document : Forest) →
+    (forward ≡ true → GoesForward 0 (flatten document)) →
+    AtLeast forward (read_length (flatten document))
+    (lengths document + (0 * (last_index 0 document - 0) + 0))
+whole-read forward document goes =
+    let all = append-nil (flatten document) in
+    subst (λ events. AtLeast forward (read_from 0 0 events)
+    (lengths document + (0 * (last_index 0 document - 0) + 0))) all
+    (nodes-read forward document 0 0 []
+    (λ e. subst (λ events. GoesForward 0 events) (sym all) (goes e))).read
 
 pub read-no_less : (document : Forest) → lengths document ≤ read_length (flatten document)
-read-no_less document =
-    let covered :
-    lengths document + (0 * (last_index 0 document - 0) + 0) ≤ read_from 0 0 (flatten document) =
-    subst (λ events. lengths document + (0 * (last_index 0 document - 0) + 0)
-    ≤ read_from 0 0 events) (append-nil (flatten document)) (covers document 0 0 []) in
-    omega (arith, covered)
-
--- ---- just these
-
-way-exact : (depth a b c : ℕ) → a ≤ b → b ≤ c → depth * (c - a) ≡ depth * (b - a) + depth * (c - b)
-way-exact depth a b c h k =
-    let parts : c - a ≡ (b - a) + (c - b) = omega arith in
-    ap (λ n. depth * n) parts ∙ mul-add depth (b - a) (c - b)
-
-node_exact :
-    (read : Bool) (depth before start middle end last children rest total later after : ℕ) →
-    before ≤ start → start ≤ middle → middle ≤ end → end ≤ last →
-    total ≡ children
-    + (inside read depth * (middle - start) + (inside read depth * (end - middle) + later)) →
-    later ≡ rest + (depth * (last - end) + after) →
-    depth * (start - before) + total
-    ≡ (own read (end - start) + children + rest) + (depth * (last - before) + after)
-node_exact true depth before start middle end last children rest total later after o p q r h k =
-    let over = way-exact (suc depth) start middle end p q in
-    let once = suc-mul depth (end - start) in
-    let before_end : start ≤ end = omega arith in
-    let to_end = way-exact depth before start end o before_end in
-    let before_last : before ≤ end = omega arith in
-    let to_last = way-exact depth before end last before_last r in
-    omega (arith, over, once, to_end, to_last, h, k)
-node_exact false depth before start middle end last children rest total later after o p q r h k =
-    let over = way-exact depth start middle end p q in
-    let before_end : start ≤ end = omega arith in
-    let to_end = way-exact depth before start end o before_end in
-    let before_last : before ≤ end = omega arith in
-    let to_last = way-exact depth before end last before_last r in
-    omega (arith, over, to_end, to_last, h, k)
-
--- nodes read forward, from an index to where the last event stands
-record IsExact (forest : Forest) (index depth : ℕ) (after : List Event) : Type 0 where
-  same : read_from index depth (flatten forest ++ after)
-      ≡ lengths forest + (depth * (last_index index forest - index)
-      + read_from (last_index index forest) depth after)
-  ordered : index ≤ last_index index forest
-  forward : GoesForward (last_index index forest) after
-
-exact : (forest : Forest) (index depth : ℕ) (after : List Event) →
-    GoesForward index (flatten forest ++ after) →
-    IsExact forest index depth after
-exact Empty index depth after forward =
-    let none : depth * (index - index) ≡ 0 =
-    ap (λ n. depth * n) (sub_self index) ∙ mul-zero depth in
-    record {
-      same = omega (arith, none);
-      ordered = omega arith;
-      forward = forward;
-    }
-exact (Node name start end children rest) index depth after forward =
-    let read : Bool = is_read name in
-    let inner : ℕ = inside read depth in
-    let later : List Event = flatten rest ++ after in
-    let tail : List Event = exiting name end ∷ later in
-    let split = append_assoc (flatten children) (exiting name end ∷ flatten rest) after in
-    let middle : ℕ = last_index start.index children in
-    let last : ℕ = last_index end.index rest in
-    let total : ℕ = read_from start.index inner (flatten children ++ tail) in
-    let in_children : IsExact children start.index inner tail =
-    exact children start.index inner tail
-    (subst (λ events. GoesForward start.index events) split forward.1) in
-    let in_rest : IsExact rest end.index depth after =
-    exact rest end.index depth after in_children.forward.1 in
-    let exit : read_from end.index (if read then inner - 1 else inner) later
-    ≡ read_from end.index depth later =
-    ap (λ n. read_from end.index n later) (exit_depth read depth) in
-    let by_children :
-    total ≡ lengths children + (inner * (middle - start.index) + (inner * (end.index - middle)
-    + read_from end.index depth later)) =
-    in_children.same ∙ ap (λ n. lengths children
-    + (inner * (middle - start.index) + (inner * (end.index - middle) + n))) exit in
-    record {
-      same = ap (λ events. depth * (start.index - index) + read_from start.index inner events) split
-          ∙ node_exact read depth index start.index middle end.index last (lengths children)
-          (lengths rest) total (read_from end.index depth later) (read_from last depth after)
-          forward.0 in_children.ordered
-          in_children.forward.0 in_rest.ordered by_children in_rest.same;
-      ordered = le_trans forward.0
-          (le_trans in_children.ordered (le_trans in_children.forward.0 in_rest.ordered));
-      forward = in_rest.forward;
-    }
+read-no_less document = omega (arith, whole-read false document (λ e. lie e))
 
 pub read-exact : (document : Forest) → GoesForward 0 (flatten document) →
     read_length (flatten document) ≡ lengths document
-read-exact document forward =
-    let whole = append-nil (flatten document) in
-    let read : IsExact document 0 0 [] = exact document 0 0 []
-    (subst (λ events. GoesForward 0 events) (sym whole) forward) in
-    let same :
-    read_from 0 0 (flatten document) ≡ lengths document + (0 * (last_index 0 document - 0) + 0) =
-    ap (λ events. read_from 0 0 events) (sym whole) ∙ read.same in
-    omega (arith, same)
+read-exact document forward = omega (arith, whole-read true document (λ _. forward))

@@ -1,14 +1,11 @@
 -- The reuse bounds the length of definitions for the links and images that refer to them.
-use Rattle.std.proofs.Common.{◌≡◌, ℕ, ◌+◌, ◌*◌, ◌≤◌}
-use Rattle.std.proofs.Common.{List, [], ◌∷◌, ◌++◌, refl, sym, ap}
-use Rattle.std.proofs.Common.{subst, arith, Option}
+use Rattle.std.proofs.Common.{◌≡◌, ℕ, ◌+◌, ◌*◌, ◌≤◌, List, [], ◌∷◌, ◌++◌, refl, sym, ap, subst}
+use Rattle.std.proofs.Common.{arith, append-nil, Option}
 use Rattle.std.specs.Prelude.{if◌then◌else◌}
 use Rattle.md_base.specs.declared.event.Name.{Name}
 use Rattle.md_base.specs.declared.event.Name.TheVariants.{Link, Image}
-use Rattle.md_base.specs.declared.event.Point.{Point}
 use Rattle.md_base.specs.declared.event.Position.{Position}
-use Rattle.md_base.specs.Is.{is}
-use Rattle.md_base.specs.Tree.{Forest, Empty, Node}
+use Rattle.md_base.specs.Tree.{Forest, Empty, Node, flatten}
 use Rattle.md_pattern.specs.Standing.{standing_of}
 use Rattle.md_pattern.specs.declared.kinds.Reading.TheVariants as reading
 use Rattle.md_text.specs.declared.options.CompileOptions.{CompileOptions}
@@ -24,21 +21,18 @@ use Rattle.md_meaning.specs.Meaning.At.{Context, identifier_of}
 use Rattle.md_meaning.specs.Meaning.Inherited.{outermost}
 use Rattle.md_meaning.specs.Meaning.Before.{nothing_before}
 use Rattle.md_meaning.specs.Meaning.Media.{target_defined}
-use Rattle.md_content.specs.Built.{Blocks}
 use Rattle.md_content.specs.References.{Everywhere, ResolvesAlike, defined_in, first_of}
 use Rattle.md_content.proofs.Alike.{leads-alike}
-use Rattle.md_content.proofs.Grammatical.{grammatical-built}
 use Rattle.md_content.proofs.Listed.{definitions-listed}
-use Rattle.md_length.specs.Lengths.{lengths}
-use Rattle.md_length.specs.Reuse.{length_at, resolved_lengths}
+use Rattle.md_steps.specs.Content.{Blocks}
+use Rattle.md_steps.proofs.ContentFits.{shaped-fits}
+use Rattle.md_length.specs.Reuse.{length_at, resolved_lengths, definition_lengths, is_media}
 use Rattle.md_length.specs.Reuse.{referred as reused}
 use Rattle.md_length.specs.Uses.{referred, led, weight}
-use Rattle.md_length.specs.Reuse.{is_media}
-use Rattle.md_length.proofs.Definitions.{definition_costs, definitions-below, first-below}
+use Rattle.md_length.proofs.Definitions.{definitions-below, first-below}
 use Rattle.md_length.proofs.Grammar.{grammatical-ending}
 use Rattle.md_length.proofs.Whole.{called_in, given_in}
-use Rattle.md_length.proofs.DefinitionEvents.{tree_lengths, document-lengths}
-use Rattle.md_length.proofs.DefinitionTimes.{half_unit, costs-times, led-times}
+use Rattle.md_length.proofs.Units.{half_unit}
 
 -- ---- links and images
 led-append : (lengths : List ℕ) (leads : Mention → Option ℕ) (xs ys : List Mention) →
@@ -47,46 +41,25 @@ led-append : (lengths : List ℕ) (leads : Mention → Option ℕ) (xs ys : List
 led-append lengths leads [] ys = omega arith
 led-append lengths leads (x ∷ xs) ys = omega (arith, led-append lengths leads xs ys)
 
--- a link or an image refers to a definition with this known
-abbrev IsLed : Context → List ℕ → (Mention → Option ℕ) → Name → Point → Point → Forest → Type 0
-IsLed context costs leads name start end children = led context children
-    ≤ length_at costs (leads (mention_of reading.Media (target_of children referral.Missing)))
-
-links-led : (context : Context) (costs : List ℕ) (leads : Mention → Option ℕ) (forest : Forest) →
-    Everywhere (IsLed context costs leads) forest →
-    referred context forest ≤ resolved_lengths costs leads (mentions_of forest)
-links-led context costs leads Empty each = omega arith
-links-led context costs leads (Node name start end children rest) each =
-    let mention : Mention =
-    mention_of (reading_of (standing_of name)) (target_of children referral.Missing) in
-    omega (
-      arith,
-      own name each.0,
-      links-led context costs leads children each.1,
-      links-led context costs leads rest each.2,
-      led-append costs leads (mentions_of children) (mention ∷ mentions_of rest),
-    )
-  where
-    own : (name : Name) → IsLed context costs leads name start end children →
-        (if is_media name then led context children else 0) ≤ length_at costs
-        (leads (mention_of (reading_of (standing_of name)) (target_of children referral.Missing)))
-    own Link h = h
-    own Image h = h
-    own _ h = omega arith
+-- what a link or an image with these children refers to takes at most so many times the length of
+-- its definition
+abbrev IsLed : List ℕ → List (List ℕ × List ℕ) → CompileOptions → Forest → Forest → Type 0
+IsLed bytes names options document children =
+    led (given_in options names bytes document) children
+    ≤ half_unit names * length_at (definition_lengths document)
+    (definition_for bytes (mentions_of document)
+    (mention_of reading.Media (target_of children referral.Missing)))
 
 -- the check resolves them to the definitions that the meaning finds
 target-led : (bytes : List ℕ) (names : List (List ℕ × List ℕ)) (options : CompileOptions)
-    (document : Forest) → IsGrammatical bytes names document →
-    (name : Name) (start end : Point) (children : Forest) →
-    ResolvesAlike bytes document name start end children →
-    IsLed (given_in options names bytes document) (definition_costs names document)
-    (definition_for bytes (mentions_of document)) name start end children
-target-led bytes names options document grammatical name start end children alike =
-    by (target_of children referral.Missing) (λ label e. (alike label e).0)
+    (document : Forest) → IsGrammatical bytes names document → (children : Forest) →
+    ((label : Position) → target_of children referral.Missing ≡ referral.Label label →
+    definition_for bytes (mentions_of document) (Reference label)
+    ≡ first_of (defined_in bytes document) (identifier_of bytes children)) →
+    IsLed bytes names options document children
+target-led bytes names options document grammatical children same =
+    by (target_of children referral.Missing) same
   where
-    costs : List ℕ
-    costs = definition_costs names document
-
     called : Context
     called = called_in options names bytes document
 
@@ -96,49 +69,63 @@ target-led bytes names options document grammatical name start end children alik
     identifier : List ℕ
     identifier = identifier_of bytes children
 
-    found : weight (target_defined context identifier)
-        ≤ length_at costs (first_of (defined_in bytes document) identifier)
-    found = subst (λ known. weight (target_defined context identifier)
-        ≤ length_at costs (first_of known identifier))
+    taken : ℕ
+    taken = weight (target_defined context identifier)
+
+    found : taken ≤ half_unit names
+        * length_at (definition_lengths document) (first_of (defined_in bytes document) identifier)
+    found = subst (λ known. taken ≤ half_unit names
+        * length_at (definition_lengths document) (first_of known identifier))
         (definitions-listed called outermost nothing_before document)
-        (first-below context.definitions costs identifier
-        (definitions-below called outermost nothing_before Blocks document
+        (first-below identifier
+        (definitions-below called outermost nothing_before Blocks document (flatten document) 0 []
         (grammatical-ending options bytes names document grammatical)
-        (grammatical-built bytes names document grammatical)))
+        (shaped-fits document grammatical.shape) (sym (append-nil (flatten document)))))
 
     by : (left : Referral) → ((label : Position) → left ≡ referral.Label label →
         definition_for bytes (mentions_of document) (Reference label)
         ≡ first_of (defined_in bytes document) identifier) →
-        (elim left [ referral.Label at ↦ weight (target_defined context identifier) | _ ↦ 0 ])
-        ≤ length_at costs
+        (elim left [ referral.Label at ↦ taken | _ ↦ 0 ])
+        ≤ half_unit names * length_at (definition_lengths document)
         (definition_for bytes (mentions_of document) (mention_of reading.Media left))
-    by referral.Missing same = omega arith
-    by referral.Resource same = omega arith
     by (referral.Label label) same =
-        subst (λ place. weight (target_defined context identifier) ≤ length_at costs place)
+        subst (λ place. taken ≤ half_unit names * length_at (definition_lengths document) place)
         (sym (same label refl)) found
+    by _ same = omega arith
+
+links-led : (bytes : List ℕ) (names : List (List ℕ × List ℕ)) (options : CompileOptions)
+    (document : Forest) → IsGrammatical bytes names document → (forest : Forest) →
+    Everywhere (ResolvesAlike bytes document) forest →
+    referred (given_in options names bytes document) forest ≤ half_unit names
+    * resolved_lengths (definition_lengths document) (definition_for bytes (mentions_of document))
+    (mentions_of forest)
+links-led bytes names options document is Empty alike = omega arith
+links-led bytes names options document is (Node name start end children rest) alike =
+    let mention : Mention =
+    mention_of (reading_of (standing_of name)) (target_of children referral.Missing) in
+    omega (
+      arith,
+      own name (target-led bytes names options document is children
+          (λ label e. (alike.0 label e).0)),
+      links-led bytes names options document is children alike.1,
+      links-led bytes names options document is rest alike.2,
+      ap (λ n. half_unit names * n) (led-append (definition_lengths document)
+          (definition_for bytes (mentions_of document)) (mentions_of children)
+          (mention ∷ mentions_of rest)),
+    )
+  where
+    own : (name : Name) → IsLed bytes names options document children →
+        (if is_media name then led (given_in options names bytes document) children else 0)
+        ≤ half_unit names * length_at (definition_lengths document)
+        (definition_for bytes (mentions_of document)
+        (mention_of (reading_of (standing_of name)) (target_of children referral.Missing)))
+    own Link h = h
+    own Image h = h
+    own _ h = omega arith
 
 pub referred-short : (options : CompileOptions) (names : List (List ℕ × List ℕ)) (bytes : List ℕ)
     (document : Forest) → IsGrammatical bytes names document →
     referred (given_in options names bytes document) document
     ≤ half_unit names * reused bytes document
 referred-short options names bytes document is =
-    let leads = definition_for bytes (mentions_of document) in
-    let costs = definition_costs names document in
-    let led_all = links-led (given_in options names bytes document) costs leads document
-    (each document (leads-alike bytes names document is)) in
-    let times = led-times (half_unit names) costs (tree_lengths document) leads
-    (mentions_of document) (costs-times names document) in
-    let same = ap (λ ls. half_unit names * resolved_lengths ls leads (mentions_of document))
-    (document-lengths bytes names document is) in
-    omega (arith, led_all, times, same)
-  where
-    each : (forest : Forest) → Everywhere (ResolvesAlike bytes document) forest →
-        Everywhere (IsLed (given_in options names bytes document) (definition_costs names document)
-        (definition_for bytes (mentions_of document))) forest
-    each Empty alike = tt
-    each (Node name start end children rest) alike = (
-      target-led bytes names options document is name start end children alike.0,
-      each children alike.1,
-      each rest alike.2,
-    )
+    links-led bytes names options document is document (leads-alike bytes names document is)

@@ -1,23 +1,17 @@
 -- How long what is read at a place is.
-use Rattle.std.proofs.Common.{◌≡◌, ℕ, suc, ◌+◌, ◌-◌, ◌≤◌}
-use Rattle.std.proofs.Common.{Bool, true, false, ◌&&◌, ◌==◌, List, [], ◌∷◌, ◌++◌}
-use Rattle.std.proofs.Common.{length, refl, arith, lit≤}
-use Rattle.std.proofs.Common.{Some, None, unwrap_or}
-use Rattle.std.specs.Prelude.{if◌then◌else◌, nat_le, slice_range, replicate, option_map}
-use Rattle.std.specs.Prelude.{find, bytes_eq, max}
-use Rattle.std.specs.Str.{is_utf8}
-use Rattle.std.proofs.lemmas.Bool.{and_parts, leb-true}
+use Rattle.std.proofs.Common.{ℕ, suc, ◌+◌, ◌-◌, ◌≤◌, List, [], ◌∷◌, length, arith, lit≤, unwrap_or}
+use Rattle.std.specs.Prelude.{if◌then◌else◌, slice_range}
 use Rattle.std.proofs.lemmas.Grind.{common_steps}
 use Rattle.std.proofs.lemmas.Bool.Decides.{nat_tests}
-use Rattle.std.proofs.lemmas.List.{length-append, length-replicate}
+use Rattle.std.proofs.lemmas.List.{length-replicate}
 use Rattle.md_base.specs.declared.event.Point.{Point}
-use Rattle.md_base.specs.Place.{byte_index, spaces_before, spaces_after, fits, bytes_between}
-use Rattle.md_base.specs.Place.{text_when, text_between, serialized_between, label_between}
-use Rattle.md_base.specs.Reference.{named, numbered, decoded, character_of, is_replaced}
-use Rattle.md_base.specs.Reference.{is_number}
+use Rattle.md_base.specs.Place.{byte_index, bytes_between}
+use Rattle.md_base.specs.Place.{text_between, serialized_between, label_between}
+use Rattle.md_base.specs.Reference.{named, numbered, decoded, is_replaced}
 use Rattle.std.specs.Str.Parse.{digits_value}
 use Rattle.md_length.specs.Costs.{span}
 use Rattle.md_length.specs.Longest.{longest}
+use Rattle.md_length.proofs.Pieces.{sizes, bytes-append}
 use Rattle.md_length.proofs.Texts.{character-short}
 
 range-short : (bytes : List ℕ) (from to : ℕ) → length (slice_range bytes from to) ≤ to - from
@@ -31,93 +25,41 @@ between-short bytes start end =
     let to : byte_index end ≤ suc end.index = grind (arith, nat_tests) in
     omega (arith, here, from, to)
 
-when-short : (readable : Bool) (text : List ℕ) (n : ℕ) → (readable ≡ true → length text ≤ n) →
-    length (unwrap_or (text_when readable text) []) ≤ n
-when-short readable text n each = by readable (is_utf8 text) each
-  where
-    by : (r u : Bool) → (r ≡ true → length text ≤ n) →
-        length (unwrap_or (if r && u then Some text else None) []) ≤ n
-    by true true h = h refl
-    by true false h = omega arith
-    by false u h = omega arith
-
 -- the text of a node, with the spaces of tabs
 pub text-short : (bytes : List ℕ) (start end : Point) →
     length (unwrap_or (text_between bytes start end) []) ≤ suc (span start end)
-text-short bytes start end =
-    when-short (fits bytes start end) (bytes_between bytes start end) (suc (span start end))
-    (λ _. between-short bytes start end)
+text-short bytes start end = omega (sizes, between-short bytes start end)
 
 pub serialized-short : (bytes : List ℕ) (start end : Point) →
     length (unwrap_or (serialized_between bytes start end) []) ≤ 8 + span start end
 serialized-short bytes start end =
-    when-short (fits bytes start end) (replicate (spaces_before start) 32
-    ++ bytes_between bytes start end ++ replicate (spaces_after end) 32) (8 + span start end) each
-  where
-    each : fits bytes start end ≡ true → length (replicate (spaces_before start) 32
-        ++ bytes_between bytes start end ++ replicate (spaces_after end) 32) ≤ 8 + span start end
-    each lies =
-        let few = nat_le start.vs 4 && nat_le end.vs 4 in
-        let ordered = nat_le (byte_index start) (byte_index end) in
-        let parts = and_parts (few && ordered) (nat_le (byte_index end) (length bytes)) lies in
-        let columns = and_parts (nat_le start.vs 4) (nat_le end.vs 4)
-        (and_parts few ordered parts.0).0 in
-        let taken = leb-true end.vs 4 columns.1 in
-        let left : spaces_before start ≤ 4 = grind (arith, nat_tests) in
-        omega (
-          arith,
-          length-append (replicate (spaces_before start) 32
-              ++ bytes_between bytes start end) (replicate (spaces_after end) 32),
-          length-append (replicate (spaces_before start) 32) (bytes_between bytes start end),
-          length-replicate {A = ℕ} (spaces_before start) 32,
-          length-replicate {A = ℕ} (spaces_after end) 32,
-          between-short bytes start end,
-          taken,
-          left,
-        )
+    grind (
+      arith,
+      nat_tests,
+      bytes-append,
+      length-replicate {A = ℕ},
+      between-short bytes start end,
+    )
 
 -- a label
 pub label-short : (bytes : List ℕ) (start end : Point) →
     length (unwrap_or (label_between bytes start end) []) ≤ span start end
-label-short bytes start end =
-    when-short (nat_le start.index end.index && nat_le end.index (length bytes))
-    (slice_range bytes start.index end.index) (span start end)
-    (λ _. range-short bytes start.index end.index)
+label-short bytes start end = omega (sizes, range-short bytes start.index end.index)
 
 -- ---- references
 named-short : (names : List (List ℕ × List ℕ)) (name : List ℕ) →
     length (unwrap_or (named names name) []) ≤ longest names
 named-short [] name = lit≤ tt
-named-short (entry ∷ names) name =
-    let later = named-short names name in
-    elim (bytes_eq entry.0 name) as (λ b. length (unwrap_or (option_map (λ entry. entry.1)
-    (if b then Some entry else find (λ entry. bytes_eq entry.0 name) names)) [])
-    ≤ max (length entry.1) (longest names)) [
-      | true ↦ omega arith
-      | false ↦ omega (arith, later)
-    ]
+named-short (entry ∷ names) name = grind (arith, named-short names name)
 
 numbered-short : (radix : ℕ) (digits : List ℕ) →
     length (unwrap_or (numbered radix digits) []) ≤ 4
-numbered-short radix digits = by (is_number radix digits)
-  where
-    by : (b : Bool) → length (unwrap_or (if b
-        then Some (character_of (digits_value radix digits)) else None) []) ≤ 4
-    by true =
-        let code = digits_value radix digits in
-        character-short (if is_replaced code then 0xFFFD else code)
-    by false = lit≤ tt
+numbered-short radix digits =
+    let code = digits_value radix digits in
+    omega (sizes, character-short (if is_replaced code then 0xFFFD else code))
 
 -- the text of a reference
 pub decoded-short : (names : List (List ℕ × List ℕ)) (marker : ℕ) (value : List ℕ) →
     length (unwrap_or (decoded names marker value) []) ≤ 4 + longest names
 decoded-short names marker value =
-    by (marker == 38) (marker == 35) (marker == 120)
-  where
-    by : (name number digits : Bool) → length (unwrap_or (if name then named names value
-        else if number then numbered 10 value else if digits then numbered 16 value else None) [])
-        ≤ 4 + longest names
-    by true number digits = omega (arith, named-short names value)
-    by false true digits = omega (arith, numbered-short 10 value)
-    by false false true = omega (arith, numbered-short 16 value)
-    by false false false = omega arith
+    omega (sizes, named-short names value, numbered-short 10 value, numbered-short 16 value)

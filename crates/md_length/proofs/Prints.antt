@@ -1,49 +1,101 @@
 -- What a node prints beyond what its children print is no longer than a unit, its own text and, of
 -- a few names, what else is used there.
-use Rattle.std.proofs.Common.{◌≡◌, ◌≤◌}
-use Rattle.std.proofs.Common.{Bool, true, false, ◌||◌, List}
-use Rattle.std.proofs.Common.{length, refl, ap, arith}
-use Rattle.std.specs.Prelude.{if◌then◌else◌}
+use Rattle.std.proofs.Common.{ℕ, ◌+◌, ◌*◌, ◌≤◌, List, [], ◌++◌, length, arith, codes}
+use Rattle.std.specs.Prelude.{slice_get, count_by}
+use Rattle.std.specs.Fmt.{decimal}
+use Rattle.std.proofs.lemmas.List.{length-drop}
+use Rattle.md_base.specs.Is.{is}
+use Rattle.md_base.specs.declared.event.AlignKind.{AlignKind}
 use Rattle.md_base.specs.declared.event.Name.{Name}
 use Rattle.md_base.specs.declared.event.Name.TheVariants as name_variants
-use name_variants.{Data}
+use name_variants.{ListOrdered, HeadingAtx, HeadingSetextUnderlineSequence, Link, Image}
+use name_variants.{GfmTableRow, GfmTableCell, GfmFootnoteCall, GfmTaskListItemCheck}
+use Rattle.md_text.specs.Encode.{encoded}
+use Rattle.md_base.specs.Place.{serialized_between}
+use Rattle.std.proofs.Common.{unwrap_or, true}
 use Rattle.md_meaning.specs.Meaning.At.{Context, At}
-use Rattle.md_meaning.specs.Meaning.Layout.{Piece}
+use Rattle.md_meaning.specs.Meaning.Blocks.{atx_rank}
+use Rattle.md_meaning.specs.Meaning.Finds.{number_in_list}
+use Rattle.md_meaning.specs.Meaning.Footnotes.{call}
+use Rattle.md_meaning.specs.Meaning.Layout.{Piece, layout, said}
 use Rattle.md_meaning.specs.Meaning.Means.{prints}
-use Rattle.md_length.specs.Costs.{span}
-use Rattle.md_length.proofs.Pieces.{size}
-use Rattle.md_length.proofs.PrintedTexts.{IsShort, is_leaf, leaf-short}
-use Rattle.md_length.proofs.PrintedBlocks.{is_wrap, wrap-short}
-use Rattle.md_length.proofs.PrintedSpans.{is_spanned, spanned-short}
-use Rattle.md_length.proofs.PrintedTables.{is_tabled, tabled-short}
+use Rattle.md_meaning.specs.Meaning.Media.{leads_to}
+use Rattle.md_meaning.specs.Meaning.Spans.{task_start}
+use Rattle.md_length.specs.Costs.{span, unit, own}
+use Rattle.md_length.specs.Uses.{weight, number_length}
+use Rattle.md_length.proofs.Pieces.{size, size-append, sizes, layout-short}
+use Rattle.md_length.proofs.Places.{serialized-short}
+use Rattle.md_length.proofs.Texts.{encoded-short}
+use Rattle.md_length.proofs.PrintedTexts.{line_ending-short, escaped-short, raw-short, reference-short}
+use Rattle.md_length.proofs.PrintedTexts.{anchor-short, picture-short, autolink-short, number-short}
+use Rattle.md_length.proofs.PrintedTexts.{rank-one, code-short, cell-short, filled-short}
 
--- ---- any name
-abbrev is_listed : Name → Bool
-is_listed name = is_leaf name || (is_wrap name || (is_spanned name || is_tabled name))
+-- what is printed at a node beside its own text and what its children print
+abbrev pub extra : Context → At → Name → ℕ
+extra context at name = elim name [
+  | ListOrdered ↦ number_length context.bytes at.children
+  | HeadingAtx ↦ 2 * length (decimal (atx_rank at))
+  | HeadingSetextUnderlineSequence ↦ length at.before.heading
+  | Link ↦ weight (leads_to context at)
+  | Image ↦ weight (leads_to context at)
+  | GfmTableRow ↦ 32 * length at.before.columns
+  | GfmFootnoteCall ↦ size (call context at)
+  | _ ↦ 0
+]
 
--- other nodes print what their children print
-others : (context : Context) (at : At) (inner : List Piece) (name : Name) →
-    (if is_listed name then inner else prints context at name inner) ≡ inner
-others context at inner Data = refl
-others context at inner _ = refl
+abbrev pub IsShort : Context → At → List Piece → Name → Type 0
+IsShort context at inner name = size (prints context at name inner)
+    ≤ size inner + (unit context.names + 42 * own name at.place) + extra context at name
+
+-- a line of code
+chunk-short : (context : Context) (at : At) →
+    length (encoded true
+    (unwrap_or (serialized_between context.bytes at.place.start at.place.end) []))
+    ≤ 48 + 6 * span at.place.start at.place.end
+chunk-short context at =
+    omega (
+      arith,
+      encoded-short true
+          (unwrap_or (serialized_between context.bytes at.place.start at.place.end) []),
+      serialized-short context.bytes at.place.start at.place.end,
+    )
 
 pub prints-short : (context : Context) (at : At) (inner : List Piece) (name : Name) →
     length context.ending ≤ 2 → IsShort context at inner name
-prints-short context at inner name few =
-    by (is_leaf name) (is_wrap name) (is_spanned name) (is_tabled name)
-    (leaf-short context at inner name) (wrap-short context at inner name)
-    (spanned-short context at inner name few) (tabled-short context at inner name few)
-    (others context at inner name)
-  where
-    by : (leaf wrap span table : Bool) → (leaf ≡ true → IsShort context at inner name) →
-        (wrap ≡ true → IsShort context at inner name) →
-        (span ≡ true → IsShort context at inner name) →
-        (table ≡ true → IsShort context at inner name) →
-        (if leaf || (wrap || (span || table)) then inner else prints context at name inner) ≡
-        inner →
-        IsShort context at inner name
-    by true wrap span table a b c d e = a refl
-    by false true span table a b c d e = b refl
-    by false false true table a b c d e = c refl
-    by false false false true a b c d e = d refl
-    by false false false false a b c d e = omega (arith, ap size e)
+prints-short context at inner GfmTaskListItemCheck few =
+    omega (sizes, size-append (task_start context) (inner ++ said (codes "/>")))
+prints-short context at inner Link few =
+    omega (
+      sizes,
+      anchor-short context.options (leads_to context at) (layout context.ending inner),
+      layout-short,
+    )
+prints-short context at inner Image few =
+    omega (
+      sizes,
+      picture-short context.options (leads_to context at) (layout context.ending inner),
+      layout-short,
+    )
+prints-short context at inner GfmTableCell few =
+    omega (
+      arith,
+      cell-short at.around.in_head (layout context.ending inner)
+          (slice_get at.before.columns (count_by (is GfmTableCell) at.before.spine)),
+      layout-short,
+    )
+prints-short context at inner _ few =
+    omega (
+      sizes,
+      escaped-short context at,
+      raw-short context at,
+      reference-short context at,
+      line_ending-short context at,
+      chunk-short context at,
+      number-short context.bytes (number_in_list at.children),
+      rank-one context at,
+      autolink-short,
+      code-short,
+      filled-short,
+      length-drop {A = AlignKind},
+      layout-short,
+    )

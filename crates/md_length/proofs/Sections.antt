@@ -1,28 +1,22 @@
 -- The section of footnotes is no longer than its texts and what its calls take.
-use Rattle.std.proofs.Common.{◌≡◌, ℕ, zero, suc, ◌+◌, ◌-◌, ◌*◌, ◌^◌, ◌≤◌, ◌<◌, Bool, true, false}
-use Rattle.std.proofs.Common.{not, ◌==◌, List, [], ◌∷◌, ◌++◌, length, refl}
-use Rattle.std.proofs.Common.{arith, codes, lit≤, Option, Some, None, bytes_eq}
-use Rattle.std.proofs.Common.{string_bytes, take, drop, cond}
-use Rattle.std.specs.Prelude.{if◌then◌else◌, filter, find, option_map, String}
+use Rattle.std.proofs.Common.{ℕ, zero, suc, ◌+◌, ◌-◌, ◌*◌, ◌^◌, ◌≤◌, ◌<◌, Bool, not, List, [], ◌∷◌}
+use Rattle.std.proofs.Common.{length, arith, codes, lit≤, Option, bytes_eq, string_bytes}
+use Rattle.std.specs.Prelude.{filter, find, String}
 use Rattle.std.specs.declared.alloc.Global.{Global}
 use Rattle.std.specs.Option.{option_map_or}
 use Rattle.std.specs.List.{flat_map}
-use Rattle.std.specs.Fmt.{decimal}
-use Rattle.std.proofs.Math.Nat.{suc-mul}
-use Rattle.std.proofs.lemmas.List.{length-append, length-take, length-drop}
+use Rattle.std.proofs.lemmas.List.{length-take, length-drop}
 use Rattle.md_text.specs.declared.options.CompileOptions.{CompileOptions}
 use Rattle.md_meaning.specs.Meaning.At.{Footnote, Context}
-use Rattle.md_meaning.specs.Meaning.Footnotes.{distinct, place_among, count_of, option_or}
-use Rattle.md_meaning.specs.Meaning.Footnotes.{call_id, backreference, backreferences}
-use Rattle.md_meaning.specs.Meaning.Footnotes.{unended_length, body, item, section_start, section}
-use Rattle.md_meaning.specs.Meaning.Layout.{Piece, Text, Needed, Forced, on_own_line}
+use Rattle.md_meaning.specs.Meaning.Footnotes.{distinct, place_among, count_of, backreference}
+use Rattle.md_meaning.specs.Meaning.Footnotes.{backreferences, body, item, section_start, section}
 use Rattle.md_meaning.proofs.Identifiers.{distinct-apart}
 use Rattle.md_length.specs.Uses.{back_cost, item_cost, sum_of}
 use Rattle.md_length.specs.Reuse.{option_length}
 use Rattle.md_length.specs.Bound.{for_document}
 use Rattle.md_length.proofs.Calls.{id-short, call_id-short, option-short, decimal-short, number-few}
 use Rattle.md_length.proofs.Calls.{count-few}
-use Rattle.md_length.proofs.Pieces.{size, size-append, when-size}
+use Rattle.md_length.proofs.Pieces.{size, sizes, size-append, either-size}
 use Rattle.md_length.proofs.Strings.{notes}
 use Rattle.md_length.proofs.Sums.{counted, first_text, texts-once}
 
@@ -31,31 +25,9 @@ backreference-short : (options : CompileOptions) (identifier : List ℕ) (number
     number < 2 ^ 64 → occurrence < 2 ^ 64 →
     length (backreference options identifier number occurrence) + 1 ≤ back_cost options identifier
 backreference-short options identifier number occurrence few rare =
-    let id : List ℕ = call_id options identifier number occurrence in
-    let label : List ℕ = option_or (option_map string_bytes options.gfm_footnote_back_label)
-    (codes "Back to content") in
-    let which : List ℕ =
-    if occurrence == 1 then [] else codes "<sup>" ++ (decimal occurrence ++ codes "</sup>") in
-    let which_short : length which ≤ 31 = elim (occurrence == 1) as
-    (λ b. length (if b then [] else codes "<sup>" ++ (decimal occurrence ++ codes "</sup>"))
-    ≤ 31) [
-      | true ↦ lit≤ tt
-      | false ↦ omega (
-        arith,
-        decimal-short occurrence rare,
-        length-append (decimal occurrence) (codes "</sup>"),
-      )
-    ] in
-    let last : List ℕ = which ++ codes "</a>" in
-    let after : List ℕ = codes "\" class=\"data-footnote-backref\">"
-    ++ ((226 ∷ 134 ∷ 169 ∷ []) ++ last) in
-    let named : List ℕ = codes "\" data-footnote-backref=\"\" aria-label=\"" ++ (label ++ after) in
     omega (
-      arith,
-      length-append id named,
-      length-append label after,
-      length-append which (codes "</a>"),
-      which_short,
+      sizes,
+      decimal-short occurrence rare,
       option-short options.gfm_footnote_back_label (codes "Back to content"),
       call_id-short options identifier number occurrence few rare,
     )
@@ -66,34 +38,14 @@ backs-short : (options : CompileOptions) (identifier : List ℕ) (number count :
     ≤ count * back_cost options identifier
 backs-short options identifier number zero few rare = omega arith
 backs-short options identifier number (suc count) few rare =
-    let fits : suc count < 2 ^ 64 = omega (arith, rare) in
-    let less : count < 2 ^ 63 = omega (arith, rare) in
-    let before = backs-short options identifier number count few less in
-    let space : length (if count == 0 then [] else codes " ") ≤ 1 = elim (count == 0) as
-    (λ b. length (if b then [] else codes " ") ≤ 1) [ true ↦ lit≤ tt | false ↦ lit≤ tt ] in
     omega (
-      arith,
-      before,
-      space,
-      backreference-short options identifier number (suc count) few fits,
-      suc-mul count (back_cost options identifier),
-      length-append (backreferences options identifier number count)
-          ((if count == 0 then [] else codes " ")
-          ++ backreference options identifier number (suc count)),
-      length-append (if count == 0 then [] else codes " ")
-          (backreference options identifier number (suc count)),
+      sizes,
+      backs-short options identifier number count few (omega arith),
+      backreference-short options identifier number (suc count) few (omega arith),
     )
 
 body-short : (text back : List ℕ) → size (body text back) ≤ length text + 2 + length back
-body-short text back =
-    let end : ℕ = unended_length text - 4 in
-    elim (bytes_eq (drop end (take (unended_length text) text)) (codes "</p>")) as
-    (λ b. size (if b
-    then Text (take end text) ∷ Text (codes " ") ∷ Text back ∷ Text (drop end text) ∷ []
-    else Text text ∷ Needed ∷ Text back ∷ []) ≤ length text + 2 + length back) [
-      | true ↦ omega (arith, length-take end text, length-drop end text)
-      | false ↦ omega arith
-    ]
+body-short text back = omega (sizes, length-take {A = ℕ}, length-drop {A = ℕ})
 
 item-short : (context : Context) (footnotes : List Footnote) (identifier : List ℕ) →
     length context.calls < 2 ^ 63 → size (item context footnotes identifier)
@@ -104,24 +56,15 @@ item-short context footnotes identifier few =
     let fits = number-few context.calls identifier few in
     let footnote = find (λ footnote. bytes_eq footnote.identifier identifier) footnotes in
     let text : List ℕ = option_map_or (λ footnote. footnote.text) footnote [] in
-    let same_text : length text ≡ first_text footnotes identifier = chosen footnote in
-    let back = backreferences context.options identifier number (count_of context.calls identifier)
-    in
-    let rare : count_of context.calls identifier < 2 ^ 63 =
-    omega (arith, count-few context.calls identifier, few) in
+    let count = count_of context.calls identifier in
+    let rare : count < 2 ^ 63 = omega (arith, count-few context.calls identifier, few) in
     omega (
       arith,
+      size-append,
       id-short context.options (codes "fn-") identifier number (lit≤ tt) fits,
-      body-short text back,
-      same_text,
-      backs-short context.options identifier number (count_of context.calls identifier) fits rare,
-      size-append (body text back) (on_own_line (codes "</li>")),
+      body-short text (backreferences context.options identifier number count),
+      backs-short context.options identifier number count fits rare,
     )
-  where
-    chosen : (found : Option Footnote) → length (option_map_or (λ footnote. footnote.text) found [])
-        ≡ option_map_or (λ (footnote : Footnote). length footnote.text) found 0
-    chosen None = refl
-    chosen (Some footnote) = refl
 
 items-short : (context : Context) (footnotes : List Footnote) (identifiers : List (List ℕ)) →
     length context.calls < 2 ^ 63 → size (flat_map (item context footnotes) identifiers)
@@ -142,12 +85,7 @@ items-short context footnotes (identifier ∷ identifiers) few =
 filter-sum : (f : List ℕ → ℕ) (test : List ℕ → Bool) (identifiers : List (List ℕ)) →
     sum_of f (filter test identifiers) ≤ sum_of f identifiers
 filter-sum f test [] = omega arith
-filter-sum f test (identifier ∷ identifiers) = elim (test identifier) as
-    (λ b. sum_of f (cond b (identifier ∷ filter test identifiers) (filter test identifiers))
-    ≤ f identifier + sum_of f identifiers) [
-      | true ↦ omega (arith, filter-sum f test identifiers)
-      | false ↦ omega (arith, filter-sum f test identifiers)
-    ]
+filter-sum f test (identifier ∷ identifiers) = grind (arith, filter-sum f test identifiers)
 
 distinct-sum : (f : List ℕ → ℕ) (calls : List (List ℕ)) →
     sum_of f (distinct calls) ≤ sum_of f calls
@@ -162,8 +100,7 @@ distinct-sum f (call ∷ calls) =
 attributes-short : (attributes : Option (String Global)) →
     length (option_map_or string_bytes attributes (codes "class=\"sr-only\""))
     ≤ 16 + option_length attributes
-attributes-short None = lit≤ tt
-attributes-short (Some set) = omega arith
+attributes-short attributes = grind arith
 
 start-short : (options : CompileOptions) →
     size (section_start options) ≤ for_document options - 32
@@ -183,15 +120,10 @@ pub section-short : (context : Context) (footnotes : List Footnote) → length c
     context.calls
 section-short context footnotes few =
     let apart = distinct-apart context.calls in
-    let items = flat_map (item context footnotes) (distinct context.calls) in
-    let last : List Piece =
-    Forced ∷ Text (codes "</ol>") ∷ Forced ∷ Text (codes "</section>") ∷ Forced ∷ [] in
     omega (
       arith,
-      when-size (not (length context.calls == 0))
-          (section_start context.options ++ (items ++ last)),
-      size-append (section_start context.options) (items ++ last),
-      size-append items last,
+      either-size,
+      size-append,
       start-short context.options,
       items-short context footnotes (distinct context.calls) few,
       distinct-sum (item_cost context.options) context.calls,

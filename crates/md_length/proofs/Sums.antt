@@ -1,11 +1,9 @@
 -- Sums over identifiers that come once each.
-use Rattle.std.proofs.Common.{◌≡◌, ℕ, suc, ◌+◌, ◌*◌, ◌≤◌, Bool, true, false}
-use Rattle.std.proofs.Common.{◌||◌, List, [], ◌∷◌, length, refl, sym, ap, ◌∙◌}
-use Rattle.std.proofs.Common.{arith, Some, bytes_eq}
+use Rattle.std.proofs.Common.{◌≡◌, ℕ, ◌+◌, ◌*◌, ◌≤◌, false, List, [], ◌∷◌, length, refl, arith}
+use Rattle.std.proofs.Common.{bytes_eq}
 use Rattle.std.specs.Prelude.{if◌then◌else◌, find}
 use Rattle.std.specs.Option.{option_map_or}
-use Rattle.std.proofs.Math.Nat.{suc-mul, zero-mul}
-use Rattle.md_base.proofs.Lies.{lie}
+use Rattle.std.proofs.lemmas.Bool.{or_parts}
 use Rattle.md_meaning.specs.Meaning.At.{Footnote}
 use Rattle.md_meaning.specs.Meaning.Footnotes.{count_of}
 use Rattle.md_meaning.proofs.Identifiers.{Apart, is_in, same, bytes_eq-sym}
@@ -18,35 +16,28 @@ abbrev of_one : List ℕ → ℕ → List (List ℕ) → ℕ
 of_one wanted amount identifiers =
     sum_of (λ identifier. if bytes_eq wanted identifier then amount else 0) identifiers
 
-neither : (a b : Bool) → (a || b) ≡ false → (a ≡ false) × (b ≡ false)
-neither true b h = lie (sym h)
-neither false b h = (refl, h)
-
 none-there : (wanted : List ℕ) (amount : ℕ) (identifiers : List (List ℕ)) →
     is_in wanted identifiers ≡ false → of_one wanted amount identifiers ≡ 0
 none-there wanted amount [] out = refl
 none-there wanted amount (identifier ∷ identifiers) out =
-    let parts = neither (bytes_eq identifier wanted) (is_in wanted identifiers) out in
-    omega (
+    grind (
       arith,
-      ap (λ b. if b then amount else 0)
-          (bytes_eq-sym wanted identifier ∙ parts.0),
-      none-there wanted amount identifiers parts.1,
+      or_parts (bytes_eq identifier wanted) (is_in wanted identifiers) out,
+      bytes_eq-sym wanted identifier,
+      none-there wanted amount identifiers,
     )
 
 once : (wanted : List ℕ) (amount : ℕ) (identifiers : List (List ℕ)) → Apart identifiers →
     of_one wanted amount identifiers ≤ amount
 once wanted amount [] apart = omega arith
 once wanted amount (identifier ∷ identifiers) apart =
-    elim (bytes_eq wanted identifier) as (λ b. bytes_eq wanted identifier ≡ b →
-    (if b then amount else 0) + of_one wanted amount identifiers ≤ amount) [
-      | true ↦ λ e. omega (
-        arith,
-        none-there wanted amount identifiers
-            (ap (λ w. is_in w identifiers) (same wanted identifier e) ∙ apart.0),
-      )
-      | false ↦ λ e. omega (arith, once wanted amount identifiers apart.1)
-    ] refl
+    grind (
+      arith,
+      apart,
+      same wanted identifier,
+      none-there wanted amount identifiers,
+      once wanted amount identifiers apart.1,
+    )
 
 sum-add : (f g : List ℕ → ℕ) (identifiers : List (List ℕ)) →
     sum_of (λ identifier. f identifier + g identifier) identifiers
@@ -61,80 +52,55 @@ sum-le f g [] each = omega arith
 sum-le f g (identifier ∷ identifiers) each =
     omega (arith, each identifier, sum-le f g identifiers each)
 
+no-sum : (f : List ℕ → ℕ) (identifiers : List (List ℕ)) →
+    ((identifier : List ℕ) → f identifier ≤ 0) → sum_of f identifiers ≤ 0
+no-sum f [] each = omega arith
+no-sum f (identifier ∷ identifiers) each =
+    omega (arith, each identifier, no-sum f identifiers each)
+
+-- one thing more, whose amount counts for its own identifier
+one-more : (own : List ℕ) (amount most : ℕ) (now before : List ℕ → ℕ)
+    (identifiers : List (List ℕ)) → Apart identifiers →
+    ((identifier : List ℕ) → now identifier
+    ≤ (if bytes_eq own identifier then amount else 0) + before identifier) →
+    sum_of before identifiers ≤ most → sum_of now identifiers ≤ amount + most
+one-more own amount most now before identifiers apart each h =
+    omega (
+      arith,
+      sum-le now (λ identifier. (if bytes_eq own identifier then amount else 0)
+          + before identifier) identifiers each,
+      sum-add (λ identifier. if bytes_eq own identifier then amount else 0) before identifiers,
+      once own amount identifiers apart,
+      h,
+    )
+
 -- what is taken for each call of an identifier
 pub counted : (f : List ℕ → ℕ) (identifiers calls : List (List ℕ)) → Apart identifiers →
     sum_of (λ identifier. count_of calls identifier * f identifier) identifiers ≤ sum_of f calls
-counted f identifiers [] apart = omega (arith, nothing identifiers)
-  where
-    nothing : (identifiers : List (List ℕ)) →
-        sum_of (λ identifier. 0 * f identifier) identifiers ≡ 0
-    nothing [] = refl
-    nothing (identifier ∷ identifiers) =
-        omega (arith, zero-mul (f identifier), nothing identifiers)
+counted f identifiers [] apart =
+    no-sum (λ identifier. 0 * f identifier) identifiers (λ identifier. omega arith)
 counted f identifiers (call ∷ calls) apart =
-    omega (
-      arith,
-      sum-le (λ identifier. count_of (call ∷ calls) identifier * f identifier)
-          (λ identifier. (if bytes_eq call identifier then f call else 0)
-          + count_of calls identifier * f identifier) identifiers each,
-      sum-add (λ identifier. if bytes_eq call identifier then f call else 0)
-          (λ identifier. count_of calls identifier * f identifier) identifiers,
-      once call (f call) identifiers apart,
-      counted f identifiers calls apart,
-    )
-  where
-    by : (b : Bool) (n own other : ℕ) → (b ≡ true → own ≡ other) →
-        ((if b then 1 else 0) + n) * own ≤ (if b then other else 0) + n * own
-    by true n own other e =
-        let more : 1 + n ≡ suc n = omega arith in
-        let product : (1 + n) * own ≡ n * own + own =
-        ap (λ k. k * own) more ∙ suc-mul n own in
-        omega (arith, product, e refl)
-    by false n own other e =
-        let none : 0 + n ≡ n = omega arith in
-        let product : (0 + n) * own ≡ n * own = ap (λ k. k * own) none in
-        omega (arith, product)
-
-    each : (identifier : List ℕ) → count_of (call ∷ calls) identifier * f identifier
-        ≤ (if bytes_eq call identifier then f call else 0)
-        + count_of calls identifier * f identifier
-    each identifier =
-        by (bytes_eq call identifier) (count_of calls identifier) (f identifier) (f call)
-        (λ h. ap f (sym (same call identifier h)))
+    one-more call (f call) (sum_of f calls)
+    (λ identifier. count_of (call ∷ calls) identifier * f identifier)
+    (λ identifier. count_of calls identifier * f identifier) identifiers apart
+    (λ identifier. grind (arith, same call identifier))
+    (counted f identifiers calls apart)
 
 -- the texts of the first footnotes with these identifiers
 abbrev pub first_text : List Footnote → List ℕ → ℕ
-first_text footnotes identifier = option_map_or (λ (footnote : Footnote). length footnote.text)
-    (find (λ footnote. bytes_eq footnote.identifier identifier) footnotes) 0
+first_text footnotes identifier = length (option_map_or (λ (footnote : Footnote). footnote.text)
+    (find (λ footnote. bytes_eq footnote.identifier identifier) footnotes) [])
 
 pub texts-once : (footnotes : List Footnote) (identifiers : List (List ℕ)) → Apart identifiers →
     sum_of (first_text footnotes) identifiers ≤ notes footnotes
-texts-once [] identifiers apart = omega (arith, nothing identifiers)
-  where
-    nothing : (identifiers : List (List ℕ)) → sum_of (λ identifier. 0) identifiers ≡ 0
-    nothing [] = refl
-    nothing (identifier ∷ identifiers) = omega (arith, nothing identifiers)
+texts-once [] identifiers apart =
+    no-sum (λ identifier. 0) identifiers (λ identifier. omega arith)
 texts-once (footnote ∷ footnotes) identifiers apart =
-    omega (
-      arith,
-      sum-le (first_text (footnote ∷ footnotes))
-          (λ identifier. (if bytes_eq footnote.identifier identifier then length footnote.text else
-          0)
-          + first_text footnotes identifier) identifiers each,
-      sum-add (λ identifier. if bytes_eq footnote.identifier identifier then length footnote.text
-          else 0) (first_text footnotes) identifiers,
-      once footnote.identifier (length footnote.text) identifiers apart,
-      texts-once footnotes identifiers apart,
-    )
+    one-more footnote.identifier (length footnote.text) (notes footnotes)
+    (first_text (footnote ∷ footnotes)) (first_text footnotes) identifiers apart each
+    (texts-once footnotes identifiers apart)
   where
     each : (identifier : List ℕ) → first_text (footnote ∷ footnotes) identifier
         ≤ (if bytes_eq footnote.identifier identifier then length footnote.text else 0)
         + first_text footnotes identifier
-    each identifier = elim (bytes_eq footnote.identifier identifier) as
-        (λ b. option_map_or (λ (footnote : Footnote). length footnote.text)
-        (if b then Some footnote
-        else find (λ footnote. bytes_eq footnote.identifier identifier) footnotes) 0
-        ≤ (if b then length footnote.text else 0) + first_text footnotes identifier) [
-          | true ↦ omega arith
-          | false ↦ omega arith
-        ]
+    each identifier = grind arith

@@ -2,11 +2,10 @@
 -- images in definitions, cells that fill rows, footnote calls. Only proofs use it.
 use Rattle.std.specs.Prelude.{ℕ, ◌+◌, ◌*◌, if◌then◌else◌, List, [], ◌∷◌, length}
 use Rattle.std.specs.Option.{option_map_or}
-use Rattle.std.specs.Fmt.{decimal}
 use Rattle.md_base.specs.declared.event.AlignKind.{AlignKind}
 use Rattle.md_base.specs.declared.event.Name.{Name}
-use Rattle.md_base.specs.declared.event.Name.TheVariants.{ListOrdered, HeadingAtx, Link, Image}
-use Rattle.md_base.specs.declared.event.Name.TheVariants.{GfmTable, GfmTableRow, GfmFootnoteCall}
+use Rattle.md_base.specs.declared.event.Name.TheVariants.{ListOrdered, GfmTable, GfmTableRow}
+use Rattle.md_base.specs.declared.event.Name.TheVariants.{GfmFootnoteCall}
 use Rattle.md_base.specs.Is.{is}
 use Rattle.md_base.specs.Tree.{Forest, Empty, Node}
 use Rattle.md_pattern.specs.Alignments.{alignments}
@@ -16,7 +15,7 @@ use Rattle.md_tree.specs.Rules.{target_of}
 use Rattle.md_meaning.specs.Meaning.At.{Target, Context, identifier_of, text_in}
 use Rattle.md_meaning.specs.Meaning.Finds.{number_in_list}
 use Rattle.md_meaning.specs.Meaning.Media.{target_defined}
-use Rattle.md_content.specs.Built.{rank_in}
+use Rattle.md_length.specs.Costs.{nodes}
 use Rattle.md_length.specs.Reuse.{is_media, option_length}
 
 -- the length of a target when it is printed
@@ -44,26 +43,9 @@ abbrev pub number_length : List ℕ → Forest → ℕ
 number_length bytes children =
     option_map_or (λ place. length (text_in bytes place)) (number_in_list children) 0
 
-abbrev pub used : Context → List AlignKind → Name → Forest → ℕ
-used context columns name children = elim name [
-  | ListOrdered ↦ number_length context.bytes children
-  | HeadingAtx ↦ 2 * length (decimal (rank_in children))
-  | Link ↦ led context children
-  | Image ↦ led context children
-  | GfmTableRow ↦ 32 * length columns
-  | GfmFootnoteCall ↦ call_cost context.options (identifier_of context.bytes children)
-  | _ ↦ 0
-]
-
 -- the columns of the innermost table for a node's children
 abbrev pub columns_in : List AlignKind → Name → Forest → List AlignKind
 columns_in columns name children = if is GfmTable name then alignments children else columns
-
-abbrev pub uses : Context → List AlignKind → Forest → ℕ
-uses context columns Empty = 0
-uses context columns (Node name start end children rest) =
-    used context columns name children + uses context (columns_in columns name children) children
-    + uses context columns rest
 
 -- the length of a backreference to a call
 abbrev pub back_cost : CompileOptions → List ℕ → ℕ
@@ -79,7 +61,7 @@ abbrev pub sum_of : (List ℕ → ℕ) → List (List ℕ) → ℕ
 sum_of f [] = 0
 sum_of f (identifier ∷ identifiers) = f identifier + sum_of f identifiers
 
--- ---- the same separately, for some nodes
+-- ---- what some nodes use
 -- the lengths of lists' numbers
 abbrev pub numbers : List ℕ → Forest → ℕ
 numbers bytes Empty = 0
@@ -107,3 +89,17 @@ called f bytes Empty = 0
 called f bytes (Node name start end children rest) =
     (if is GfmFootnoteCall name then f (identifier_of bytes children) else 0)
     + called f bytes children + called f bytes rest
+
+-- what a node uses, and what some nodes do: besides these a rank, which has one digit
+abbrev pub used : Context → List AlignKind → Name → Forest → ℕ
+used context columns name children =
+    (if is ListOrdered name then number_length context.bytes children else 0) + 2
+    + (if is_media name then led context children else 0)
+    + 32 * (if is GfmTableRow name then length columns else 0)
+    + (if is GfmFootnoteCall name
+    then call_cost context.options (identifier_of context.bytes children) else 0)
+
+abbrev pub uses : Context → List AlignKind → Forest → ℕ
+uses context columns forest =
+    numbers context.bytes forest + 2 * nodes forest + referred context forest
+    + 32 * cells columns forest + called (call_cost context.options) context.bytes forest

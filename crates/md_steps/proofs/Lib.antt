@@ -5,7 +5,7 @@ pub mod ContentFits
 mod Past
 pub mod Laid
 mod Places
-mod ResourceFound
+pub mod ResourceFound
 mod EachSide
 mod Sides
 pub mod Standing
@@ -15,14 +15,14 @@ mod Inside
 pub mod Counting
 mod Targets
 mod Leaving
-mod Quiet
+pub mod Quiet
 mod CapturedTexts
 mod NodeLeaves
 mod NodeRuns
 mod PassedOver
 mod FoundInBoth
 mod Runs
-mod AlikeStrings
+pub mod AlikeStrings
 mod BlocksApart
 mod Defined
 pub mod Running
