@@ -40,9 +40,8 @@ loop-at-preserved c =
         c.in_ok-push.ensures.len,
       ),
       ap (λ t. map listed c.push.new.self.items ++ scanned_headings (vec_len c.push.new.self) t)
-          tag_is ∙ heading-turn (vec_len c.loop-at.found) (vec_len c.push.new.self) at before
-          (map listed c.push.new.self.items) rest _ found c.in_ok-push.ensures.len more
-          c.loop-at.invariant.1,
+          tag_is ∙ heading-turn (vec_len c.loop-at.found) (vec_len c.push.new.self) at before rest
+          found c.in_ok-push.ensures.len more c.loop-at.invariant.1,
       c.range_from-tag.utf8,
     )
 

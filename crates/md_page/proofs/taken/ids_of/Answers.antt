@@ -18,10 +18,8 @@ loop-before-preserved c =
     let parts = c.in-Some.ensures.parts in
     let more = c.in-Some-split_at_byte.ensures.parts in (
       id-turn c.in-Some.before.now c.in-Some-split_at_byte.value.now
-          c.in-Some-split_at_byte.more.now c.in-Some.after.now c.loop-before.rest.now
-          (map string_bytes c.loop-before.found.items)
-          (map string_bytes c.push_id.new.found.items) _ parts.0 parts.1 more.0 more.1
-          c.in_ok-push_id.ensures c.loop-before.invariant.0,
+          c.in-Some-split_at_byte.more.now (map string_bytes c.loop-before.found.items)
+          parts.0 parts.1 more.0 more.1 c.in_ok-push_id.ensures c.loop-before.invariant.0,
       c.in-Some-split_at_byte.ensures.texts.1,
     )
 
