@@ -1,25 +1,24 @@
 -- One more attribute in the pieces that a test picks is one more in their tokens.
 use Rattle.std.specs.Str.{bytes_eq}
 use Rattle.std.proofs.Common.{◌≡◌, ℕ, suc, Bool, true, false, not, cond, List, [], ◌∷◌, ◌++◌}
-use Rattle.std.proofs.Common.{map, filter, refl, sym, ap, ap₂, ◌∙◌, subst}
+use Rattle.std.proofs.Common.{map, filter, refl, sym, ap, ◌∙◌, subst}
 use Rattle.std.specs.List.{list_all, list_any}
 use Rattle.std.specs.Cmp.Lexicographic.{bytes_decides}
 use Rattle.std.proofs.lemmas.Bool.{and_parts, and_from, or_parts, or_from, cond_both, cond-true}
 use Rattle.std.proofs.lemmas.Bool.{cond-false, false_from_ne_true}
 use Rattle.std.proofs.lemmas.List.Folds.{list_all-append, list_any-append}
 use Rattle.md_base.proofs.Lies.{lie}
-use Rattle.md_text.specs.Bytes.{is_one_of}
 use Rattle.md_text.specs.References.{is_escaped}
 use Rattle.md_text.specs.Html.{Attribute}
-use Rattle.md_safe.specs.Token.{Token, Character, StartTag, EndTag, EndOfFile}
+use Rattle.md_safe.specs.Token.{Token, Character, StartTag}
 use Rattle.md_safe.specs.Token.{TokenAttribute}
 use Rattle.md_safe.specs.Tokens.{seen, seen_attributes, is_listed}
 use Rattle.md_safe.specs.SafeTokens.{attributes_pass}
 use Rattle.md_page.specs.Added.{with_attribute, added}
 use Rattle.md_page.specs.Attributed.{is_addition, is_listed_beside}
-use Rattle.md_page.specs.Pieces.{Piece, Words, Opening, Single, Closing, all_tokens, are_sound}
-use Rattle.md_page.specs.Pieces.{are_plain, is_name, is_tag_name, void_names, begins_with_words}
-use Rattle.md_page.proofs.Plain.{and3, plain_attribute}
+use Rattle.md_page.specs.Pieces.{Piece, Words, Opening, Single, Closing}
+use Rattle.md_page.specs.Pieces.{are_plain, is_name}
+use Rattle.md_page.proofs.Plain.{plain_attribute}
 use Rattle.md_page.proofs.Tags.{PicksBy}
 
 -- an attribute as a tokenizer sees it
@@ -49,7 +48,7 @@ pub record MayAdd (test : Token → Bool) (new : ℕ → Attribute) : Type 0 whe
 
 -- ---- tokens
 
-seen-append : (x y : List Attribute) →
+pub seen-append : (x y : List Attribute) →
     seen_attributes (x ++ y) ≡ seen_attributes x ++ seen_attributes y
 seen-append [] y = refl
 seen-append (a ∷ x) y = ap (λ z. seen_attribute a ∷ z) (seen-append x y)
@@ -67,7 +66,7 @@ pub added-other :
     test t ≡ false → added test attribute n (t ∷ ts) ≡ t ∷ added test attribute n ts
 added-other test attribute n t ts e = cond-false (test t) _ _ e
 
-added-characters : {picks : List ℕ → Bool}
+pub added-characters : {picks : List ℕ → Bool}
     (test : Token → Bool) (attribute : ℕ → TokenAttribute) (n : ℕ) (x : List ℕ) (ts : List Token) →
     PicksBy picks test →
     added test attribute n (map Character x ++ ts) ≡ map Character x ++ added test attribute n ts
@@ -76,43 +75,7 @@ added-characters test attribute n (b ∷ x) ts p =
     added-other test attribute n (Character b) (map Character x ++ ts) (p.characters b)
     ∙ ap (λ y. Character b ∷ y) (added-characters test attribute n x ts p)
 
-pub changed-tokens : {picks : List ℕ → Bool} (test : Token → Bool) (new : ℕ → Attribute) (n : ℕ)
-    (x : List Piece) → PicksBy picks test → are_sound x ≡ true →
-    all_tokens (changed test new n x) ≡ added test (seen_new new) n (all_tokens x)
-changed-tokens test new n [] p h =
-    sym (added-other test (seen_new new) n EndOfFile [] p.end_of_file)
-changed-tokens test new n (Words text ∷ more) p h =
-    let q = and3 (is_escaped text) _ (are_sound more) h in
-    ap (λ y. map Character (seen text) ++ y) (changed-tokens test new n more p q.2)
-    ∙ sym (added-characters test (seen_new new) n (seen text) (all_tokens more) p)
-changed-tokens test new n (Opening name x ∷ more) p h =
-    let q = and3 (is_tag_name name) (are_plain x) (are_sound more) h in
-    by (test (StartTag name (seen_attributes x) false)) (changed-tokens test new (suc n) more p q.2)
-    (changed-tokens test new n more p q.2)
-  where
-    go : ℕ → List Token
-    go m = added test (seen_new new) m (all_tokens more)
-
-    by : (b : Bool) → all_tokens (changed test new (suc n) more) ≡ go (suc n) →
-        all_tokens (changed test new n more) ≡ go n →
-        all_tokens (cond b (Opening name (x ++ (new n ∷ [])) ∷ changed test new (suc n) more)
-        (Opening name x ∷ changed test new n more)) ≡ cond b
-        (StartTag name (seen_attributes x ++ (seen_attribute (new n) ∷ [])) false ∷ go (suc n))
-        (StartTag name (seen_attributes x) false ∷ go n)
-    by true e f = ap₂ (λ a y. StartTag name a false ∷ y) (seen-append x (new n ∷ [])) e
-    by false e f = ap (λ y. StartTag name (seen_attributes x) false ∷ y) f
-changed-tokens test new n (Single name x ∷ more) p h =
-    let q = and3 (is_one_of void_names name) (are_plain x) (are_sound more) h in
-    let token = StartTag name (seen_attributes x) true in
-    ap (λ y. token ∷ y) (changed-tokens test new n more p q.2)
-    ∙ sym (added-other test (seen_new new) n token (all_tokens more)
-    (p.void_tokens name (seen_attributes x) q.0))
-changed-tokens test new n (Closing name ∷ more) p h =
-    ap (λ y. EndTag name ∷ y)
-    (changed-tokens test new n more p (and_parts (is_tag_name name) (are_sound more) h).1)
-    ∙ sym (added-other test (seen_new new) n (EndTag name) (all_tokens more) (p.end_tokens name))
-
--- ---- soundness
+-- ---- attributes
 
 pub other-way : (x y : List ℕ) → bytes_eq x y ≡ false → bytes_eq y x ≡ false
 other-way x y h =
@@ -130,38 +93,6 @@ plain-more (b ∷ x) a h named escaped fresh =
     ∙ or_from _ _ p.2 (or_from _ _ (other-way a.name b.name f.0) refl) in
     and_from _ _ p.0 (and_from _ _ p.1
     (and_from _ _ (ap not lone) (plain-more x a p.3 named escaped f.1)))
-
-changed-words : (test : Token → Bool) (new : ℕ → Attribute) (n : ℕ) (x : List Piece) →
-    begins_with_words (changed test new n x) ≡ begins_with_words x
-changed-words test new n (Opening name x ∷ more) =
-    cond_both (test (StartTag name (seen_attributes x) false)) (Opening name (x ++ (new n ∷ []))
-    ∷ changed test new (suc n) more) (Opening name x ∷ changed test new n more)
-    (λ y. begins_with_words y ≡ false) (λ _. refl) (λ _. refl)
-changed-words test new n x = refl
-
-pub changed-sound : (test : Token → Bool) (new : ℕ → Attribute) (n : ℕ) (x : List Piece) →
-    MayAdd test new →
-    are_sound x ≡ true → are_sound (changed test new n x) ≡ true
-changed-sound test new n [] m h = refl
-changed-sound test new n (Words text ∷ more) m h =
-    let q = and3 (is_escaped text) _ (are_sound more) h in
-    and_from _ _ q.0 (and_from _ _ (ap not (changed-words test new n more) ∙ q.1)
-    (changed-sound test new n more m q.2))
-changed-sound test new n (Opening name x ∷ more) m h =
-    let q = and3 (is_tag_name name) (are_plain x) (are_sound more) h in
-    cond_both (test (StartTag name (seen_attributes x) false))
-    (Opening name (x ++ (new n ∷ [])) ∷ changed test new (suc n) more)
-    (Opening name x ∷ changed test new n more) (λ y. are_sound y ≡ true)
-    (λ passes. and_from _ _ q.0 (and_from _ _
-    (plain-more x (new n) q.1 (m.named n) (m.escaped n) (m.fresh n name x passes))
-    (changed-sound test new (suc n) more m q.2)))
-    (λ _. and_from _ _ q.0 (and_from _ _ q.1 (changed-sound test new n more m q.2)))
-changed-sound test new n (Single name x ∷ more) m h =
-    let q = and3 (is_one_of void_names name) (are_plain x) (are_sound more) h in
-    and_from _ _ q.0 (and_from _ _ q.1 (changed-sound test new n more m q.2))
-changed-sound test new n (Closing name ∷ more) m h =
-    let q = and_parts (is_tag_name name) (are_sound more) h in
-    and_from _ _ q.0 (changed-sound test new n more m q.1)
 
 -- ---- tests of tokens
 

@@ -1,9 +1,9 @@
 -- One more attribute in the tags of a forest: it is written, contained and built as before.
-use Rattle.std.proofs.Common.{◌≡◌, ℕ, suc, Bool, true, false, not, ◌&&◌, cond, List, [], ◌∷◌, ◌++◌}
-use Rattle.std.proofs.Common.{refl, sym, ap, ◌∙◌, subst}
+use Rattle.std.proofs.Common.{◌≡◌, ℕ, suc, Bool, true, false, not, ◌&&◌, List, [], ◌∷◌, ◌++◌}
+use Rattle.std.proofs.Common.{refl, sym, ap, ap₂, ◌∙◌, subst, inl, inr}
 use Rattle.std.specs.Prelude.{Option, Some, None}
 use Rattle.std.specs.Option.{option_map_or}
-use Rattle.std.proofs.lemmas.Bool.{and_parts, and_from, cond_both}
+use Rattle.std.proofs.lemmas.Bool.{and_parts, and_from, cases_Bool, cond-true, cond-false}
 use Rattle.md_base.specs.Identifier.{is_nonempty}
 use Rattle.md_text.specs.Bytes.{is_one_of}
 use Rattle.md_text.specs.References.{is_escaped}
@@ -26,7 +26,7 @@ use Rattle.md_page.proofs.FromForest.{pieces_of, pieces-tokens, forest-plain, pl
 use Rattle.md_page.proofs.FromForest.{whole-written}
 use Rattle.md_page.proofs.PieceRuns.{pieces-run}
 use Rattle.md_page.proofs.Adding.{MayAdd, changed, plain-more}
-use Rattle.md_page.proofs.Scanning.{scanned-pieces}
+use Rattle.md_page.proofs.Scanning.{changed-pieces}
 use Rattle.md_page.proofs.Rules.{IsRule, changes}
 
 plain-texts : (f : Forest) → is_plain_forest f ≡ true → has_whole_texts f ≡ true
@@ -43,120 +43,94 @@ plain-texts (Element name x inner rest) h =
 
 -- ---- one more attribute
 
--- how many tags passed, after a tag
-abbrev passed : (Token → Bool) → ℕ → List ℕ → List Attribute → ℕ
-passed test n name x = cond (test (StartTag name (seen_attributes x) false)) (suc n) n
+-- a forest, each start tag of an element that passes the test with one more attribute, if so many
+-- tags passed before
+record Grown (test : Token → Bool) (new : ℕ → Attribute) (n : ℕ) (f : Forest) : Type 0 where
+  after : ℕ
+  forest : Forest
+  pieces : (more : List Piece) →
+      changed test new n (pieces_of f more) ≡ pieces_of forest (changed test new after more)
+  texts : begins_with_text forest ≡ begins_with_text f
+  plain : is_plain_forest forest ≡ true
+  contained : (nested : Bool) (content : Content) →
+      is_contained nested content forest ≡ is_contained nested content f
 
--- and after a forest
-abbrev passed_in : (Token → Bool) → ℕ → Forest → ℕ
-passed_in test n Empty = n
-passed_in test n (Text bytes rest) = passed_in test n rest
-passed_in test n (Void name x rest) = passed_in test n rest
-passed_in test n (Element name x inner rest) =
-    passed_in test (passed_in test (passed test n name x) inner) rest
-
--- its attributes
-abbrev with_one : (Token → Bool) → (ℕ → Attribute) → ℕ → List ℕ → List Attribute → List Attribute
-with_one test new n name x =
-    cond (test (StartTag name (seen_attributes x) false)) (x ++ (new n ∷ [])) x
-
--- a forest, each start tag of an element that passes the test with one more attribute
-abbrev grown : (Token → Bool) → (ℕ → Attribute) → ℕ → Forest → Forest
-grown test new n Empty = Empty
-grown test new n (Text bytes rest) = Text bytes (grown test new n rest)
-grown test new n (Void name x rest) = Void name x (grown test new n rest)
-grown test new n (Element name x inner rest) =
-    Element name (with_one test new n name x) (grown test new (passed test n name x) inner)
-    (grown test new (passed_in test (passed test n name x) inner) rest)
-
--- its pieces are those of the forest, so changed
-grown-pieces : (test : Token → Bool) (new : ℕ → Attribute) (n : ℕ) (f : Forest)
-    (more : List Piece) →
-    changed test new n (pieces_of f more)
-    ≡ pieces_of (grown test new n f) (changed test new (passed_in test n f) more)
-grown-pieces test new n Empty more = refl
-grown-pieces test new n (Text bytes rest) more =
-    ap (λ y. Words bytes ∷ y) (grown-pieces test new n rest more)
-grown-pieces test new n (Void name x rest) more =
-    ap (λ y. Single name x ∷ y) (grown-pieces test new n rest more)
-grown-pieces test new n (Element name x inner rest) more =
-    let later = λ (m : ℕ).
-    grown-pieces test new m inner on
-    ∙ ap (λ y. pieces_of (grown test new m inner) (Closing name ∷ y))
-    (grown-pieces test new (passed_in test m inner) rest more) in
-    by (test (StartTag name (seen_attributes x) false)) (later (suc n)) (later n)
+-- an element with these attributes
+element-grown : (test : Token → Bool) (new : ℕ → Attribute) (n : ℕ) (name : List ℕ)
+    (x y : List Attribute) (m : ℕ) (inner rest : Forest) →
+    ((more : List Piece) →
+    changed test new n (Opening name x ∷ more) ≡ Opening name y ∷ changed test new m more) →
+    is_tag_name name ≡ true → are_plain y ≡ true → (g : Grown test new m inner) →
+    Grown test new g.after rest → Grown test new n (Element name x inner rest)
+element-grown test new n name x y m inner rest opens named plain g r = record {
+  after = r.after;
+  forest = Element name y g.forest r.forest;
+  pieces = λ more. opens (pieces_of inner (Closing name ∷ pieces_of rest more))
+      ∙ ap (λ z. Opening name y ∷ z) (g.pieces (Closing name ∷ pieces_of rest more)
+      ∙ ap (λ z. pieces_of g.forest (Closing name ∷ z)) (r.pieces more));
+  texts = refl;
+  plain = and_from _ _ named (and_from _ _ plain (and_from _ _ g.plain r.plain));
+  contained = λ nested content.
+      ap₂ (λ a b. a && b) (held nested (held_in nested content name)) (r.contained nested content);
+}
   where
-    on : List Piece
-    on = Closing name ∷ pieces_of rest more
+    held : (nested : Bool) (content : Option Content) →
+        option_map_or (λ held. is_contained nested held g.forest) content false
+        ≡ option_map_or (λ held. is_contained nested held inner) content false
+    held nested None = refl
+    held nested (Some content) = g.contained nested content
 
-    ends : ℕ → List Piece
-    ends m = pieces_of (grown test new m inner) (Closing name
-        ∷ pieces_of (grown test new (passed_in test m inner) rest)
-        (changed test new (passed_in test (passed_in test m inner) rest) more))
-
-    by : (b : Bool) → changed test new (suc n) (pieces_of inner on) ≡ ends (suc n) →
-        changed test new n (pieces_of inner on) ≡ ends n →
-        cond b (Opening name (x ++ (new n ∷ [])) ∷ changed test new (suc n) (pieces_of inner on))
-        (Opening name x ∷ changed test new n (pieces_of inner on))
-        ≡ Opening name (cond b (x ++ (new n ∷ [])) x) ∷ ends (cond b (suc n) n)
-    by true e f = ap (λ y. Opening name (x ++ (new n ∷ [])) ∷ y) e
-    by false e f = ap (λ y. Opening name x ∷ y) f
-
--- no text comes to stand first
-grown-words : (test : Token → Bool) (new : ℕ → Attribute) (n : ℕ) (f : Forest) →
-    begins_with_text (grown test new n f) ≡ begins_with_text f
-grown-words test new n Empty = refl
-grown-words test new n f = refl
-
-grown-plain : (test : Token → Bool) (new : ℕ → Attribute) (n : ℕ) (f : Forest) → MayAdd test new →
-    is_plain_forest f ≡ true → is_plain_forest (grown test new n f) ≡ true
-grown-plain test new n Empty m h = refl
-grown-plain test new n (Text bytes rest) m h =
+grow : (test : Token → Bool) (new : ℕ → Attribute) (n : ℕ) (f : Forest) → MayAdd test new →
+    is_plain_forest f ≡ true → Grown test new n f
+grow test new n Empty may h = record {
+  after = n;
+  forest = Empty;
+  pieces = λ more. refl;
+  texts = refl;
+  plain = refl;
+  contained = λ nested content. refl;
+}
+grow test new n (Text bytes rest) may h =
     let p = and3 (is_nonempty bytes) (is_escaped bytes) _ h in
     let q = and_parts (not (begins_with_text rest)) (is_plain_forest rest) p.2 in
-    and_from _ _ p.0 (and_from _ _ p.1 (and_from _ _ (ap not (grown-words test new n rest) ∙ q.0)
-    (grown-plain test new n rest m q.1)))
-grown-plain test new n (Void name x rest) m h =
+    let r = grow test new n rest may q.1 in
+    record {
+      after = r.after;
+      forest = Text bytes r.forest;
+      pieces = λ more. ap (λ z. Words bytes ∷ z) (r.pieces more);
+      texts = refl;
+      plain = and_from _ _ p.0
+          (and_from _ _ p.1 (and_from _ _ (ap not r.texts ∙ q.0) r.plain));
+      contained = λ nested content.
+          ap (λ b. may_say content bytes && b) (r.contained nested content);
+    }
+grow test new n (Void name x rest) may h =
     let p = and3 (is_one_of void_names name) (are_plain x) (is_plain_forest rest) h in
-    and_from _ _ p.0 (and_from _ _ p.1 (grown-plain test new n rest m p.2))
-grown-plain test new n (Element name x inner rest) m h =
+    let r = grow test new n rest may p.2 in
+    record {
+      after = r.after;
+      forest = Void name x r.forest;
+      pieces = λ more. ap (λ z. Single name x ∷ z) (r.pieces more);
+      texts = refl;
+      plain = and_from _ _ p.0 (and_from _ _ p.1 r.plain);
+      contained = λ nested content.
+          ap (λ b. is_one_of (voids_in content) name && b) (r.contained nested content);
+    }
+grow test new n (Element name x inner rest) may h =
     let p = and3 (is_tag_name name) (are_plain x) _ h in
     let q = and_parts (is_plain_forest inner) (is_plain_forest rest) p.2 in
-    let k = passed test n name x in
-    let one : are_plain (with_one test new n name x) ≡ true =
-    cond_both (test (StartTag name (seen_attributes x) false)) (x ++ (new n ∷ [])) x
-    (λ y. are_plain y ≡ true)
-    (λ passes. plain-more x (new n) p.1 (m.named n) (m.escaped n) (m.fresh n name x passes))
-    (λ _. p.1) in
-    and_from _ _ p.0 (and_from _ _ one (and_from _ _ (grown-plain test new k inner m q.0)
-    (grown-plain test new (passed_in test k inner) rest m q.1)))
-
-grown-contained : (test : Token → Bool) (new : ℕ → Attribute) (n : ℕ) (nested : Bool)
-    (content : Content) (f : Forest) →
-    is_contained nested content (grown test new n f) ≡ is_contained nested content f
-grown-contained test new n nested content Empty = refl
-grown-contained test new n nested content (Text bytes rest) =
-    ap (λ b. may_say content bytes && b) (grown-contained test new n nested content rest)
-grown-contained test new n nested content (Void name x rest) =
-    ap (λ b. is_one_of (voids_in content) name && b)
-    (grown-contained test new n nested content rest)
-grown-contained test new n nested content (Element name x inner rest) =
-    let k = passed test n name x in
-    ap (λ b. b && is_contained nested content
-    (grown test new (passed_in test k inner) rest))
-    (held (held_in nested content name) (λ c. grown-contained test new k nested c inner))
-    ∙ ap (λ b. option_map_or (λ held. is_contained nested held inner)
-    (held_in nested content name) false && b)
-    (grown-contained test new (passed_in test k inner) nested content rest)
-  where
-    held : (content : Option Content) →
-        ((c : Content) → is_contained nested c (grown test new (passed test n name x) inner)
-        ≡ is_contained nested c inner) →
-        option_map_or (λ held. is_contained nested held
-        (grown test new (passed test n name x) inner)) content false
-        ≡ option_map_or (λ held. is_contained nested held inner) content false
-    held None e = refl
-    held (Some c) e = e c
+    let token = StartTag name (seen_attributes x) false in
+    elim (cases_Bool (test token)) [
+      | inl passes ↦ (let g = grow test new (suc n) inner may q.0 in
+          element-grown test new n name x (x ++ (new n ∷ [])) (suc n) inner rest
+          (λ more. cond-true (test token) _ _ passes) p.0
+          (plain-more x (new n) p.1 (may.named n) (may.escaped n) (may.fresh n name x passes)) g
+          (grow test new g.after rest may q.1))
+      | inr fails ↦ (let g = grow test new n inner may q.0 in
+          element-grown test new n name x x n inner rest
+          (λ more. cond-false (test token) _ _ fails) p.0 p.1 g
+          (grow test new g.after rest may q.1))
+    ]
 
 -- ---- texts
 
@@ -184,13 +158,13 @@ grown-built : (picks : List ℕ → Bool) (test : Token → Bool) (new : ℕ →
     (text : List ℕ) → IsBuiltAsWritten text → IsBuiltAsWritten (with_new picks new text)
 grown-built picks test new by may text b =
     let f = b.forest in
-    let g = grown test new 0 f in
-    let after : written g ≡ with_new picks new text =
-    sym (whole-written g) ∙ ap all_written (sym (grown-pieces test new 0 f []))
-    ∙ sym (scanned-pieces picks test new 0 (pieces_of f []) by (plain-sound f [] b.plain refl refl))
+    let g = grow test new 0 f may b.plain in
+    let r = changed-pieces picks test new 0 (pieces_of f []) by may
+    (plain-sound f [] b.plain refl refl) in
+    let after : written g.forest ≡ with_new picks new text =
+    sym (whole-written g.forest) ∙ ap all_written (sym (g.pieces [])) ∙ sym r.written
     ∙ ap (with_new picks new) (whole-written f ∙ b.written_so) in
-    built-so g (with_new picks new text) (grown-plain test new 0 f may b.plain) after
-    (grown-contained test new 0 false Flow f ∙ b.contained)
+    built-so g.forest (with_new picks new text) g.plain after (g.contained false Flow ∙ b.contained)
 
 -- ---- what is known of a text after the additions of a rule
 

@@ -11,13 +11,13 @@ use Rattle.md_safe.specs.SafeTokens.{is_permitted, has_safe_links, has_safe_imag
 use Rattle.md_safe.proofs.OneRun.{one_run}
 use Rattle.md_page.specs.Added.{with_attribute, added}
 use Rattle.md_page.specs.Attributed.{IsAttributed, is_listed_beside}
-use Rattle.md_page.specs.Pieces.{Piece, all_written, all_tokens, are_sound, IsWritten}
+use Rattle.md_page.specs.Pieces.{Piece, all_written, all_tokens, IsWritten}
 use Rattle.md_page.specs.Scan.{with_new}
 use Rattle.md_page.proofs.PieceRuns.{pieces-run}
 use Rattle.md_page.proofs.Tags.{PicksBy}
-use Rattle.md_page.proofs.Adding.{MayAdd, seen_new, changed, changed-tokens, changed-sound}
-use Rattle.md_page.proofs.Adding.{added-all, passes-more, is_addition_to, listed-more}
-use Rattle.md_page.proofs.Scanning.{scanned-pieces}
+use Rattle.md_page.proofs.Adding.{MayAdd, seen_new, changed, added-all, passes-more}
+use Rattle.md_page.proofs.Adding.{is_addition_to, listed-more}
+use Rattle.md_page.proofs.Scanning.{AreChanged, changed-pieces}
 
 -- tags are picked by their bytes as by their tokens; each gets an attribute that it may have, and
 -- a tokenizer sees it so
@@ -54,7 +54,7 @@ unfolding attributed
 changes {picks = picks} {test = test} {new = new} {attribute = attribute} rule text w = (
   record {
     pieces = after;
-    sound = sound;
+    sound = r.sound;
     written_so = written;
     listed = still is_listed_beside (λ n t passes. listed-more t (seen_new new n)
         (rule.listed n t passes)) w.listed;
@@ -67,32 +67,27 @@ changes {picks = picks} {test = test} {new = new} {attribute = attribute} rule t
   },
   λ x h. subst (λ t. IsTokenized t (added test attribute 0 x)) written
       (subst (IsTokenized (all_written after))
-      (tokens ∙ ap (λ a. added test a 0 (all_tokens w.pieces)) same
+      (r.tokens ∙ ap (λ a. added test a 0 (all_tokens w.pieces)) same
       ∙ ap (added test attribute 0) (sym ((attributed text w).only x h)))
-      (pieces-run after sound)),
+      (pieces-run after r.sound)),
 )
   where
     after : List Piece
     after = changed test new 0 w.pieces
 
-    sound : are_sound after ≡ true
-    sound = changed-sound test new 0 w.pieces rule.may_add w.sound
-
-    tokens : all_tokens after ≡ added test (seen_new new) 0 (all_tokens w.pieces)
-    tokens = changed-tokens test new 0 w.pieces rule.picks_by w.sound
+    r : AreChanged picks test new 0 w.pieces after
+    r = changed-pieces picks test new 0 w.pieces rule.picks_by rule.may_add w.sound
 
     same : seen_new new ≡ attribute
     same = λ i n. rule.seen_so n i
 
     written : all_written after ≡ with_new picks new text
-    written =
-        sym (scanned-pieces picks test new 0 w.pieces rule.picks_by w.sound)
-        ∙ ap (with_new picks new) w.written_so
+    written = sym r.written ∙ ap (with_new picks new) w.written_so
 
     -- what each token passes, and with one more attribute still does, all pass
     still : (p : Token → Bool) → ((n : ℕ) (t : Token) → test t ≡ true → p t ≡ true →
         p (with_attribute t (seen_new new n)) ≡ true) →
         list_all p (all_tokens w.pieces) ≡ true → list_all p (all_tokens after) ≡ true
     still p f h =
-        subst (λ y. list_all p y ≡ true) (sym tokens)
+        subst (λ y. list_all p y ≡ true) (sym r.tokens)
         (added-all p test (seen_new new) 0 (all_tokens w.pieces) f h)

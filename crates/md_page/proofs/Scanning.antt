@@ -1,21 +1,23 @@
 -- What the program makes of sound pieces is written for the changed ones.
-use Rattle.std.proofs.Common.{◌≡◌, ℕ, ◌==◌, suc, Bool, true, false, ◌&&◌, cond, List, [], ◌∷◌}
-use Rattle.std.proofs.Common.{◌++◌, refl, sym, ap, ◌∙◌, append_assoc}
+use Rattle.std.proofs.Common.{◌≡◌, ℕ, ◌==◌, suc, Bool, true, false, not, ◌&&◌, List, [], ◌∷◌, ◌++◌}
+use Rattle.std.proofs.Common.{map, refl, sym, ap, ap₂, ◌∙◌, append_assoc}
 use Rattle.std.specs.List.{list_all}
-use Rattle.std.proofs.lemmas.Bool.{and_parts, and_from, not-true}
+use Rattle.std.proofs.lemmas.Bool.{and_parts, and_from, not-true, cond_both}
 use Rattle.md_text.specs.Bytes.{is_one_of}
 use Rattle.md_text.specs.References.{is_escaped}
 use Rattle.md_text.specs.Html.{Attribute, written_attributes}
-use Rattle.md_safe.specs.Token.{Token}
-use Rattle.md_safe.specs.Tokens.{seen_attributes}
+use Rattle.md_safe.specs.Token.{Token, Character, StartTag, EndOfFile}
+use Rattle.md_safe.specs.Tokens.{seen, seen_attributes}
 use Rattle.md_safe.proofs.Steps.{past}
-use Rattle.md_page.specs.Pieces.{Piece, Words, Opening, Single, Closing, all_written, are_sound}
-use Rattle.md_page.specs.Pieces.{are_plain, is_tag_name, void_names}
+use Rattle.md_page.specs.Added.{added}
+use Rattle.md_page.specs.Pieces.{Piece, Words, Opening, Single, Closing, all_written, all_tokens}
+use Rattle.md_page.specs.Pieces.{are_sound, are_plain, is_tag_name, void_names, begins_with_words}
 use Rattle.md_page.specs.Scan.{differs, scanned}
 use Rattle.md_page.proofs.Plain.{and3}
 use Rattle.md_page.proofs.Tags.{PicksBy, picks-tag, is_sound_tag, token_of, inside, tag-written}
-use Rattle.md_page.proofs.Tags.{escaped-differs, tag-differs, opens, closes}
-use Rattle.md_page.proofs.Adding.{changed}
+use Rattle.md_page.proofs.Tags.{tag-tokens, tag-sound, escaped-differs, tag-differs, opens, closes}
+use Rattle.md_page.proofs.Adding.{changed, MayAdd, seen_new, seen-append, added-this, added-other}
+use Rattle.md_page.proofs.Adding.{added-characters, plain-more}
 
 -- ---- how a scan goes
 
@@ -79,64 +81,99 @@ grown-written name x a r =
     (sym (append_assoc (written_attributes x) (written_attributes (a ∷ [])) (62 ∷ r))
     ∙ ap (λ y. y ++ (62 ∷ r)) (sym (attributes-append x (a ∷ []))))
 
--- a tag that isn't picked
-unpicked : (picks : List ℕ → Bool) (add : ℕ → List ℕ) (n : ℕ) (tag : Piece)
-    (more later : List Piece) →
-    is_sound_tag tag ≡ true → picks (inside tag ++ (62 ∷ all_written more)) ≡ false →
-    scanned picks add false n (all_written more) ≡ all_written later →
-    scanned picks add false n (all_written (tag ∷ more)) ≡ all_written (tag ∷ later)
-unpicked picks add n tag more later sound e on =
-    ap (scanned picks add false n) (tag-written tag more sound)
-    ∙ scanned-passed picks add n (inside tag ++ (62 ∷ all_written more)) e
-    ∙ ap (λ y. 60 ∷ y) (scanned-run picks add n (inside tag) (62 ∷ all_written more)
-    (tag-differs 60 tag opens sound) ∙ ap (λ y. inside tag ++ (62 ∷ y)) on)
-    ∙ sym (tag-written tag later sound)
+-- what is known of pieces and the changed ones, if so many tags passed before
+pub record AreChanged (picks : List ℕ → Bool) (test : Token → Bool) (new : ℕ → Attribute) (n : ℕ)
+    (x y : List Piece) : Type 0 where
+  pub tokens : all_tokens y ≡ added test (seen_new new) n (all_tokens x)
+  pub sound : are_sound y ≡ true
+  pub words : begins_with_words y ≡ begins_with_words x
+  pub written : scanned picks (inserted new) false n (all_written x) ≡ all_written y
 
-pub scanned-pieces :
-    (picks : List ℕ → Bool) (test : Token → Bool) (new : ℕ → Attribute) (n : ℕ) (x : List Piece) →
-    PicksBy picks test → are_sound x ≡ true →
-    scanned picks (inserted new) false n (all_written x)
-    ≡ all_written (changed test new n x)
-scanned-pieces picks test new n [] p h = refl
-scanned-pieces picks test new n (Words text ∷ more) p h =
-    let q = and3 (is_escaped text) _ (are_sound more) h in
-    scanned-run picks (inserted new) n text (all_written more)
-    (escaped-differs 60 text opens.escaped q.0)
-    ∙ ap (λ y. text ++ y) (scanned-pieces picks test new n more p q.2)
-scanned-pieces picks test new n (Opening name x ∷ more) p h =
-    let q = and3 (is_tag_name name) (are_plain x) (are_sound more) h in
-    let sound : is_sound_tag tag ≡ true = and_from _ _ q.0 q.1 in
-    opening (test (token_of tag)) sound (picks-tag p tag (all_written more) sound)
-    (scanned-pieces picks test new (suc n) more p q.2) (scanned-pieces picks test new n more p q.2)
+-- before them a tag that isn't picked
+kept : (picks : List ℕ → Bool) (test : Token → Bool) (new : ℕ → Attribute) (n : ℕ) (tag : Piece)
+    (more y : List Piece) → PicksBy picks test → is_sound_tag tag ≡ true →
+    test (token_of tag) ≡ false → AreChanged picks test new n more y →
+    AreChanged picks test new n (tag ∷ more) (tag ∷ y)
+kept picks test new n tag more y by sound fails r = record {
+  tokens = tag-tokens tag y sound ∙ ap (λ ts. token_of tag ∷ ts) r.tokens
+      ∙ sym (ap (added test (seen_new new) n) (tag-tokens tag more sound)
+      ∙ added-other test (seen_new new) n (token_of tag) (all_tokens more) fails);
+  sound = tag-sound tag y sound r.sound;
+  words = words tag;
+  written = ap (scanned picks (inserted new) false n) (tag-written tag more sound)
+      ∙ scanned-passed picks (inserted new) n (inside tag ++ (62 ∷ all_written more))
+      (picks-tag by tag (all_written more) sound ∙ fails)
+      ∙ ap (λ z. 60 ∷ z) (scanned-run picks (inserted new) n (inside tag) (62 ∷ all_written more)
+      (tag-differs 60 tag opens sound) ∙ ap (λ z. inside tag ++ (62 ∷ z)) r.written)
+      ∙ sym (tag-written tag y sound);
+}
   where
-    tag : Piece
-    tag = Opening name x
+    words : (tag : Piece) → begins_with_words (tag ∷ y) ≡ begins_with_words (tag ∷ more)
+    words (Words text) = refl
+    words tag = refl
 
-    opening : (b : Bool) → is_sound_tag tag ≡ true →
-        picks (inside tag ++ (62 ∷ all_written more)) ≡ b →
-        scanned picks (inserted new) false (suc n) (all_written more)
-        ≡ all_written (changed test new (suc n) more) →
-        scanned picks (inserted new) false n (all_written more)
-        ≡ all_written (changed test new n more) →
-        scanned picks (inserted new) false n (all_written (tag ∷ more))
-        ≡ all_written (cond b (Opening name (x ++ (new n ∷ [])) ∷ changed test new (suc n) more)
-        (tag ∷ changed test new n more))
-    opening true sound e on off =
-        ap (scanned picks (inserted new) false n) (tag-written tag more sound)
-        ∙ scanned-picked picks (inserted new) n (inside tag ++ (62 ∷ all_written more)) e
-        ∙ ap (λ y. 60 ∷ y) (scanned-inside picks (inserted new) n (inside tag) (all_written more)
-        (tag-differs 62 tag closes sound) ∙ ap (λ y. inside tag ++ (inserted new n ++ (62 ∷ y))) on
-        ∙ grown-written name x (new n) (all_written (changed test new (suc n) more)))
-    opening false sound e on off =
-        unpicked picks (inserted new) n tag more (changed test new n more) sound e off
-scanned-pieces picks test new n (Single name x ∷ more) p h =
+-- before them a tag that is picked
+grown : (picks : List ℕ → Bool) (test : Token → Bool) (new : ℕ → Attribute) (n : ℕ) (name : List ℕ)
+    (x : List Attribute) (more y : List Piece) → PicksBy picks test → MayAdd test new →
+    is_tag_name name ≡ true → are_plain x ≡ true →
+    test (StartTag name (seen_attributes x) false) ≡ true →
+    AreChanged picks test new (suc n) more y →
+    AreChanged picks test new n (Opening name x ∷ more) (Opening name (x ++ (new n ∷ [])) ∷ y)
+grown picks test new n name x more y by may named plain passes r =
+    let tag = Opening name x in
+    let sound : is_sound_tag tag ≡ true = and_from _ _ named plain in
+    record {
+      tokens = ap₂ (λ a ts. StartTag name a false ∷ ts) (seen-append x (new n ∷ [])) r.tokens
+          ∙ sym (added-this test (seen_new new) n (token_of tag) (all_tokens more) passes);
+      sound = and_from _ _ named (and_from _ _
+          (plain-more x (new n) plain (may.named n) (may.escaped n) (may.fresh n name x passes))
+          r.sound);
+      words = refl;
+      written = ap (scanned picks (inserted new) false n) (tag-written tag more sound)
+          ∙ scanned-picked picks (inserted new) n (inside tag ++ (62 ∷ all_written more))
+          (picks-tag by tag (all_written more) sound ∙ passes)
+          ∙ ap (λ z. 60 ∷ z) (scanned-inside picks (inserted new) n (inside tag) (all_written more)
+          (tag-differs 62 tag closes sound)
+          ∙ ap (λ z. inside tag ++ (inserted new n ++ (62 ∷ z))) r.written
+          ∙ grown-written name x (new n) (all_written y));
+    }
+
+pub changed-pieces :
+    (picks : List ℕ → Bool) (test : Token → Bool) (new : ℕ → Attribute) (n : ℕ) (x : List Piece) →
+    PicksBy picks test → MayAdd test new → are_sound x ≡ true →
+    AreChanged picks test new n x (changed test new n x)
+changed-pieces picks test new n [] by may h = record {
+  tokens = sym (added-other test (seen_new new) n EndOfFile [] by.end_of_file);
+  sound = refl;
+  words = refl;
+  written = refl;
+}
+changed-pieces picks test new n (Words text ∷ more) by may h =
+    let q = and3 (is_escaped text) _ (are_sound more) h in
+    let r = changed-pieces picks test new n more by may q.2 in
+    record {
+      tokens = ap (λ ts. map Character (seen text) ++ ts) r.tokens
+          ∙ sym (added-characters test (seen_new new) n (seen text) (all_tokens more) by);
+      sound = and_from _ _ q.0 (and_from _ _ (ap not r.words ∙ q.1) r.sound);
+      words = refl;
+      written = scanned-run picks (inserted new) n text (all_written more)
+          (escaped-differs 60 text opens.escaped q.0) ∙ ap (λ z. text ++ z) r.written;
+    }
+changed-pieces picks test new n (Opening name x ∷ more) by may h =
+    let q = and3 (is_tag_name name) (are_plain x) (are_sound more) h in
+    let tag = Opening name x in
+    cond_both (test (token_of tag))
+    (Opening name (x ++ (new n ∷ [])) ∷ changed test new (suc n) more)
+    (tag ∷ changed test new n more) (AreChanged picks test new n (tag ∷ more))
+    (λ passes. grown picks test new n name x more (changed test new (suc n) more) by may q.0 q.1
+    passes (changed-pieces picks test new (suc n) more by may q.2))
+    (λ fails. kept picks test new n tag more (changed test new n more) by (and_from _ _ q.0 q.1)
+    fails (changed-pieces picks test new n more by may q.2))
+changed-pieces picks test new n (Single name x ∷ more) by may h =
     let q = and3 (is_one_of void_names name) (are_plain x) (are_sound more) h in
-    let tag = Single name x in
-    let sound : is_sound_tag tag ≡ true = and_from _ _ q.0 q.1 in
-    unpicked picks (inserted new) n tag more (changed test new n more) sound
-    (picks-tag p tag (all_written more) sound ∙ p.void_tokens name (seen_attributes x) q.0)
-    (scanned-pieces picks test new n more p q.2)
-scanned-pieces picks test new n (Closing name ∷ more) p h =
+    kept picks test new n (Single name x) more (changed test new n more) by (and_from _ _ q.0 q.1)
+    (by.void_tokens name (seen_attributes x) q.0) (changed-pieces picks test new n more by may q.2)
+changed-pieces picks test new n (Closing name ∷ more) by may h =
     let q = and_parts (is_tag_name name) (are_sound more) h in
-    unpicked picks (inserted new) n (Closing name) more (changed test new n more) q.0
-    (p.ends (name ++ (62 ∷ all_written more))) (scanned-pieces picks test new n more p q.1)
+    kept picks test new n (Closing name) more (changed test new n more) by q.0
+    (by.end_tokens name) (changed-pieces picks test new n more by may q.1)

@@ -12,8 +12,8 @@ use Rattle.md_text.proofs.HtmlRead.{passes_not}
 use Rattle.md_safe.specs.Token.{Token, TokenAttribute, Character, StartTag, EndTag, EndOfFile}
 use Rattle.md_safe.specs.Tokens.{seen_attributes}
 use Rattle.md_safe.proofs.Cases.{all-weaker}
-use Rattle.md_page.specs.Pieces.{Piece, Words, Opening, Single, Closing, all_written, are_plain}
-use Rattle.md_page.specs.Pieces.{is_name_byte, is_tag_name, void_names}
+use Rattle.md_page.specs.Pieces.{Piece, Words, Opening, Single, Closing, all_written, all_tokens}
+use Rattle.md_page.specs.Pieces.{are_sound, are_plain, is_name_byte, is_tag_name, void_names}
 use Rattle.md_page.specs.Scan.{differs}
 use Rattle.md_page.proofs.Plain.{plain_attribute, name_bytes, void-name}
 
@@ -44,6 +44,19 @@ tag-written (Words text) more h = lie h
 tag-written (Opening name x) more h = simp append_assoc
 tag-written (Single name x) more h = simp append_assoc
 tag-written (Closing name) more h = refl
+
+pub tag-tokens : (tag : Piece) (more : List Piece) → is_sound_tag tag ≡ true →
+    all_tokens (tag ∷ more) ≡ token_of tag ∷ all_tokens more
+tag-tokens (Words text) more h = lie h
+tag-tokens tag more h = refl
+
+pub tag-sound : (tag : Piece) (more : List Piece) → is_sound_tag tag ≡ true →
+    are_sound more ≡ true → are_sound (tag ∷ more) ≡ true
+tag-sound (Words text) more h later = lie h
+tag-sound (Closing name) more h later = and_from _ _ h later
+tag-sound tag more h later =
+    let p = and_parts _ _ h in
+    and_from _ _ p.0 (and_from _ _ p.1 later)
 
 -- what picks tags by the bytes after their `<` picks those whose tokens pass a test, and each of
 -- them is the start tag of an element
