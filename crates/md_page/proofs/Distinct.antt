@@ -3,7 +3,7 @@ use Rattle.std.specs.Str.{bytes_eq}
 use Rattle.std.specs.Prelude.{nat_eq}
 use Rattle.std.proofs.Common.{◌≡◌, ℕ, ◌+◌, ◌≤◌, ◌<◌, ◌^◌, zero, suc, true, false, not, ◌||◌}
 use Rattle.std.proofs.Common.{List, [], ◌∷◌, ◌++◌, length, refl, sym, ap, ◌∙◌, codes, eq-eqb, inl}
-use Rattle.std.proofs.Common.{inr, arith}
+use Rattle.std.proofs.Common.{inr, arith, append-nil}
 use Rattle.std.specs.List.{starts_with}
 use Rattle.std.specs.Fmt.{decimal}
 use Rattle.std.specs.Cmp.Lexicographic.{bytes_decides}
@@ -66,28 +66,24 @@ pub count-passed : (n : ℕ) (t : Token) (x : List Token) → gets_id t ≡ fals
 count-passed n t x h = ap length (cond-false (gets_id t) _ _ h)
 
 -- a heading without an `id` gets this one alone
+past-ids : (x y : List TokenAttribute) → has_attribute (codes "id") x ≡ false →
+    ids_in (x ++ y) ≡ ids_in y
+past-ids [] y h = refl
+past-ids (a ∷ x) y h =
+    let p = or_parts (bytes_eq (codes "id") a.name) (has_attribute (codes "id") x) h in
+    cond-false (bytes_eq (codes "id") a.name) _ _ p.0 ∙ past-ids x y p.1
+
 old-none : (t : Token) → gets_id t ≡ true → ids_at t ≡ []
 old-none (StartTag name x flag) h =
-    none x (not-true _ (and_parts (is_one_of heading_names name) _ h).1)
-  where
-    none : (x : List TokenAttribute) → has_attribute (codes "id") x ≡ false → ids_in x ≡ []
-    none [] h = refl
-    none (a ∷ x) h =
-        let p = or_parts (bytes_eq (codes "id") a.name) (has_attribute (codes "id") x) h in
-        cond-false (bytes_eq (codes "id") a.name) _ _ p.0 ∙ none x p.1
+    ap ids_in (sym (append-nil x))
+    ∙ past-ids x [] (not-true _ (and_parts (is_one_of heading_names name) _ h).1)
 old-none t h = lie h
 
 new-one : (values : ℕ → List ℕ) (n : ℕ) (t : Token) → gets_id t ≡ true →
     ids_at (with_attribute t (id_seen values n)) ≡ values n ∷ []
 new-one values n (StartTag name x flag) h =
-    one x (not-true _ (and_parts (is_one_of heading_names name) _ h).1)
-  where
-    one : (x : List TokenAttribute) → has_attribute (codes "id") x ≡ false →
-        ids_in (x ++ (id_seen values n ∷ [])) ≡ values n ∷ []
-    one [] h = refl
-    one (a ∷ x) h =
-        let p = or_parts (bytes_eq (codes "id") a.name) (has_attribute (codes "id") x) h in
-        cond-false (bytes_eq (codes "id") a.name) _ _ p.0 ∙ one x p.1
+    past-ids x (id_seen values n ∷ [])
+    (not-true _ (and_parts (is_one_of heading_names name) _ h).1)
 new-one values n t h = lie h
 
 -- each text stands among the ids as often as among the former ids and the values

@@ -12,7 +12,6 @@ use Rattle.md_text.specs.Html.{Forest, Empty, Text, Void, Element, is_forest, is
 use Rattle.md_text.specs.Html.{begins_with_text, elements, void_tags, written, written_attributes}
 use Rattle.md_text.specs.Html.{HasOneReadingWith, all_attributes}
 use Rattle.md_text.specs.Safe.{is_safe_link, is_safe_image}
-use Rattle.md_text.proofs.HtmlWriting.{forest_before, written_attributes-before, written-before}
 use Rattle.md_safe.specs.Token.{Token, Character, StartTag, EndTag, EndOfFile, TokenAttribute}
 use Rattle.md_safe.specs.Tokens.{tokens, seen, seen_attributes, is_listed, is_tag_of}
 use Rattle.md_safe.specs.SafeTokens.{has_safe_links, has_safe_images}
@@ -34,22 +33,20 @@ pieces_of (Void name x rest) more = Single name x ∷ pieces_of rest more
 pieces_of (Element name x children rest) more =
     Opening name x ∷ pieces_of children (Closing name ∷ pieces_of rest more)
 
-pub pieces-written : (f : Forest) (more : List Piece) →
-    all_written (pieces_of f more) ≡ forest_before f (all_written more)
+pieces-written : (f : Forest) (more : List Piece) →
+    all_written (pieces_of f more) ≡ written f ++ all_written more
 pieces-written Empty more = refl
-pieces-written (Text bytes rest) more = ap (λ y. bytes ++ y) (pieces-written rest more)
+pieces-written (Text bytes rest) more =
+    ap (λ y. bytes ++ y) (pieces-written rest more)
+    ∙ sym (append_assoc bytes (written rest) (all_written more))
 pieces-written (Void name x rest) more =
     ap (λ y. 60 ∷ (name ++ (written_attributes x ++ (32 ∷ 47 ∷ 62 ∷ y)))) (pieces-written rest more)
-    ∙ ap (λ y. 60 ∷ (name ++ y))
-    (written_attributes-before x (32 ∷ 47 ∷ 62 ∷ forest_before rest (all_written more)))
-pieces-written (Element name x children rest) more =
-    let on = Closing name ∷ pieces_of rest more in
-    let close : all_written on ≡ 60 ∷ 47 ∷ (name ++ (62 ∷ forest_before rest (all_written more))) =
-    ap (λ y. 60 ∷ 47 ∷ (name ++ (62 ∷ y))) (pieces-written rest more) in
+    ∙ simp append_assoc
+pieces-written (Element name x inner rest) more =
     ap (λ y. 60 ∷ (name ++ (written_attributes x ++ (62 ∷ y))))
-    (pieces-written children on ∙ ap (forest_before children) close)
-    ∙ ap (λ y. 60 ∷ (name ++ y)) (written_attributes-before x (62
-    ∷ forest_before children (60 ∷ 47 ∷ (name ++ (62 ∷ forest_before rest (all_written more))))))
+    (pieces-written inner (Closing name ∷ pieces_of rest more)
+    ∙ ap (λ y. written inner ++ (60 ∷ 47 ∷ (name ++ (62 ∷ y)))) (pieces-written rest more))
+    ∙ simp append_assoc
 
 pub pieces-tokens : (f : Forest) (more : List Piece) →
     all_tokens (pieces_of f more) ≡ tokens f ++ all_tokens more
@@ -59,12 +56,11 @@ pieces-tokens (Text bytes rest) more =
     ∙ sym (append_assoc (map Character (seen bytes)) (tokens rest) (all_tokens more))
 pieces-tokens (Void name x rest) more =
     ap (λ y. StartTag name (seen_attributes x) true ∷ y) (pieces-tokens rest more)
-pieces-tokens (Element name x children rest) more =
-    let on = Closing name ∷ pieces_of rest more in
+pieces-tokens (Element name x inner rest) more =
     ap (λ y. StartTag name (seen_attributes x) false ∷ y)
-    (pieces-tokens children on
-    ∙ ap (λ y. tokens children ++ (EndTag name ∷ y)) (pieces-tokens rest more)
-    ∙ sym (append_assoc (tokens children) (EndTag name ∷ tokens rest) (all_tokens more)))
+    (pieces-tokens inner (Closing name ∷ pieces_of rest more)
+    ∙ ap (λ y. tokens inner ++ (EndTag name ∷ y)) (pieces-tokens rest more)
+    ∙ sym (append_assoc (tokens inner) (EndTag name ∷ tokens rest) (all_tokens more)))
 
 -- no text follows a text
 pub alone : (f : Forest) (more : List Piece) → not (begins_with_text f) ≡ true →
@@ -112,7 +108,7 @@ plain-sound (Element name x inner rest) more h n s =
 
 -- what a forest is written as, and what its pieces are written as, is one text
 pub whole-written : (f : Forest) → all_written (pieces_of f []) ≡ written f
-whole-written f = pieces-written f [] ∙ sym (written-before f []) ∙ append-nil (written f)
+whole-written f = pieces-written f [] ∙ append-nil (written f)
 
 -- ---- a listed tag is listed beside
 

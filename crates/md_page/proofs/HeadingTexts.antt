@@ -20,7 +20,7 @@ use Rattle.md_safe.specs.Input.{with_line_feeds, begins_with_line_feed}
 use Rattle.md_safe.specs.Token.{Token, Character}
 use Rattle.md_safe.specs.Tokens.{seen}
 use Rattle.md_safe.proofs.EscapedCases.{by_escaped, begins-is}
-use Rattle.md_safe.proofs.LineFeeds.{line_feeds-escaped}
+use Rattle.md_safe.proofs.LineFeeds.{one-append, line_feeds-escaped}
 use Rattle.md_safe.proofs.Steps.{past, plain-ne}
 use Rattle.md_page.specs.Added.{characters_before}
 use Rattle.md_page.specs.Pieces.{Piece, Words, Opening, Single, Closing, all_written, all_tokens}
@@ -54,15 +54,7 @@ encoded-seen x h = encoded-back (with_line_feeds x) (line_feeds-escaped x h)
 
 pub lined-step : (b : ℕ) (rest : List ℕ) →
     with_line_feeds (b ∷ rest) ≡ lined_byte b rest ++ with_line_feeds rest
-lined-step b rest = by (b == 13) (begins_with_line_feed rest)
-  where
-    by : (return feed : Bool) →
-        cond return (cond feed (with_line_feeds rest) (10 ∷ with_line_feeds rest))
-        (b ∷ with_line_feeds rest)
-        ≡ cond return (cond feed [] (10 ∷ [])) (b ∷ []) ++ with_line_feeds rest
-    by true true = refl
-    by true false = refl
-    by false feed = refl
+lined-step b rest = one-append b (begins_with_line_feed rest) [] (with_line_feeds rest)
 
 lined-append : (b : ℕ) (x r : List ℕ) → begins_with_line_feed r ≡ false →
     lined_byte b (x ++ r) ≡ lined_byte b x

@@ -1,8 +1,8 @@
 -- Quicker ways: a link that stays within the page, and a text without headings.
 use Rattle.std.specs.Prelude.{is_none, is_some}
 use Rattle.std.proofs.Common.{◌≡◌, ℕ, suc, ◌==◌, Bool, true, false, ◌&&◌, cond, List, [], ◌∷◌, ◌++◌}
-use Rattle.std.proofs.Common.{length, drop, map, Option, Some, None, option_map, Result, Ok, Err}
-use Rattle.std.proofs.Common.{IfOk, refl, sym, ap, ◌∙◌, arith, codes}
+use Rattle.std.proofs.Common.{length, drop, map, Option, Some, None, option_map}
+use Rattle.std.proofs.Common.{refl, sym, ap, ◌∙◌, arith, codes}
 use Rattle.std.specs.Option.{option_map_or}
 use Rattle.std.proofs.lemmas.Bool.{eqb-true}
 use Rattle.md_base.proofs.Lies.{lie}
@@ -78,27 +78,16 @@ none-picked add n m (b ∷ rest) h = by ((b == 60) && picks_heading rest) h (non
     by true e later = cc
     by false e later = ap (λ y. b ∷ y) (later e)
 
--- a copy of it is what is answered
-pub unheaded :
-    {S E : Type 0} (bytes_of : S → List ℕ) (headings : List Heading) (prefix text : List ℕ) →
-    (length headings == 0) ≡ true → map listed headings ≡ scanned_headings 0 text →
-    (r : Result S E) →
-    IfOk r (λ out. bytes_of out ≡ text) →
-    IfOk r (λ out. bytes_of out ≡ with_new picks_heading (new_id prefix) text)
-unheaded bytes_of (heading ∷ headings) prefix text none all r copied =
-    absurd (omega (arith, eqb-true _ 0 none))
-unheaded bytes_of [] prefix text none all (Err why) copied = tt
-unheaded bytes_of [] prefix text none all (Ok out) copied =
-    copied ∙ sym (none-picked (λ n. written_attributes (new_id prefix n ∷ [])) 0 0 text all)
+pub unheaded : (headings : List Heading) (prefix text : List ℕ) → (length headings == 0) ≡ true →
+    map listed headings ≡ scanned_headings 0 text →
+    text ≡ with_new picks_heading (new_id prefix) text
+unheaded (heading ∷ headings) prefix text none all = absurd (omega (arith, eqb-true _ 0 none))
+unheaded [] prefix text none all =
+    sym (none-picked (λ n. written_attributes (new_id prefix n ∷ [])) 0 0 text all)
 
 -- ---- a text without links that are picked
 
--- a copy of it is what is answered
-pub unlinked : {S E : Type 0} (bytes_of : S → List ℕ) (rel text : List ℕ) (found : Option ℕ) →
-    is_some found ≡ false → IsScannedTo picks_link text found → (r : Result S E) →
-    IfOk r (λ out. bytes_of out ≡ text) →
-    IfOk r (λ out. bytes_of out ≡ with_new picks_link (new_rel rel) text)
-unlinked bytes_of rel text (Some end) none scan r copied = lie (sym none)
-unlinked bytes_of rel text None none scan (Err why) copied = tt
-unlinked bytes_of rel text None none scan (Ok out) copied =
-    copied ∙ sym (scan (λ n. written_attributes (new_rel rel n ∷ [])) 0)
+pub unlinked : (rel text : List ℕ) (found : Option ℕ) → is_some found ≡ false →
+    IsScannedTo picks_link text found → text ≡ with_new picks_link (new_rel rel) text
+unlinked rel text (Some end) none scan = lie (sym none)
+unlinked rel text None none scan = sym (scan (λ n. written_attributes (new_rel rel n ∷ [])) 0)
