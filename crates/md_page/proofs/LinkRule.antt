@@ -22,6 +22,7 @@ use Rattle.md_safe.specs.Token.{Token, StartTag}
 use Rattle.md_safe.specs.Tokens.{seen, seen_attributes}
 use Rattle.md_safe.proofs.EscapedCases.{IsPlain, by_escaped}
 use Rattle.md_safe.proofs.Schemes.{seen-is}
+use Rattle.md_safe.proofs.Steps.{plain-ne}
 use Rattle.md_page.specs.Added.{gets_rel, leads_away, has_attribute, shown, rel_of}
 use Rattle.md_page.specs.Pieces.{are_plain, is_name_byte, begins_with_letter}
 use Rattle.md_page.specs.Scan.{differs, before_angle, parts_of, value_in, value_of, is_away}
@@ -101,7 +102,7 @@ away-plain b rest p = elim (cases_eq b 13) [
   | inr ne ↦
       ap (λ c. away (read_back (cond c (cond (begins_with_line_feed rest) (with_line_feeds rest)
       (10 ∷ with_line_feeds rest)) (b ∷ with_line_feeds rest)))) (ne_eqb b 13 ne) ∙ ap away
-      (read_back-other b (with_line_feeds rest) (λ e. lie (sym p.no_and ∙ ap (λ c. c == 38) e)))
+      (read_back-other b (with_line_feeds rest) (plain-ne b p))
 ]
   where
     returned : (rest : List ℕ) → away (seen (13 ∷ rest)) ≡ away (13 ∷ rest)

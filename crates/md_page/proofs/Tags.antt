@@ -1,6 +1,6 @@
 -- The tags of sound pieces: their tokens, and the bytes between `<` and `>`.
 use Rattle.std.proofs.Common.{◌≡◌, ℕ, Bool, true, false, not, ◌&&◌, List, [], ◌∷◌, ◌++◌, refl}
-use Rattle.std.proofs.Common.{sym, ap, ◌∙◌, append_assoc}
+use Rattle.std.proofs.Common.{sym, ap, ◌∙◌, append_assoc, codes}
 use Rattle.std.specs.List.{list_all}
 use Rattle.std.proofs.lemmas.Bool.{and_parts, and_from}
 use Rattle.std.proofs.lemmas.List.Folds.{list_all-append}
@@ -15,7 +15,7 @@ use Rattle.md_safe.proofs.Cases.{all-weaker}
 use Rattle.md_page.specs.Pieces.{Piece, Words, Opening, Single, Closing, all_written, all_tokens}
 use Rattle.md_page.specs.Pieces.{are_sound, are_plain, is_name_byte, is_tag_name, void_names}
 use Rattle.md_page.specs.Scan.{differs}
-use Rattle.md_page.proofs.Plain.{plain_attribute, name_bytes, void-name}
+use Rattle.md_page.proofs.Plain.{and3, plain_attribute, name_bytes, void-name}
 
 -- a tag that may be among sound pieces
 abbrev pub is_sound_tag : Piece → Bool
@@ -110,41 +110,26 @@ all-join p x y h k = list_all-append p x y ∙ and_from _ _ h k
 pub record StandsOutside (n : ℕ) : Type 0 where
   pub names : is_name_byte n ≡ false
   pub escaped : (rest : List ℕ) → is_escaped_byte n rest ≡ false
-  pub space : differs n 32 ≡ true
-  pub equals : differs n 61 ≡ true
-  pub quote : differs n 34 ≡ true
-  pub slash : differs n 47 ≡ true
+  pub marks : list_all (differs n) (codes " =\"/") ≡ true
 
 pub opens : StandsOutside 60
-opens = record {
-  names = refl;
-  escaped = λ rest. refl;
-  space = refl;
-  equals = refl;
-  quote = refl;
-  slash = refl;
-}
+opens = record { names = refl; escaped = λ rest. refl; marks = refl }
 
 pub closes : StandsOutside 62
-closes = record {
-  names = refl;
-  escaped = λ rest. refl;
-  space = refl;
-  equals = refl;
-  quote = refl;
-  slash = refl;
-}
+closes = record { names = refl; escaped = λ rest. refl; marks = refl }
 
 pub attributes-differ : (n : ℕ) (x : List Attribute) → StandsOutside n → are_plain x ≡ true →
     list_all (differs n) (written_attributes x) ≡ true
 attributes-differ n [] o h = refl
 attributes-differ n (a ∷ x) o h =
     let p = plain_attribute a x h in
-    and_from _ _ o.space (all-join (differs n) a.name _ (name-differs n a.name o.names
+    let m = and3 (differs n 32) (differs n 61) _ o.marks in
+    let quote = (and_parts (differs n 34) _ m.2).0 in
+    and_from _ _ m.0 (all-join (differs n) a.name _ (name-differs n a.name o.names
     (and_parts _ (list_all is_name_byte a.name) p.0).1)
-    (and_from _ _ o.equals (and_from _ _ o.quote (all-join (differs n) a.value _
+    (and_from _ _ m.1 (and_from _ _ quote (all-join (differs n) a.value _
     (escaped-differs n a.value o.escaped p.1)
-    (and_from _ _ o.quote (attributes-differ n x o p.3))))))
+    (and_from _ _ quote (attributes-differ n x o p.3))))))
 
 pub tag-differs : (n : ℕ) (tag : Piece) → StandsOutside n → is_sound_tag tag ≡ true →
     list_all (differs n) (inside tag) ≡ true
@@ -155,9 +140,12 @@ tag-differs n (Opening name x) o h =
     (name-differs n name o.names (name_bytes name p.0)) (attributes-differ n x o p.1)
 tag-differs n (Single name x) o h =
     let p = and_parts (is_one_of void_names name) (are_plain x) h in
+    let m = and3 (differs n 32) (differs n 61) _ o.marks in
     all-join (differs n) name (written_attributes x ++ (32 ∷ 47 ∷ []))
     (name-differs n name o.names (void-name (list_all is_name_byte) name refl p.0))
     (all-join (differs n) (written_attributes x) (32 ∷ 47 ∷ []) (attributes-differ n x o p.1)
-    (and_from _ _ o.space (and_from _ _ o.slash refl)))
+    (and_from _ _ m.0 (and_parts (differs n 34) _ m.2).1))
 tag-differs n (Closing name) o h =
-    and_from _ _ o.slash (name-differs n name o.names (name_bytes name h))
+    let m = and3 (differs n 32) (differs n 61) _ o.marks in
+    and_from _ _ (and_parts _ _ (and_parts (differs n 34) _ m.2).1).0
+    (name-differs n name o.names (name_bytes name h))
