@@ -29,7 +29,7 @@ pub in-append : (w : List ℕ) (xs ys : List (List ℕ)) →
     is_among w (xs ++ ys) ≡ (is_among w xs || is_among w ys)
 in-append w xs ys = list_any-append (λ x. bytes_eq x w) xs ys
 
--- one more that isn't among the others
+-- one more text that isn't among the others stands there once
 first : (x : List ℕ) (xs : List (List ℕ)) (w : List ℕ) → occurs x xs ≡ 0 → occurs w xs ≤ 1 →
     occurs w (x ∷ xs) ≤ 1
 first x xs w none few =
@@ -51,7 +51,7 @@ once (x ∷ xs) d w =
 
 -- ---- tokens with ids added to their headings
 
--- the values for so many headings, the first of them with this number
+-- the values for k headings, from number n on
 abbrev pub values_from : (ℕ → List ℕ) → ℕ → ℕ → List (List ℕ)
 values_from values n zero = []
 values_from values n (suc k) = values n ∷ values_from values (suc n) k
@@ -130,7 +130,7 @@ begins-itself : (prefix more : List ℕ) → starts_with nat_eq (prefix ++ more)
 begins-itself [] more = refl
 begins-itself (b ∷ prefix) more = and_from _ _ (eq-eqb b b refl) (begins-itself prefix more)
 
--- what doesn't begin with the prefix isn't among them
+-- a text that doesn't begin with the prefix isn't among its numbers
 unbegun : (prefix w : List ℕ) (n k : ℕ) → starts_with nat_eq w prefix ≡ false →
     occurs w (values_from (numbered prefix) n k) ≡ 0
 unbegun prefix w n zero h = refl
@@ -138,7 +138,7 @@ unbegun prefix w n (suc k) h =
     occurs-other w (numbered prefix n) _ (λ e. lie (sym h ∙ ap (λ y. starts_with nat_eq y prefix)
     (sym e) ∙ begins-itself prefix (decimal (suc n)))) ∙ unbegun prefix w (suc n) k h
 
--- what begins with it isn't among those that don't
+-- a text that begins with the prefix isn't among texts that don't
 begun : (prefix w : List ℕ) (xs : List (List ℕ)) → starts_with nat_eq w prefix ≡ true →
     none_begins prefix xs ≡ true → occurs w xs ≡ 0
 begun prefix w [] h none = refl

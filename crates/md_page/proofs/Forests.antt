@@ -43,8 +43,7 @@ plain-texts (Element name x inner rest) h =
 
 -- ---- one more attribute
 
--- a forest, each start tag of an element that passes the test with one more attribute, if so many
--- tags passed before
+-- a forest whose start tags that pass have one more attribute, if n tags passed before
 record Grown (test : Token → Bool) (new : ℕ → Attribute) (n : ℕ) (f : Forest) : Type 0 where
   after : ℕ
   forest : Forest
@@ -56,13 +55,13 @@ record Grown (test : Token → Bool) (new : ℕ → Attribute) (n : ℕ) (f : Fo
       is_contained nested content forest ≡ is_contained nested content f
 
 -- an element with these attributes
-element-grown : (test : Token → Bool) (new : ℕ → Attribute) (n : ℕ) (name : List ℕ)
-    (x y : List Attribute) (m : ℕ) (inner rest : Forest) →
+element-grown : {test : Token → Bool} {new : ℕ → Attribute} {n m : ℕ} {name : List ℕ}
+    {x y : List Attribute} {inner rest : Forest} →
     ((more : List Piece) →
     changed test new n (Opening name x ∷ more) ≡ Opening name y ∷ changed test new m more) →
     is_tag_name name ≡ true → are_plain y ≡ true → (g : Grown test new m inner) →
     Grown test new g.after rest → Grown test new n (Element name x inner rest)
-element-grown test new n name x y m inner rest opens named plain g r = record {
+element-grown {name = name} {y = y} {inner = inner} {rest = rest} opens named plain g r = record {
   after = r.after;
   forest = Element name y g.forest r.forest;
   pieces = λ more. opens (pieces_of inner (Closing name ∷ pieces_of rest more))
@@ -80,9 +79,9 @@ element-grown test new n name x y m inner rest opens named plain g r = record {
     held nested None = refl
     held nested (Some content) = g.contained nested content
 
-grow : (test : Token → Bool) (new : ℕ → Attribute) (n : ℕ) (f : Forest) → MayAdd test new →
+grow : {test : Token → Bool} {new : ℕ → Attribute} → MayAdd test new → (n : ℕ) (f : Forest) →
     is_plain_forest f ≡ true → Grown test new n f
-grow test new n Empty may h = record {
+grow may n Empty h = record {
   after = n;
   forest = Empty;
   pieces = λ more. refl;
@@ -90,10 +89,10 @@ grow test new n Empty may h = record {
   plain = refl;
   contained = λ nested content. refl;
 }
-grow test new n (Text bytes rest) may h =
+grow may n (Text bytes rest) h =
     let p = and3 (is_nonempty bytes) (is_escaped bytes) _ h in
     let q = and_parts (not (begins_with_text rest)) (is_plain_forest rest) p.2 in
-    let r = grow test new n rest may q.1 in
+    let r = grow may n rest q.1 in
     record {
       after = r.after;
       forest = Text bytes r.forest;
@@ -104,9 +103,9 @@ grow test new n (Text bytes rest) may h =
       contained = λ nested content.
           ap (λ b. may_say content bytes && b) (r.contained nested content);
     }
-grow test new n (Void name x rest) may h =
+grow may n (Void name x rest) h =
     let p = and3 (is_one_of void_names name) (are_plain x) (is_plain_forest rest) h in
-    let r = grow test new n rest may p.2 in
+    let r = grow may n rest p.2 in
     record {
       after = r.after;
       forest = Void name x r.forest;
@@ -116,20 +115,18 @@ grow test new n (Void name x rest) may h =
       contained = λ nested content.
           ap (λ b. is_one_of (voids_in content) name && b) (r.contained nested content);
     }
-grow test new n (Element name x inner rest) may h =
+grow {test} {new} may n (Element name x inner rest) h =
     let p = and3 (is_tag_name name) (are_plain x) _ h in
     let q = and_parts (is_plain_forest inner) (is_plain_forest rest) p.2 in
     let token = StartTag name (seen_attributes x) false in
     elim (cases_Bool (test token)) [
-      | inl passes ↦ (let g = grow test new (suc n) inner may q.0 in
-          element-grown test new n name x (x ++ (new n ∷ [])) (suc n) inner rest
-          (λ more. cond-true (test token) _ _ passes) p.0
+      | inl passes ↦ (let g = grow may (suc n) inner q.0 in
+          element-grown {y = x ++ (new n ∷ [])} (λ more. cond-true (test token) _ _ passes) p.0
           (plain-more x (new n) p.1 (may.named n) (may.escaped n) (may.fresh n name x passes)) g
-          (grow test new g.after rest may q.1))
-      | inr fails ↦ (let g = grow test new n inner may q.0 in
-          element-grown test new n name x x n inner rest
-          (λ more. cond-false (test token) _ _ fails) p.0 p.1 g
-          (grow test new g.after rest may q.1))
+          (grow may g.after rest q.1))
+      | inr fails ↦ (let g = grow may n inner q.0 in
+          element-grown {y = x} (λ more. cond-false (test token) _ _ fails) p.0 p.1 g
+          (grow may g.after rest q.1))
     ]
 
 -- ---- texts
@@ -153,14 +150,13 @@ read-built text u =
     built-so u.forest text (forest-plain u.forest u.reading.in_grammar) u.reading.written_so
     u.contained
 
-grown-built : (picks : List ℕ → Bool) (test : Token → Bool) (new : ℕ → Attribute) →
+grown-built : {picks : List ℕ → Bool} {test : Token → Bool} {new : ℕ → Attribute} →
     PicksBy picks test → MayAdd test new →
     (text : List ℕ) → IsBuiltAsWritten text → IsBuiltAsWritten (with_new picks new text)
-grown-built picks test new by may text b =
+grown-built {picks} {new = new} by may text b =
     let f = b.forest in
-    let g = grow test new 0 f may b.plain in
-    let r = changed-pieces picks test new 0 (pieces_of f []) by may
-    (plain-sound f [] b.plain refl refl) in
+    let g = grow may 0 f b.plain in
+    let r = changed-pieces by may 0 (pieces_of f []) (plain-sound f [] b.plain refl refl) in
     let after : written g.forest ≡ with_new picks new text =
     sym (whole-written g.forest) ∙ ap all_written (sym (g.pieces [])) ∙ sym r.written
     ∙ ap (with_new picks new) (whole-written f ∙ b.written_so) in
@@ -178,11 +174,10 @@ pub changed-text : {picks : List ℕ → Bool} {test : Token → Bool} {new : �
     {attribute : ℕ → TokenAttribute} {text given after : List ℕ} →
     IsRule picks test new attribute → IsWritten text → given ≡ text →
     after ≡ with_new picks new given → Changed test attribute text after
-changed-text {picks = picks} {test = test} {new = new} {attribute = attribute} {text = text} rule w
-    same made =
+changed-text {picks} {test} {new} {attribute} {text} rule w same made =
     let results = changes rule text w in
     subst (Changed test attribute text) (sym (made ∙ ap (with_new picks new) same)) (record {
       written = results.0;
       tokens = results.1;
-      tree = grown-built picks test new rule.picks_by rule.may_add text;
+      tree = grown-built rule.picks_by rule.may_add text;
     })

@@ -1,5 +1,5 @@
 -- The page around a title and a safe text.
-use Rattle.std.proofs.Common.{◌≡◌, ℕ, true, ◌&&◌, List, [], ◌∷◌, ◌++◌, refl, sym, ap, ◌∙◌}
+use Rattle.std.proofs.Common.{◌≡◌, ℕ, true, List, [], ◌∷◌, ◌++◌, refl, sym, ap, ◌∙◌}
 use Rattle.std.proofs.Common.{ap₂, subst}
 use Rattle.std.specs.List.{list_all}
 use Rattle.std.proofs.lemmas.Bool.{and_from}
@@ -33,9 +33,7 @@ titled_by-written (b ∷ rest) = append-nil (b ∷ rest)
 
 titled_by-title : (text : List ℕ) → is_escaped text ≡ true → is_title (titled_by text) ≡ true
 titled_by-title [] e = refl
-titled_by-title (b ∷ rest) e =
-    and_from (is_escaped (b ∷ rest) && true) true
-    (and_from (is_escaped (b ∷ rest)) true e refl) refl
+titled_by-title (b ∷ rest) e = and_from _ _ (and_from _ _ e refl) refl
 
 pub page_given : (title body text : List ℕ) → text ≡ page_text title body → IsSafe body →
     IsPageOf title body text

@@ -71,22 +71,23 @@ text-turn digit out words tag {out' = out'} is none first on later all =
     ∙ text-first digit out words tag is none first all
 
 -- a heading is found
-pub heading-turn : (n m at : ℕ) (found : List Listed) (rest : List ℕ) {found' whole : List Listed} →
-    IsTagAt picks_heading rest at → m ≡ n + 1 →
-    found' ≡ found ++ (scanned_heading m (drop (at + 1) rest) ∷ []) →
-    found ++ scanned_headings n rest ≡ whole →
-    found' ++ scanned_headings m (drop (at + 1) rest) ≡ whole
-heading-turn n m at found rest h next more all =
-    let tag = drop (at + 1) rest in
-    let scan : scanned_headings n rest ≡ scanned_heading m tag ∷ scanned_headings m tag =
+pub heading-turn : (n at : ℕ) (found : List Listed) (rest : List ℕ) {m k : ℕ} {tag : List ℕ}
+    {found' whole : List Listed} → IsTagAt picks_heading rest at → m ≡ n + 1 → k ≡ n + 1 →
+    tag ≡ drop (at + 1) rest → found' ≡ found ++ (scanned_heading k tag ∷ []) →
+    found ++ scanned_headings n rest ≡ whole → found' ++ scanned_headings m tag ≡ whole
+heading-turn n at found rest {m} {k} {tag} h next number is more all =
+    let scan : scanned_headings n rest ≡ scanned_heading k tag ∷ scanned_headings m tag =
     clear-headings n at rest h.before
     ∙ ap (scanned_headings n) (drop-at rest at h.within h.angle)
     ∙ headings-picked n (drop (suc at) rest) h.picked
-    ∙ ap₂ (λ m tag. scanned_heading m tag ∷ scanned_headings m tag) (sym (next ∙ add-one n))
-    (ap (λ k. drop k rest) (sym (add-one at))) in
+    ∙ sym (ap₂ (λ a b. a ∷ b) (ap₂ scanned_heading (number ∙ add-one n) (is ∙ after))
+    (ap₂ scanned_headings (next ∙ add-one n) (is ∙ after))) in
     ap (λ y. y ++ scanned_headings m tag) more
-    ∙ append_assoc found (scanned_heading m tag ∷ []) (scanned_headings m tag)
+    ∙ append_assoc found (scanned_heading k tag ∷ []) (scanned_headings m tag)
     ∙ ap (λ y. found ++ y) (sym scan) ∙ all
+  where
+    after : drop (at + 1) rest ≡ drop (suc at) rest
+    after = ap (λ k. drop k rest) (add-one at)
 
 -- no heading is left
 pub headings-all : (n : ℕ) (x : List ℕ) → clear picks_heading (length x) x ≡ true →

@@ -19,8 +19,7 @@ use Rattle.md_page.proofs.Adding.{MayAdd, seen_new, changed, added-all, passes-m
 use Rattle.md_page.proofs.Adding.{is_addition_to, listed-more}
 use Rattle.md_page.proofs.Scanning.{AreChanged, changed-pieces}
 
--- tags are picked by their bytes as by their tokens; each gets an attribute that it may have, and
--- a tokenizer sees it so
+-- which tags get which attribute, by their bytes and by their tokens
 pub record IsRule (picks : List ℕ → Bool) (test : Token → Bool) (new : ℕ → Attribute)
     (attribute : ℕ → TokenAttribute) : Type 0 where
   pub picks_by : PicksBy picks test
@@ -43,15 +42,14 @@ attributed text w =
       safe_images = w.safe_images;
     }
 
--- with the additions of a rule a text is written so, and whatever tokens it has, it then has those
--- with these attributes
+-- with the additions of a rule a text stays written so, and has its tokens with these attributes
 pub changes : {picks : List ℕ → Bool} {test : Token → Bool} {new : ℕ → Attribute}
     {attribute : ℕ → TokenAttribute} → IsRule picks test new attribute →
     (text : List ℕ) → IsWritten text → IsWritten (with_new picks new text)
     × ((x : List Token) → IsTokenized text x →
     IsTokenized (with_new picks new text) (added test attribute 0 x))
 unfolding attributed
-changes {picks = picks} {test = test} {new = new} {attribute = attribute} rule text w = (
+changes {picks} {test} {new} {attribute} rule text w = (
   record {
     pieces = after;
     sound = r.sound;
@@ -76,7 +74,7 @@ changes {picks = picks} {test = test} {new = new} {attribute = attribute} rule t
     after = changed test new 0 w.pieces
 
     r : AreChanged picks test new 0 w.pieces after
-    r = changed-pieces picks test new 0 w.pieces rule.picks_by rule.may_add w.sound
+    r = changed-pieces rule.picks_by rule.may_add 0 w.pieces w.sound
 
     same : seen_new new ≡ attribute
     same = λ i n. rule.seen_so n i

@@ -81,7 +81,7 @@ grown-written name x a r =
     (sym (append_assoc (written_attributes x) (written_attributes (a ∷ [])) (62 ∷ r))
     ∙ ap (λ y. y ++ (62 ∷ r)) (sym (attributes-append x (a ∷ []))))
 
--- what is known of pieces and the changed ones, if so many tags passed before
+-- what is known of pieces and of the changed ones, if n tags passed before
 pub record AreChanged (picks : List ℕ → Bool) (test : Token → Bool) (new : ℕ → Attribute) (n : ℕ)
     (x y : List Piece) : Type 0 where
   pub tokens : all_tokens y ≡ added test (seen_new new) n (all_tokens x)
@@ -89,12 +89,12 @@ pub record AreChanged (picks : List ℕ → Bool) (test : Token → Bool) (new :
   pub words : begins_with_words y ≡ begins_with_words x
   pub written : scanned picks (inserted new) false n (all_written x) ≡ all_written y
 
--- before them a tag that isn't picked
-kept : (picks : List ℕ → Bool) (test : Token → Bool) (new : ℕ → Attribute) (n : ℕ) (tag : Piece)
-    (more y : List Piece) → PicksBy picks test → is_sound_tag tag ≡ true →
+-- a tag that isn't picked, before such pieces
+kept : {picks : List ℕ → Bool} {test : Token → Bool} {new : ℕ → Attribute} {n : ℕ}
+    {more y : List Piece} → PicksBy picks test → (tag : Piece) → is_sound_tag tag ≡ true →
     test (token_of tag) ≡ false → AreChanged picks test new n more y →
     AreChanged picks test new n (tag ∷ more) (tag ∷ y)
-kept picks test new n tag more y by sound fails r = record {
+kept {picks} {test} {new} {n} {more} {y} by tag sound fails r = record {
   tokens = tag-tokens tag y sound ∙ ap (λ ts. token_of tag ∷ ts) r.tokens
       ∙ sym (ap (added test (seen_new new) n) (tag-tokens tag more sound)
       ∙ added-other test (seen_new new) n (token_of tag) (all_tokens more) fails);
@@ -112,14 +112,14 @@ kept picks test new n tag more y by sound fails r = record {
     words (Words text) = refl
     words tag = refl
 
--- before them a tag that is picked
-grown : (picks : List ℕ → Bool) (test : Token → Bool) (new : ℕ → Attribute) (n : ℕ) (name : List ℕ)
-    (x : List Attribute) (more y : List Piece) → PicksBy picks test → MayAdd test new →
-    is_tag_name name ≡ true → are_plain x ≡ true →
+-- a tag that is picked, before such pieces
+grown : {picks : List ℕ → Bool} {test : Token → Bool} {new : ℕ → Attribute} {n : ℕ}
+    {more y : List Piece} → PicksBy picks test → MayAdd test new →
+    (name : List ℕ) (x : List Attribute) → is_tag_name name ≡ true → are_plain x ≡ true →
     test (StartTag name (seen_attributes x) false) ≡ true →
     AreChanged picks test new (suc n) more y →
     AreChanged picks test new n (Opening name x ∷ more) (Opening name (x ++ (new n ∷ [])) ∷ y)
-grown picks test new n name x more y by may named plain passes r =
+grown {picks} {test} {new} {n} {more} {y} by may name x named plain passes r =
     let tag = Opening name x in
     let sound : is_sound_tag tag ≡ true = and_from _ _ named plain in
     record {
@@ -138,19 +138,18 @@ grown picks test new n name x more y by may named plain passes r =
           ∙ grown-written name x (new n) (all_written y));
     }
 
-pub changed-pieces :
-    (picks : List ℕ → Bool) (test : Token → Bool) (new : ℕ → Attribute) (n : ℕ) (x : List Piece) →
-    PicksBy picks test → MayAdd test new → are_sound x ≡ true →
+pub changed-pieces : {picks : List ℕ → Bool} {test : Token → Bool} {new : ℕ → Attribute} →
+    PicksBy picks test → MayAdd test new → (n : ℕ) (x : List Piece) → are_sound x ≡ true →
     AreChanged picks test new n x (changed test new n x)
-changed-pieces picks test new n [] by may h = record {
+changed-pieces {test = test} {new = new} by may n [] h = record {
   tokens = sym (added-other test (seen_new new) n EndOfFile [] by.end_of_file);
   sound = refl;
   words = refl;
   written = refl;
 }
-changed-pieces picks test new n (Words text ∷ more) by may h =
+changed-pieces {picks} {test} {new} by may n (Words text ∷ more) h =
     let q = and3 (is_escaped text) _ (are_sound more) h in
-    let r = changed-pieces picks test new n more by may q.2 in
+    let r = changed-pieces by may n more q.2 in
     record {
       tokens = ap (λ ts. map Character (seen text) ++ ts) r.tokens
           ∙ sym (added-characters test (seen_new new) n (seen text) (all_tokens more) by);
@@ -159,21 +158,18 @@ changed-pieces picks test new n (Words text ∷ more) by may h =
       written = scanned-run picks (inserted new) n text (all_written more)
           (escaped-differs 60 text opens.escaped q.0) ∙ ap (λ z. text ++ z) r.written;
     }
-changed-pieces picks test new n (Opening name x ∷ more) by may h =
+changed-pieces {picks} {test} {new} by may n (Opening name x ∷ more) h =
     let q = and3 (is_tag_name name) (are_plain x) (are_sound more) h in
     let tag = Opening name x in
     cond_both (test (token_of tag))
     (Opening name (x ++ (new n ∷ [])) ∷ changed test new (suc n) more)
     (tag ∷ changed test new n more) (AreChanged picks test new n (tag ∷ more))
-    (λ passes. grown picks test new n name x more (changed test new (suc n) more) by may q.0 q.1
-    passes (changed-pieces picks test new (suc n) more by may q.2))
-    (λ fails. kept picks test new n tag more (changed test new n more) by (and_from _ _ q.0 q.1)
-    fails (changed-pieces picks test new n more by may q.2))
-changed-pieces picks test new n (Single name x ∷ more) by may h =
+    (λ passes. grown by may name x q.0 q.1 passes (changed-pieces by may (suc n) more q.2))
+    (λ fails. kept by tag (and_from _ _ q.0 q.1) fails (changed-pieces by may n more q.2))
+changed-pieces by may n (Single name x ∷ more) h =
     let q = and3 (is_one_of void_names name) (are_plain x) (are_sound more) h in
-    kept picks test new n (Single name x) more (changed test new n more) by (and_from _ _ q.0 q.1)
-    (by.void_tokens name (seen_attributes x) q.0) (changed-pieces picks test new n more by may q.2)
-changed-pieces picks test new n (Closing name ∷ more) by may h =
+    kept by (Single name x) (and_from _ _ q.0 q.1) (by.void_tokens name (seen_attributes x) q.0)
+    (changed-pieces by may n more q.2)
+changed-pieces by may n (Closing name ∷ more) h =
     let q = and_parts (is_tag_name name) (are_sound more) h in
-    kept picks test new n (Closing name) more (changed test new n more) by q.0
-    (by.end_tokens name) (changed-pieces picks test new n more by may q.1)
+    kept by (Closing name) q.0 (by.end_tokens name) (changed-pieces by may n more q.1)

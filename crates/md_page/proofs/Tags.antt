@@ -24,14 +24,14 @@ is_sound_tag (Opening name x) = is_tag_name name && are_plain x
 is_sound_tag (Single name x) = is_one_of void_names name && are_plain x
 is_sound_tag (Closing name) = is_tag_name name
 
--- its token
+-- the token of a tag
 abbrev pub token_of : Piece → Token
 token_of (Words text) = EndOfFile
 token_of (Opening name x) = StartTag name (seen_attributes x) false
 token_of (Single name x) = StartTag name (seen_attributes x) true
 token_of (Closing name) = EndTag name
 
--- the bytes between its `<` and its `>`
+-- the bytes between a tag's `<` and its `>`
 abbrev pub inside : Piece → List ℕ
 inside (Words text) = []
 inside (Opening name x) = name ++ written_attributes x
@@ -58,8 +58,7 @@ tag-sound tag more h later =
     let p = and_parts _ _ h in
     and_from _ _ p.0 (and_from _ _ p.1 later)
 
--- what picks tags by the bytes after their `<` picks those whose tokens pass a test, and each of
--- them is the start tag of an element
+-- tags are picked by their bytes as by their tokens, and each is the start tag of an element
 pub record PicksBy (picks : List ℕ → Bool) (test : Token → Bool) : Type 0 where
   pub elements : (name : List ℕ) (x : List Attribute) (r : List ℕ) → is_tag_name name ≡ true →
       are_plain x ≡ true →
