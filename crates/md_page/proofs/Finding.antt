@@ -75,12 +75,6 @@ done picks add n text h =
 
 -- ---- one iteration of the loop that writes the text
 
-from_start : (bytes : List ℕ) (n : ℕ) → slice_range bytes 0 n ≡ take n bytes
-from_start bytes n = ap (λ m. take m bytes) (whole n)
-  where
-    whole : (n : ℕ) → n - 0 ≡ n
-    whole n = omega arith
-
 -- the written text, followed by the result for the rest, stays the whole; and the rest is shorter
 pub turned : (picks : List ℕ → Bool) (add : ℕ → List ℕ) (n : ℕ) (rest : List ℕ) (end : ℕ)
     (out : List ℕ) {out' out'' front attribute rest' whole : List ℕ} → IsEndAt rest end →
@@ -92,10 +86,11 @@ pub turned : (picks : List ℕ → Bool) (add : ℕ → List ℕ) (n : ℕ) (res
     (n + 1 + length rest' ≤ n + length rest)
     × (out'' ++ scanned picks add false (n + 1) rest' ≡ whole)
 turned picks add n rest end out place scan first fronted second added later all =
-    let on = scanned picks add false (suc n) (drop end rest) in (
+    let on = scanned picks add false (suc n) (drop end rest) in
+    let whole : end - 0 ≡ end = omega arith in (
       omega (arith, place.0, place.1, ap length later, length-drop end rest),
       ap₂ (λ x y. x ++ y) (second ∙ ap₂ (λ x y. x ++ y)
-          (first ∙ ap (λ x. out ++ x) (fronted ∙ from_start rest end)) added)
+          (first ∙ ap (λ x. out ++ x) (fronted ∙ ap (λ m. take m rest) whole)) added)
           (ap₂ (λ m x. scanned picks add false m x) (add-one n) later)
           ∙ append_assoc (out ++ take end rest) (add n) on
           ∙ append_assoc out (take end rest) (add n ++ on)

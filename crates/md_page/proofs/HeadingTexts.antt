@@ -96,12 +96,6 @@ text-inside digit (b ∷ x) = by (b == 62) (text-inside digit x)
     by true e = refl
     by false e = e
 
--- to the end of a tag
-text-past : (digit : ℕ) (x r : List ℕ) → list_all (differs 62) x ≡ true →
-    text_before digit true (x ++ (62 ∷ r)) ≡ text_before digit false r
-text-past digit x r h =
-    text-inside digit (x ++ (62 ∷ r)) ∙ ap (text_before digit false) (past-run x r h)
-
 -- a `<` before an end tag of the heading, and before any other tag
 pub text-closes : (digit : ℕ) (tag : List ℕ) → closes_heading digit tag ≡ true →
     text_before digit false (60 ∷ tag) ≡ []
@@ -147,7 +141,8 @@ passed : (digit : ℕ) (tag : Piece) (more : List Piece) → is_sound_tag tag �
 passed digit tag more sound on =
     ap (text_before digit false) (tag-written tag more sound)
     ∙ text-opens digit (inside tag ++ (62 ∷ all_written more)) on
-    ∙ text-past digit (inside tag) (all_written more) (tag-differs 62 tag closes sound)
+    ∙ text-inside digit (inside tag ++ (62 ∷ all_written more)) ∙ ap (text_before digit false)
+    (past-run (inside tag) (all_written more) (tag-differs 62 tag closes sound))
 
 pub text-pieces : (digit : ℕ) (x : List Piece) → is_name_byte digit ≡ true → are_sound x ≡ true →
     text_before digit false (all_written x)

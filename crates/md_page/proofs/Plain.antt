@@ -26,11 +26,8 @@ and3 a b c h =
 
 -- ---- bytes of names
 
-good_byte : (b : ℕ) → is_name_byte b ≡ true → is_good_byte b ≡ true
-good_byte b h = grind (arith, nat_tests)
-
 good_bytes : (name : List ℕ) → list_all is_name_byte name ≡ true → list_all is_good_byte name ≡ true
-good_bytes name h = all-weaker is_name_byte is_good_byte good_byte name h
+good_bytes name h = all-weaker is_name_byte is_good_byte (λ b own. grind (arith, nat_tests)) name h
 
 letter_begins : (b : ℕ) → is_between 97 122 b ≡ true →
     (not (b == 33) && (not (b == 47) && is_letter b)) ≡ true

@@ -31,12 +31,7 @@ scanned-run picks add n (b ∷ x) r h =
     ap (λ t. b ∷ scanned picks add (t && picks (x ++ r)) n (x ++ r)) (not-true (b == 60) p.0)
     ∙ ap (λ y. b ∷ y) (scanned-run picks add n x r p.1)
 
--- a `<` before what isn't picked, and before what is
-pub scanned-passed : (picks : List ℕ → Bool) (add : ℕ → List ℕ) (n : ℕ) (rest : List ℕ) →
-    picks rest ≡ false →
-    scanned picks add false n (60 ∷ rest) ≡ 60 ∷ scanned picks add false n rest
-scanned-passed picks add n rest e = ap (λ t. 60 ∷ scanned picks add t n rest) e
-
+-- a `<` before what is picked
 pub scanned-picked : (picks : List ℕ → Bool) (add : ℕ → List ℕ) (n : ℕ) (rest : List ℕ) →
     picks rest ≡ true →
     scanned picks add false n (60 ∷ rest) ≡ 60 ∷ scanned picks add true n rest
@@ -101,7 +96,7 @@ kept {picks} {test} {new} {n} {more} {y} by tag sound fails r = record {
   sound = tag-sound tag y sound r.sound;
   words = words tag;
   written = ap (scanned picks (inserted new) false n) (tag-written tag more sound)
-      ∙ scanned-passed picks (inserted new) n (inside tag ++ (62 ∷ all_written more))
+      ∙ ap (λ t. 60 ∷ scanned picks (inserted new) t n (inside tag ++ (62 ∷ all_written more)))
       (picks-tag by tag (all_written more) sound ∙ fails)
       ∙ ap (λ z. 60 ∷ z) (scanned-run picks (inserted new) n (inside tag) (62 ∷ all_written more)
       (tag-differs 60 tag opens sound) ∙ ap (λ z. inside tag ++ (62 ∷ z)) r.written)

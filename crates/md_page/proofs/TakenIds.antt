@@ -26,7 +26,7 @@ use Rattle.md_page.specs.Pieces.{IsWritten}
 use Rattle.md_page.specs.Scan.{differs, parts_of, ends_at_id, ids_in_parts, scanned_ids}
 use Rattle.md_page.proofs.Distinct.{in-append}
 use Rattle.md_page.proofs.HeadingTexts.{encoded-seen}
-use Rattle.md_page.proofs.Parts.{is_filled, parts-filled, parts-run, parts-none}
+use Rattle.md_page.proofs.Parts.{is_filled, parts-filled, parts-run}
 use Rattle.md_page.proofs.Plain.{and3, plain_attribute, name_bytes, void-name}
 use Rattle.md_page.proofs.Rules.{attributed}
 use Rattle.md_page.proofs.Tags.{escaped-differs, name-differs, all-join}
@@ -176,15 +176,6 @@ found-tokens text w x h id k =
     (sym (ap (λ y. is_among id (ids_among y)) ((attributed text w).only x h)) ∙ k)
 
 -- ---- iterations
-
--- the rest without a `"`, or with one
-pub nothing-left : (x : List ℕ) → list_all (differs 34) x ≡ true → scanned_ids x ≡ []
-nothing-left x h = ap ids_in_parts (parts-none x h)
-
-pub one-left : (before after : List ℕ) → list_all (differs 34) before ≡ true →
-    list_all (differs 34) after ≡ true → scanned_ids (before ++ (34 ∷ after)) ≡ []
-one-left before after b a =
-    ap ids_in_parts (parts-run before after b ∙ ap (λ y. before ∷ y) (parts-none after a))
 
 pub id-turn : (before value more : List ℕ) (found : List (List ℕ)) {after rest : List ℕ}
     {found' whole : List (List ℕ)} →
