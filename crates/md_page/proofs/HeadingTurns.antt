@@ -9,6 +9,7 @@ use Rattle.md_safe.proofs.LineFeeds.{line_feeds-name}
 use Rattle.md_page.specs.Added.{Listed}
 use Rattle.md_page.specs.Scan.{differs, past_angle, closes_heading, text_before, picks_heading}
 use Rattle.md_page.specs.Scan.{scanned_heading, scanned_headings, clear, IsTagAt}
+use Rattle.md_page.proofs.Parts.{written-on}
 use Rattle.md_page.proofs.Passing.{clear-headings, drop-at}
 use Rattle.md_page.proofs.HeadingTexts.{lined-step, text-run, text-closes, text-inside, text-opens}
 use Rattle.md_page.proofs.Listing.{headings-picked}
@@ -31,23 +32,18 @@ pub lined-turn : (out line after : List ℕ) {rest out' out'' whole : List ℕ} 
 lined-turn out line after is none first second all =
     let feed = cond (begins_with_line_feed after) [] (10 ∷ []) in
     let later = with_line_feeds after in
-    ap (λ y. y ++ later) (second ∙ ap (λ y. y ++ feed) first)
-    ∙ append_assoc (out ++ line) feed later
-    ∙ append_assoc out line (feed ++ later)
-    ∙ ap (λ y. out ++ y) (ap (λ y. line ++ y) (sym (lined-step 13 after))
-    ∙ sym (ap with_line_feeds is ∙ line_feeds-name line (13 ∷ after) none))
-    ∙ all
+    written-on out (line ++ feed) later
+    (second ∙ ap (λ y. y ++ feed) first ∙ append_assoc out line feed)
+    (ap with_line_feeds is ∙ line_feeds-name line (13 ∷ after) none
+    ∙ ap (λ y. line ++ y) (lined-step 13 after) ∙ sym (append_assoc line feed later)) all
 
 text-first : (digit : ℕ) (out words tag : List ℕ) {rest out' whole : List ℕ} →
     rest ≡ words ++ (60 ∷ tag) →
     list_all (differs 60) words ≡ true → out' ≡ out ++ with_line_feeds words →
     out ++ text_before digit false rest ≡ whole → out' ++ text_before digit false (60 ∷ tag) ≡ whole
 text-first digit out words tag is none first all =
-    let on = text_before digit false (60 ∷ tag) in
-    ap (λ y. y ++ on) first ∙ append_assoc out (with_line_feeds words) on
-    ∙ ap (λ y. out ++ y)
-    (sym (ap (text_before digit false) is ∙ text-run digit words (60 ∷ tag) none refl))
-    ∙ all
+    written-on out (with_line_feeds words) (text_before digit false (60 ∷ tag)) first
+    (ap (text_before digit false) is ∙ text-run digit words (60 ∷ tag) none refl) all
 
 -- the heading ends
 pub text-ends : (digit : ℕ) (out words tag : List ℕ) {rest out' whole : List ℕ} →
@@ -82,9 +78,7 @@ heading-turn n at found rest {m} {k} {tag} h next number is more all =
     ∙ headings-picked n (drop (suc at) rest) h.picked
     ∙ sym (ap₂ (λ a b. a ∷ b) (ap₂ scanned_heading (number ∙ add-one n) (is ∙ after))
     (ap₂ scanned_headings (next ∙ add-one n) (is ∙ after))) in
-    ap (λ y. y ++ scanned_headings m tag) more
-    ∙ append_assoc found (scanned_heading k tag ∷ []) (scanned_headings m tag)
-    ∙ ap (λ y. found ++ y) (sym scan) ∙ all
+    written-on found (scanned_heading k tag ∷ []) (scanned_headings m tag) more scan all
   where
     after : drop (at + 1) rest ≡ drop (suc at) rest
     after = ap (λ k. drop k rest) (add-one at)

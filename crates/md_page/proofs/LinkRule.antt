@@ -17,6 +17,7 @@ use Rattle.md_text.specs.Html.{Attribute, written_attributes}
 use Rattle.md_text.specs.Encode.{encoded}
 use Rattle.md_text.proofs.EncodeLaws.{read_back-other, read_back-encoded, is_escaped-encoded}
 use Rattle.md_text.proofs.EncodeLemmas.{and_false}
+use Rattle.md_text.proofs.HtmlReading.{tail_of}
 use Rattle.md_safe.specs.Input.{with_line_feeds, begins_with_line_feed}
 use Rattle.md_safe.specs.Token.{Token, StartTag}
 use Rattle.md_safe.specs.Tokens.{seen, seen_attributes}
@@ -51,14 +52,11 @@ found key (a ∷ x) = cond (bytes_eq key a.name) (Some a.value) (found key x)
 abbrev framed : List ℕ → List ℕ
 framed name = 32 ∷ (name ++ (61 ∷ []))
 
-tail_of : (x y : List ℕ) → 32 ∷ x ≡ 32 ∷ y → x ≡ y
-tail_of x y e = cc
-
 framed-eq : (key name : List ℕ) → bytes_eq (framed key) (framed name) ≡ bytes_eq key name
 framed-eq key name =
     both (bytes_eq (framed key) (framed name)) (bytes_eq key name)
     (λ h. (bytes_decides key name).1 (append_cancel_right key name (61 ∷ [])
-    (tail_of _ _ ((bytes_decides (framed key) (framed name)).0 h))))
+    (tail_of 32 32 _ _ ((bytes_decides (framed key) (framed name)).0 h))))
     (λ h. (bytes_decides (framed key) (framed name)).1 (ap framed ((bytes_decides key name).0 h)))
 
 pub value_of-found : (key : List ℕ) (x : List Attribute) → are_plain x ≡ true →

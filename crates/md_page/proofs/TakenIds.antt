@@ -26,7 +26,7 @@ use Rattle.md_page.specs.Pieces.{IsWritten}
 use Rattle.md_page.specs.Scan.{differs, parts_of, ends_at_id, ids_in_parts, scanned_ids}
 use Rattle.md_page.proofs.Distinct.{in-append}
 use Rattle.md_page.proofs.HeadingTexts.{encoded-seen}
-use Rattle.md_page.proofs.Parts.{is_filled, parts-filled, parts-run}
+use Rattle.md_page.proofs.Parts.{written-on, is_filled, parts-filled, parts-run}
 use Rattle.md_page.proofs.Plain.{and3, plain_attribute, name_bytes, void-name}
 use Rattle.md_page.proofs.Rules.{attributed}
 use Rattle.md_page.proofs.Tags.{escaped-differs, name-differs, all-join}
@@ -184,8 +184,5 @@ pub id-turn : (before value more : List ℕ) (found : List (List ℕ)) {after re
     found' ≡ found ++ cond (ends_at_id before) (with_line_feeds value ∷ []) [] →
     found ++ scanned_ids rest ≡ whole → found' ++ scanned_ids more ≡ whole
 id-turn before value more found is b also v put all =
-    let one = cond (ends_at_id before) (with_line_feeds value ∷ []) [] in
-    ap (λ y. y ++ scanned_ids more) put ∙ append_assoc found one (scanned_ids more)
-    ∙ ap (λ y. found ++ y) (sym (ap scanned_ids (is ∙ ap (λ y. before ++ (34 ∷ y)) also)
-    ∙ value_step before value more b v))
-    ∙ all
+    written-on found (cond (ends_at_id before) (with_line_feeds value ∷ []) []) (scanned_ids more)
+    put (ap scanned_ids (is ∙ ap (λ y. before ++ (34 ∷ y)) also) ∙ value_step before value more b v) all
