@@ -185,4 +185,5 @@ pub id-turn : (before value more : List ℕ) (found : List (List ℕ)) {after re
     found ++ scanned_ids rest ≡ whole → found' ++ scanned_ids more ≡ whole
 id-turn before value more found is b also v put all =
     written-on found (cond (ends_at_id before) (with_line_feeds value ∷ []) []) (scanned_ids more)
-    put (ap scanned_ids (is ∙ ap (λ y. before ++ (34 ∷ y)) also) ∙ value_step before value more b v) all
+    put (ap scanned_ids (is ∙ ap (λ y. before ++ (34 ∷ y)) also)
+    ∙ value_step before value more b v) all
