@@ -1,11 +1,12 @@
 -- A scan up to the first tag that is picked, and past it, by places.
-use Rattle.std.proofs.Common.{◌≡◌, ℕ, ◌+◌, ◌-◌, suc, Bool, true, false, List, [], ◌∷◌, ◌++◌, length}
-use Rattle.std.proofs.Common.{take, drop, refl, sym, ap, ◌∙◌, subst, append_assoc, slice_range}
-use Rattle.std.proofs.Common.{add-one, arith}
+use Rattle.std.proofs.Common.{◌≡◌, ℕ, ◌+◌, ◌-◌, ◌≤◌, suc, Bool, true, false, List, [], ◌∷◌, ◌++◌}
+use Rattle.std.proofs.Common.{length, take, drop, sym, ap, ap₂, ◌∙◌, subst, append_assoc}
+use Rattle.std.proofs.Common.{append-nil, slice_range, add-one, arith}
 use Rattle.std.specs.List.{list_all}
-use Rattle.std.proofs.lemmas.List.{take_rest, drop-drop, drop_more, take-append-drop}
+use Rattle.std.proofs.lemmas.List.{take_rest, drop-drop, drop_more, take-append-drop, length-drop}
+use Rattle.std.proofs.lemmas.List.{take_all, drop_all}
 use Rattle.std.proofs.Math.Seq.{take-add}
-use Rattle.md_page.specs.Scan.{differs, IsFirstOf, IsTagAt, clear, scanned}
+use Rattle.md_page.specs.Scan.{differs, IsFirstOf, IsTagAt, IsEndAt, clear, scanned}
 use Rattle.md_page.proofs.Parts.{around}
 use Rattle.md_page.proofs.Scanning.{scanned-picked, scanned-inside, scanned-unclosed}
 use Rattle.md_page.proofs.Passing.{clear-scanned, drop-at, take-at}
@@ -69,38 +70,29 @@ pub done : (picks : List ℕ → Bool) (add : ℕ → List ℕ) (n : ℕ) (text 
     clear picks (length text) text ≡ true → scanned picks add false n text ≡ text
 done picks add n text h =
     clear-scanned picks add n (length text) text h
-    ∙ ap (λ x. take (length text) text ++ scanned picks add false n x) (all text)
-    ∙ ap (λ x. take (length text) text ++ x) (sym (all text))
-    ∙ take-append-drop (length text) text
-  where
-    all : (x : List ℕ) → drop (length x) x ≡ []
-    all [] = refl
-    all (b ∷ x) = all x
+    ∙ ap₂ (λ x y. x ++ scanned picks add false n y) (take_all (length text) text (omega arith))
+    (drop_all (length text) text (omega arith)) ∙ append-nil text
 
 -- ---- one iteration of the loop that writes the text
 
-pub from_start : (bytes : List ℕ) (n : ℕ) → slice_range bytes 0 n ≡ take n bytes
-from_start bytes n = ap (λ m. take m bytes) (whole n)
-  where
-    whole : (n : ℕ) → n - 0 ≡ n
-    whole n = omega arith
-
--- the written text, followed by the result for the rest, stays the whole
+-- the written text, followed by the result for the rest, stays the whole; and the rest is shorter
 pub turned : (picks : List ℕ → Bool) (add : ℕ → List ℕ) (n : ℕ) (rest : List ℕ) (end : ℕ)
-    (out out' out'' front attribute rest' whole : List ℕ) → out' ≡ out ++ front →
-    front ≡ take end rest →
-    out'' ≡ out' ++ attribute → attribute ≡ add n → rest' ≡ drop end rest →
+    (out : List ℕ) {out' out'' front attribute rest' whole : List ℕ} → IsEndAt rest end →
     scanned picks add false n rest
     ≡ take end rest ++ (add n ++ scanned picks add false (suc n) (drop end rest)) →
+    out' ≡ out ++ front → front ≡ slice_range rest 0 end →
+    out'' ≡ out' ++ attribute → attribute ≡ add n → rest' ≡ drop end rest →
     out ++ scanned picks add false n rest ≡ whole →
-    out'' ++ scanned picks add false (suc n) rest' ≡ whole
-turned picks add n rest end out out' out'' front attribute rest' whole first fronted second
-    added later scan all =
+    (n + 1 + length rest' ≤ n + length rest)
+    × (out'' ++ scanned picks add false (n + 1) rest' ≡ whole)
+turned picks add n rest end out place scan first fronted second added later all =
     let on = scanned picks add false (suc n) (drop end rest) in
-    ap (λ x. out'' ++ scanned picks add false (suc n) x) later
-    ∙ ap (λ x. x ++ on) (second ∙ ap (λ x. x ++ attribute) (first ∙ ap (λ x. out ++ x) fronted)
-    ∙ ap (λ x. (out ++ take end rest) ++ x) added)
-    ∙ append_assoc (out ++ take end rest) (add n) on
-    ∙ append_assoc out (take end rest) (add n ++ on)
-    ∙ ap (λ x. out ++ x) (sym scan)
-    ∙ all
+    let whole : end - 0 ≡ end = omega arith in (
+      omega (arith, place.0, place.1, ap length later, length-drop end rest),
+      ap₂ (λ x y. x ++ y) (second ∙ ap₂ (λ x y. x ++ y)
+          (first ∙ ap (λ x. out ++ x) (fronted ∙ ap (λ m. take m rest) whole)) added)
+          (ap₂ (λ m x. scanned picks add false m x) (add-one n) later)
+          ∙ append_assoc (out ++ take end rest) (add n) on
+          ∙ append_assoc out (take end rest) (add n ++ on)
+          ∙ ap (λ x. out ++ x) (sym scan) ∙ all,
+    )

@@ -1,6 +1,6 @@
 -- The page around a title and a safe text.
-use Rattle.std.proofs.Common.{◌≡◌, ℕ, true, false, ◌&&◌, List, [], ◌∷◌, ◌++◌, refl, sym, ap, ◌∙◌}
-use Rattle.std.proofs.Common.{subst}
+use Rattle.std.proofs.Common.{◌≡◌, ℕ, true, List, [], ◌∷◌, ◌++◌, refl, sym, ap, ◌∙◌}
+use Rattle.std.proofs.Common.{ap₂, subst}
 use Rattle.std.specs.List.{list_all}
 use Rattle.std.proofs.lemmas.Bool.{and_from}
 use Rattle.std.proofs.lemmas.List.{append-nil}
@@ -9,18 +9,17 @@ use Rattle.md_text.specs.References.{is_escaped, read_back}
 use Rattle.md_text.specs.Html.{Forest, Empty, Text, written, all_attributes}
 use Rattle.md_text.specs.Safe.{is_safe_image}
 use Rattle.md_text.proofs.EncodeLaws.{is_escaped-encoded, read_back-encoded}
-use Rattle.md_safe.specs.Input.{with_line_feeds}
-use Rattle.md_safe.specs.Tokens.{seen}
 use Rattle.md_safe.specs.Tokenizer.{IsTokenized}
 use Rattle.md_safe.specs.PageTokens.{page_tokens, IsTokenizedPage}
 use Rattle.md_safe.proofs.PageRuns.{page-tokenized}
-use Rattle.md_safe.proofs.Schemes.{seen-is}
 use Rattle.md_safe.specs.Built.{IsBuiltAsRead}
 use Rattle.md_safe.specs.Page.{IsBuiltPage}
 use Rattle.md_safe.proofs.TreeSteps.{is_character, seen-characters}
 use Rattle.md_safe.proofs.Pages.{text-page-built}
 use Rattle.md_html.specs.Safe.{IsSafe}
+use Rattle.md_page.specs.Added.{shown}
 use Rattle.md_page.specs.Page.{is_title, IsPage, IsPageOf, page_text}
+use Rattle.md_page.proofs.LinkRule.{seen-encoded}
 use Rattle.md_page.proofs.Pages.{before_title, before_body, after_body, page_written, one_page}
 
 -- a text as a title
@@ -34,9 +33,7 @@ titled_by-written (b ∷ rest) = append-nil (b ∷ rest)
 
 titled_by-title : (text : List ℕ) → is_escaped text ≡ true → is_title (titled_by text) ≡ true
 titled_by-title [] e = refl
-titled_by-title (b ∷ rest) e =
-    and_from (is_escaped (b ∷ rest) && true) true
-    (and_from (is_escaped (b ∷ rest)) true e refl) refl
+titled_by-title (b ∷ rest) e = and_from _ _ (and_from _ _ e refl) refl
 
 pub page_given : (title body text : List ℕ) → text ≡ page_text title body → IsSafe body →
     IsPageOf title body text
@@ -49,10 +46,8 @@ page_given title body text e safe =
       body_in_grammar = safe.safe_links.reading.in_grammar;
       written_so =
           e ∙ sym (page_written head inside
-          ∙ ap (λ t. before_title ++ (t ++ (before_body ++ (written inside ++ after_body))))
-          (titled_by-written escaped)
-          ∙ ap (λ b. before_title ++ (escaped ++ (before_body ++ (b ++ after_body))))
-          safe.safe_links.reading.written_so);
+          ∙ ap₂ (λ t b. before_title ++ (t ++ (before_body ++ (b ++ after_body))))
+          (titled_by-written escaped) safe.safe_links.reading.written_so);
     }
     in
     record {
@@ -71,32 +66,28 @@ page_given title body text e safe =
 
 -- the same in the Standard's words
 pub page_emitted : (title body text : List ℕ) → text ≡ page_text title body → IsSafe body →
-    IsTokenizedPage (with_line_feeds (encoded false title)) body text
+    IsTokenizedPage (shown title) body text
 page_emitted title body text e safe =
     let escaped = encoded true title in
-    let characters : seen escaped ≡ with_line_feeds (encoded false title) =
-    seen-is escaped (is_escaped-encoded title) ∙ ap with_line_feeds (read_back-encoded title) in
-    subst (λ t. IsTokenizedPage (with_line_feeds (encoded false title)) body t) (sym e)
-    (subst (λ c. IsTokenizedPage c body (page_text title body)) characters
+    subst (λ t. IsTokenizedPage (shown title) body t) (sym e)
+    (subst (λ c. IsTokenizedPage c body (page_text title body)) (seen-encoded title)
     (page-tokenized escaped body (is_escaped-encoded title) safe.safe_links safe.safe_images))
 
 -- and the document is built of it, where the body's text is built as it is read
 pub page_constructed : (title body text : List ℕ) → text ≡ page_text title body → IsSafe body →
     IsBuiltAsRead body →
-    IsBuiltPage (with_line_feeds (encoded false title)) body text
+    IsBuiltPage (shown title) body text
 page_constructed title body text e safe built =
     let escaped = encoded true title in
-    let characters : List ℕ = with_line_feeds (encoded false title) in
     let emitted = page_emitted title body text e safe in
     record {
       inside = built.forest;
       reading = built.reading;
       only = built.only;
-      tokenized = subst (λ f. IsTokenized text (page_tokens characters f))
+      tokenized = subst (λ f. IsTokenized text (page_tokens (shown title) f))
           (built.only emitted.inside emitted.reading) emitted.tokenized;
-      built = text-page-built characters body
-          (subst (λ t. list_all is_character t ≡ true) (seen-is escaped (is_escaped-encoded title)
-          ∙ ap with_line_feeds (read_back-encoded title))
+      built = text-page-built (shown title) body
+          (subst (λ t. list_all is_character t ≡ true) (seen-encoded title)
           (seen-characters escaped (is_escaped-encoded title)))
           built;
     }

@@ -5,11 +5,12 @@ use Rattle.std.proofs.Common.{map, drop, refl, sym, ap, ap₂, ◌∙◌, subst,
 use Rattle.std.proofs.Common.{codes, ne_eqb, eq-eqb}
 use Rattle.std.specs.List.{list_all}
 use Rattle.std.specs.Cmp.Lexicographic.{bytes_decides}
-use Rattle.std.proofs.lemmas.Bool.{and_parts, and_from, not-true}
+use Rattle.std.proofs.lemmas.Bool.{and_parts, and_from, and_left, not-true, cond-true}
+use Rattle.std.proofs.lemmas.Bool.{cond-false}
 use Rattle.md_base.proofs.Lies.{lie}
 use Rattle.md_text.specs.Bytes.{is_one_of, is_between}
 use Rattle.md_text.specs.Encode.{encoded}
-use Rattle.md_text.specs.References.{is_escaped, read_back, begins_with}
+use Rattle.md_text.specs.References.{is_escaped, read_back}
 use Rattle.md_text.specs.Html.{written_attributes}
 use Rattle.md_text.proofs.EncodeLaws.{read_back-other}
 use Rattle.md_text.proofs.EncodeLemmas.{encoded-append, encoded_byte-plain}
@@ -19,17 +20,17 @@ use Rattle.md_safe.specs.Input.{with_line_feeds, begins_with_line_feed}
 use Rattle.md_safe.specs.Token.{Token, Character}
 use Rattle.md_safe.specs.Tokens.{seen}
 use Rattle.md_safe.proofs.EscapedCases.{by_escaped, begins-is}
-use Rattle.md_safe.proofs.LineFeeds.{line_feeds-escaped}
-use Rattle.md_safe.proofs.Steps.{past}
+use Rattle.md_safe.proofs.LineFeeds.{one-append, line_feeds-escaped}
+use Rattle.md_safe.proofs.Steps.{past, plain-ne}
 use Rattle.md_page.specs.Added.{characters_before}
 use Rattle.md_page.specs.Pieces.{Piece, Words, Opening, Single, Closing, all_written, all_tokens}
 use Rattle.md_page.specs.Pieces.{are_sound, are_plain, is_name_byte, is_tag_name, void_names}
-use Rattle.md_page.specs.Pieces.{begins_with_letter, begins_with_words}
+use Rattle.md_page.specs.Pieces.{begins_with_letter}
 use Rattle.md_page.specs.Scan.{differs, past_angle, lined_byte, closes_heading, text_before}
-use Rattle.md_page.proofs.Plain.{void-name}
+use Rattle.md_page.proofs.Plain.{and3, name_bytes, void-name}
 use Rattle.md_page.proofs.PieceRuns.{after_text}
-use Rattle.md_page.proofs.Scanning.{escaped-differs, name-differs, all-join, tag-differs, opens}
-use Rattle.md_page.proofs.Scanning.{closes, name_bytes, between}
+use Rattle.md_page.proofs.Tags.{is_sound_tag, inside, tag-written, tag-differs, escaped-differs}
+use Rattle.md_page.proofs.Tags.{opens, closes}
 use Rattle.md_page.proofs.LinkRule.{both}
 
 -- ---- texts
@@ -39,7 +40,7 @@ encoded-back : (x : List ℕ) → is_escaped x ≡ true → encoded true (read_b
 encoded-back x h =
     by_escaped (λ x. encoded true (read_back x) ≡ x) refl
     (λ b rest p later.
-    ap (encoded true) (read_back-other b rest (λ e. lie (sym p.no_and ∙ ap (λ c. c == 38) e)))
+    ap (encoded true) (read_back-other b rest (plain-ne b p))
     ∙ ap (λ y. y ++ encoded true (read_back rest))
     (encoded_byte-plain true b p.no_nul p.no_and p.no_quote p.no_less p.no_more)
     ∙ ap (λ y. b ∷ y) later)
@@ -53,25 +54,12 @@ encoded-seen x h = encoded-back (with_line_feeds x) (line_feeds-escaped x h)
 
 pub lined-step : (b : ℕ) (rest : List ℕ) →
     with_line_feeds (b ∷ rest) ≡ lined_byte b rest ++ with_line_feeds rest
-lined-step b rest = by (b == 13) (begins_with_line_feed rest)
-  where
-    by : (return feed : Bool) →
-        cond return (cond feed (with_line_feeds rest) (10 ∷ with_line_feeds rest))
-        (b ∷ with_line_feeds rest)
-        ≡ cond return (cond feed [] (10 ∷ [])) (b ∷ []) ++ with_line_feeds rest
-    by true true = refl
-    by true false = refl
-    by false feed = refl
+lined-step b rest = one-append b (begins_with_line_feed rest) [] (with_line_feeds rest)
 
 lined-append : (b : ℕ) (x r : List ℕ) → begins_with_line_feed r ≡ false →
     lined_byte b (x ++ r) ≡ lined_byte b x
 lined-append b [] r h = ap (λ t. cond (b == 13) (cond t [] (10 ∷ [])) (b ∷ [])) h
 lined-append b (c ∷ x) r h = refl
-
--- a byte outside tags that isn't `<`
-text-byte : (digit b : ℕ) (rest : List ℕ) → differs 60 b ≡ true →
-    text_before digit false (b ∷ rest) ≡ lined_byte b rest ++ text_before digit false rest
-text-byte digit b rest h = past _ (not-true (b == 60) h) refl
 
 -- a text outside tags, before what doesn't begin with a line feed
 pub text-run : (digit : ℕ) (x r : List ℕ) → list_all (differs 60) x ≡ true →
@@ -80,18 +68,10 @@ pub text-run : (digit : ℕ) (x r : List ℕ) → list_all (differs 60) x ≡ tr
 text-run digit [] r h n = refl
 text-run digit (b ∷ x) r h n =
     let p = and_parts (differs 60 b) (list_all (differs 60) x) h in
-    text-byte digit b (x ++ r) p.0
-    ∙ ap₂ (λ y z. y ++ z) (lined-append b x r n) (text-run digit x r p.1 n)
+    past _ (not-true (b == 60) p.0)
+    (ap₂ (λ y z. y ++ z) (lined-append b x r n) (text-run digit x r p.1 n))
     ∙ sym (append_assoc (lined_byte b x) (with_line_feeds x) (text_before digit false r))
     ∙ ap (λ y. y ++ text_before digit false r) (sym (lined-step b x))
-
--- to the end of a tag
-pub text-past : (digit : ℕ) (x r : List ℕ) → list_all (differs 62) x ≡ true →
-    text_before digit true (x ++ (62 ∷ r)) ≡ text_before digit false r
-text-past digit [] r h = refl
-text-past digit (b ∷ x) r h =
-    let p = and_parts (differs 62 b) (list_all (differs 62) x) h in
-    ap (λ t. text_before digit t (x ++ (62 ∷ r))) p.0 ∙ text-past digit x r p.1
 
 pub past-run : (x r : List ℕ) → list_all (differs 62) x ≡ true → past_angle (x ++ (62 ∷ r)) ≡ r
 past-run [] r h = refl
@@ -119,11 +99,11 @@ text-inside digit (b ∷ x) = by (b == 62) (text-inside digit x)
 -- a `<` before an end tag of the heading, and before any other tag
 pub text-closes : (digit : ℕ) (tag : List ℕ) → closes_heading digit tag ≡ true →
     text_before digit false (60 ∷ tag) ≡ []
-text-closes digit tag e = ap (λ t. cond t [] (text_before digit true tag)) e
+text-closes digit tag e = cond-true (closes_heading digit tag) _ _ e
 
 pub text-opens : (digit : ℕ) (tag : List ℕ) → closes_heading digit tag ≡ false →
     text_before digit false (60 ∷ tag) ≡ text_before digit true tag
-text-opens digit tag e = ap (λ t. cond t [] (text_before digit true tag)) e
+text-opens digit tag e = cond-false (closes_heading digit tag) _ _ e
 
 -- ---- the text of a heading, over pieces
 characters-run : (name x : List ℕ) (more : List Token) →
@@ -131,14 +111,11 @@ characters-run : (name x : List ℕ) (more : List Token) →
 characters-run name [] more = refl
 characters-run name (b ∷ x) more = ap (λ y. b ∷ y) (characters-run name x more)
 
-no_slash : (name tail : List ℕ) (digit : ℕ) → begins_with_letter name ≡ true →
-    closes_heading digit (name ++ tail) ≡ false
-no_slash [] tail digit h = lie h
-no_slash (b ∷ name) tail digit h =
-    ap (λ t. t && begins_with (104 ∷ digit ∷ 62 ∷ []) (name ++ tail)) (slash_letter b h)
-  where
-    slash_letter : (b : ℕ) → is_between 97 122 b ≡ true → (47 == b) ≡ false
-    slash_letter b h = ne_eqb 47 b (λ e. lie (ap (is_between 97 122) e ∙ h))
+no_slash : (digit : ℕ) (name x r : List ℕ) → begins_with_letter name ≡ true →
+    closes_heading digit ((name ++ x) ++ r) ≡ false
+no_slash digit [] x r h = lie h
+no_slash digit (b ∷ name) x r h =
+    and_left _ _ (ne_eqb 47 b (λ e. lie (ap (is_between 97 122) e ∙ h)))
 
 -- an end tag is the heading's exactly if it has its name
 closes-name : (digit : ℕ) (name r : List ℕ) → is_name_byte digit ≡ true →
@@ -157,59 +134,50 @@ closes-name digit name r d h =
     (sym ((bytes_decides name (104 ∷ digit ∷ [])).0 e))
     (ap (λ t. t && true) (eq-eqb digit digit refl)))
 
+-- a tag that doesn't end the heading
+passed : (digit : ℕ) (tag : Piece) (more : List Piece) → is_sound_tag tag ≡ true →
+    closes_heading digit (inside tag ++ (62 ∷ all_written more)) ≡ false →
+    text_before digit false (all_written (tag ∷ more)) ≡ text_before digit false (all_written more)
+passed digit tag more sound on =
+    ap (text_before digit false) (tag-written tag more sound)
+    ∙ text-opens digit (inside tag ++ (62 ∷ all_written more)) on
+    ∙ text-inside digit (inside tag ++ (62 ∷ all_written more)) ∙ ap (text_before digit false)
+    (past-run (inside tag) (all_written more) (tag-differs 62 tag closes sound))
+
 pub text-pieces : (digit : ℕ) (x : List Piece) → is_name_byte digit ≡ true → are_sound x ≡ true →
     text_before digit false (all_written x)
     ≡ encoded true (characters_before (104 ∷ digit ∷ []) (all_tokens x))
 text-pieces digit [] d h = refl
 text-pieces digit (Words text ∷ more) d h =
-    let q = and_parts (is_escaped text) _ h in
-    let r = and_parts (not (begins_with_words more)) (are_sound more) q.1 in
+    let q = and3 (is_escaped text) _ (are_sound more) h in
     let name = 104 ∷ digit ∷ [] in
-    let later = characters_before name (all_tokens more) in
     text-run digit text (all_written more) (escaped-differs 60 text opens.escaped q.0)
-    (after_text more r.0)
-    ∙ ap₂ (λ y z. y ++ z) (sym (encoded-seen text q.0)) (text-pieces digit more d r.1)
-    ∙ sym (encoded-append true (seen text) later)
+    (after_text more q.1)
+    ∙ ap₂ (λ y z. y ++ z) (sym (encoded-seen text q.0)) (text-pieces digit more d q.2)
+    ∙ sym (encoded-append true (seen text) (characters_before name (all_tokens more)))
     ∙ ap (encoded true) (sym (characters-run name (seen text) (all_tokens more)))
 text-pieces digit (Opening name x ∷ more) d h =
-    let q = and_parts (is_tag_name name) _ h in
-    let r = and_parts (are_plain x) (are_sound more) q.1 in
-    let tail = written_attributes x ++ (62 ∷ all_written more) in
-    text-opens digit (name ++ tail)
-    (no_slash name tail digit (and_parts (begins_with_letter name) _ q.0).0)
-    ∙ ap (text_before digit true) (between name x (62 ∷ all_written more))
-    ∙ text-past digit (name ++ written_attributes x) (all_written more)
-    (tag-differs 62 name x closes (name_bytes name q.0) r.0)
-    ∙ text-pieces digit more d r.1
+    let q = and3 (is_tag_name name) (are_plain x) (are_sound more) h in
+    passed digit (Opening name x) more (and_from _ _ q.0 q.1)
+    (no_slash digit name (written_attributes x) (62 ∷ all_written more)
+    (and_parts (begins_with_letter name) _ q.0).0) ∙ text-pieces digit more d q.2
 text-pieces digit (Single name x ∷ more) d h =
-    let q = and_parts (is_one_of void_names name) _ h in
-    let r = and_parts (are_plain x) (are_sound more) q.1 in
-    let inside = name ++ written_attributes x in
-    let bytes = void-name (list_all is_name_byte) name refl q.0 in
-    let tail = written_attributes x ++ (32 ∷ 47 ∷ 62 ∷ all_written more) in
-    text-opens digit (name ++ tail)
-    (no_slash name tail digit (void-name begins_with_letter name refl q.0))
-    ∙ ap (text_before digit true) (between name x (32 ∷ 47 ∷ 62 ∷ all_written more)
-    ∙ sym (append_assoc inside (32 ∷ 47 ∷ []) (62 ∷ all_written more)))
-    ∙ text-past digit (inside ++ (32 ∷ 47 ∷ [])) (all_written more)
-    (all-join (differs 62) inside (32 ∷ 47 ∷ []) (tag-differs 62 name x closes bytes r.0) refl)
-    ∙ text-pieces digit more d r.1
+    let q = and3 (is_one_of void_names name) (are_plain x) (are_sound more) h in
+    passed digit (Single name x) more (and_from _ _ q.0 q.1)
+    (no_slash digit name (written_attributes x ++ (32 ∷ 47 ∷ [])) (62 ∷ all_written more)
+    (void-name begins_with_letter name refl q.0)) ∙ text-pieces digit more d q.2
 text-pieces digit (Closing name ∷ more) d h =
     let q = and_parts (is_tag_name name) (are_sound more) h in
-    let bytes = name_bytes name q.0 in
-    by (bytes_eq name (104 ∷ digit ∷ [])) (closes-name digit name (all_written more) d bytes)
-    (text-past digit (47 ∷ name) (all_written more)
-    (and_from (differs 62 47) (list_all (differs 62) name) refl (name-differs 62 name refl bytes)))
+    by (bytes_eq name (104 ∷ digit ∷ []))
+    (closes-name digit name (all_written more) d (name_bytes name q.0)) q.0
     (text-pieces digit more d q.1)
   where
-    tag : List ℕ
-    tag = 47 ∷ (name ++ (62 ∷ all_written more))
+    later : List ℕ
+    later = characters_before (104 ∷ digit ∷ []) (all_tokens more)
 
-    by : (b : Bool) → closes_heading digit tag ≡ b →
-        text_before digit true tag ≡ text_before digit false (all_written more) →
-        text_before digit false (all_written more)
-        ≡ encoded true (characters_before (104 ∷ digit ∷ []) (all_tokens more)) →
-        text_before digit false (60 ∷ tag)
-        ≡ encoded true (cond b [] (characters_before (104 ∷ digit ∷ []) (all_tokens more)))
-    by true e f g = text-closes digit tag e
-    by false e f g = text-opens digit tag e ∙ f ∙ g
+    by : (b : Bool) → closes_heading digit (47 ∷ (name ++ (62 ∷ all_written more))) ≡ b →
+        is_tag_name name ≡ true → text_before digit false (all_written more) ≡ encoded true later →
+        text_before digit false (all_written (Closing name ∷ more))
+        ≡ encoded true (cond b [] later)
+    by true e sound on = text-closes digit (47 ∷ (name ++ (62 ∷ all_written more))) e
+    by false e sound on = passed digit (Closing name) more sound e ∙ on

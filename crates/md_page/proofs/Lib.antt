@@ -4,6 +4,7 @@ pub mod Given
 -- Lemmas: pieces are tokenized as their tokens; one more attribute in a piece is one more in its
 -- token; and the program finds each tag that gets one.
 pub mod Plain
+pub mod Tags
 pub mod PieceRuns
 pub mod FromForest
 pub mod Adding
@@ -21,7 +22,6 @@ pub mod HeadingTexts
 pub mod Listing
 pub mod HeadingTurns
 pub mod Distinct
-pub mod GivenRule
 pub mod GivenDistinct
 pub mod TakenIds
 pub mod Apart

@@ -2,39 +2,38 @@
 use Rattle.std.specs.Str.{bytes_eq}
 use Rattle.std.specs.Prelude.{nat_eq, is_none}
 use Rattle.std.proofs.Common.{◌≡◌, ℕ, ◌==◌, Bool, true, false, not, ◌&&◌, ◌||◌, cond, List, [], ◌∷◌}
-use Rattle.std.proofs.Common.{◌++◌, drop, refl, sym, ap, ◌∙◌, subst, append_assoc, inl, inr, Option}
-use Rattle.std.proofs.Common.{Some, None, codes, ne_eqb}
+use Rattle.std.proofs.Common.{◌++◌, drop, refl, sym, ap, ap₂, ◌∙◌, subst, append_assoc, inl, inr}
+use Rattle.std.proofs.Common.{Option, Some, None, codes, ne_eqb}
 use Rattle.std.specs.List.{list_all, list_any, starts_with}
 use Rattle.std.specs.Option.{option_map_or}
 use Rattle.std.specs.Cmp.Lexicographic.{bytes_decides}
-use Rattle.std.proofs.lemmas.Bool.{and_parts, and_from, not-true, or_parts, or_from, or_left}
-use Rattle.std.proofs.lemmas.Bool.{cases_Bool, cases_eq}
+use Rattle.std.proofs.lemmas.Bool.{and_parts, and_from, and_left, not-true, or_parts, or_from}
+use Rattle.std.proofs.lemmas.Bool.{or_left, cases_Bool, cases_eq}
 use Rattle.std.proofs.lemmas.List.{append_cancel_right}
 use Rattle.md_base.proofs.Lies.{lie}
 use Rattle.md_base.specs.Identifier.{is_nonempty}
-use Rattle.md_text.specs.Bytes.{is_one_of}
 use Rattle.md_text.specs.References.{is_escaped, begins_with, read_back}
 use Rattle.md_text.specs.Html.{Attribute, written_attributes}
 use Rattle.md_text.specs.Encode.{encoded}
 use Rattle.md_text.proofs.EncodeLaws.{read_back-other, read_back-encoded, is_escaped-encoded}
 use Rattle.md_text.proofs.EncodeLemmas.{and_false}
+use Rattle.md_text.proofs.HtmlReading.{tail_of}
 use Rattle.md_safe.specs.Input.{with_line_feeds, begins_with_line_feed}
-use Rattle.md_safe.specs.Token.{Token, Doctype, Character, StartTag, EndTag, EndOfFile}
-use Rattle.md_safe.specs.Tokenizer.{IsTokenized}
+use Rattle.md_safe.specs.Token.{Token, StartTag}
 use Rattle.md_safe.specs.Tokens.{seen, seen_attributes}
 use Rattle.md_safe.proofs.EscapedCases.{IsPlain, by_escaped}
 use Rattle.md_safe.proofs.Schemes.{seen-is}
-use Rattle.md_page.specs.Added.{added, gets_rel, leads_away, has_attribute, shown, with_link_rel}
-use Rattle.md_page.specs.Added.{heading_names}
-use Rattle.md_page.specs.Pieces.{are_plain, is_name, is_name_byte, begins_with_letter, IsWritten}
+use Rattle.md_safe.proofs.Steps.{plain-ne}
+use Rattle.md_page.specs.Added.{gets_rel, leads_away, has_attribute, shown, rel_of}
+use Rattle.md_page.specs.Pieces.{are_plain, is_name_byte, begins_with_letter}
 use Rattle.md_page.specs.Scan.{differs, before_angle, parts_of, value_in, value_of, is_away}
-use Rattle.md_page.specs.Scan.{want_rel, picks_link, new_rel, with_new}
+use Rattle.md_page.specs.Scan.{want_rel, picks_link, new_rel}
 use Rattle.md_page.proofs.Parts.{parts-filled, parts-run, value_in-step, before-run}
-use Rattle.md_page.proofs.Plain.{void-name}
-use Rattle.md_page.proofs.Adding.{PicksElements, MayAdd, seen_attribute, is_addition_to}
-use Rattle.md_page.proofs.Rules.{IsRule, keeps, becomes}
-use Rattle.md_page.proofs.Scanning.{escaped-differs, name-differs, all-join, attributes-differ}
-use Rattle.md_page.proofs.Scanning.{closes, PicksBy}
+use Rattle.md_page.proofs.Plain.{and3, plain_attribute, void-name}
+use Rattle.md_page.proofs.Tags.{PicksBy, escaped-differs, name-differs, all-join}
+use Rattle.md_page.proofs.Tags.{attributes-differ, closes}
+use Rattle.md_page.proofs.Adding.{seen_new, is_addition_to}
+use Rattle.md_page.proofs.Rules.{IsRule}
 
 -- two tests that pass together
 pub both : (a b : Bool) → (a ≡ true → b ≡ true) → (b ≡ true → a ≡ true) → a ≡ b
@@ -53,36 +52,29 @@ found key (a ∷ x) = cond (bytes_eq key a.name) (Some a.value) (found key x)
 abbrev framed : List ℕ → List ℕ
 framed name = 32 ∷ (name ++ (61 ∷ []))
 
-tail_of : (x y : List ℕ) → 32 ∷ x ≡ 32 ∷ y → x ≡ y
-tail_of x y e = cc
-
 framed-eq : (key name : List ℕ) → bytes_eq (framed key) (framed name) ≡ bytes_eq key name
 framed-eq key name =
     both (bytes_eq (framed key) (framed name)) (bytes_eq key name)
     (λ h. (bytes_decides key name).1 (append_cancel_right key name (61 ∷ [])
-    (tail_of _ _ ((bytes_decides (framed key) (framed name)).0 h))))
+    (tail_of 32 32 _ _ ((bytes_decides (framed key) (framed name)).0 h))))
     (λ h. (bytes_decides (framed key) (framed name)).1 (ap framed ((bytes_decides key name).0 h)))
 
 pub value_of-found : (key : List ℕ) (x : List Attribute) → are_plain x ≡ true →
     value_of (framed key) (written_attributes x) ≡ found key x
 value_of-found key [] h = refl
 value_of-found key (a ∷ x) h =
-    let p = and_parts (is_name a.name) _ h in
-    let q = and_parts (is_escaped a.value) _ p.1 in
-    let r = and_parts _ (are_plain x) q.1 in
+    let p = plain_attribute a x h in
     let later = written_attributes x in
-    let named = (and_parts (is_nonempty a.name) (list_all is_name_byte a.name) p.0).1 in
     let front : list_all (differs 34) (framed a.name) ≡ true =
-    all-join (differs 34) a.name (61 ∷ []) (name-differs 34 a.name refl named) refl in
+    all-join (differs 34) a.name (61 ∷ [])
+    (name-differs 34 a.name refl (and_parts _ (list_all is_name_byte a.name) p.0).1) refl in
     ap (λ y. value_in (framed key) (parts_of (32 ∷ y))) (sym (append_assoc a.name (61 ∷ []) (34
     ∷ (a.value ++ (34 ∷ later)))))
     ∙ ap (value_in (framed key)) (parts-run (framed a.name) (a.value ++ (34 ∷ later)) front
     ∙ ap (λ y. framed a.name ∷ y)
-    (parts-run a.value later (escaped-differs 34 a.value (λ rest. refl) q.0)))
+    (parts-run a.value later (escaped-differs 34 a.value (λ rest. refl) p.1)))
     ∙ value_in-step (framed key) (framed a.name) a.value (parts_of later) (parts-filled later)
-    ∙ ap (λ c. cond c (Some a.value) (value_in (framed key) (parts_of later)))
-    (framed-eq key a.name)
-    ∙ ap (λ y. cond (bytes_eq key a.name) (Some a.value) y) (value_of-found key x r.1)
+    ∙ ap₂ (λ c y. cond c (Some a.value) y) (framed-eq key a.name) (value_of-found key x p.3)
 
 -- there is none exactly if no attribute has the name
 pub none-found : (key : List ℕ) (x : List Attribute) →
@@ -108,7 +100,7 @@ away-plain b rest p = elim (cases_eq b 13) [
   | inr ne ↦
       ap (λ c. away (read_back (cond c (cond (begins_with_line_feed rest) (with_line_feeds rest)
       (10 ∷ with_line_feeds rest)) (b ∷ with_line_feeds rest)))) (ne_eqb b 13 ne) ∙ ap away
-      (read_back-other b (with_line_feeds rest) (λ e. lie (sym p.no_and ∙ ap (λ c. c == 38) e)))
+      (read_back-other b (with_line_feeds rest) (plain-ne b p))
 ]
   where
     returned : (rest : List ℕ) → away (seen (13 ∷ rest)) ≡ away (13 ∷ rest)
@@ -130,22 +122,15 @@ none-away : (x : List Attribute) → list_any (λ a. bytes_eq (codes "href") a.n
     list_any leads_away (seen_attributes x) ≡ false
 none-away [] h = refl
 none-away (a ∷ x) h =
-    let p = or_parts (bytes_eq (codes "href") a.name)
-    (list_any (λ a. bytes_eq (codes "href") a.name) x) h in
-    or_from (bytes_eq (codes "href") a.name && away (seen a.value))
-    (list_any leads_away (seen_attributes x))
-    (ap (λ c. c && away (seen a.value)) p.0) (none-away x p.1)
+    let p = or_parts (bytes_eq (codes "href") a.name) _ h in
+    or_from _ _ (and_left _ _ p.0) (none-away x p.1)
 
 found-away : (x : List Attribute) → are_plain x ≡ true →
     option_map_or is_away (found (codes "href") x) false ≡ list_any leads_away (seen_attributes x)
 found-away [] h = refl
 found-away (a ∷ x) h =
-    let alone = list_any (λ later. bytes_eq a.name later.name) x in
-    let p = and_parts (is_name a.name) _ h in
-    let q = and_parts (is_escaped a.value) _ p.1 in
-    let r = and_parts (not alone) (are_plain x) q.1 in
-    by (bytes_eq (codes "href") a.name) refl (away-seen a.value q.0)
-    (not-true alone r.0) (found-away x r.1)
+    let p = plain_attribute a x h in
+    by (bytes_eq (codes "href") a.name) refl (away-seen a.value p.1) p.2 (found-away x p.3)
   where
     by : (c : Bool) → bytes_eq (codes "href") a.name ≡ c → away (seen a.value) ≡ is_away a.value →
         list_any (λ later. bytes_eq a.name later.name) x ≡ false →
@@ -154,10 +139,10 @@ found-away (a ∷ x) h =
         option_map_or is_away (cond c (Some a.value) (found (codes "href") x)) false
         ≡ ((c && away (seen a.value)) || list_any leads_away (seen_attributes x))
     by true is same none on =
-        let no_later : list_any leads_away (seen_attributes x) ≡ false =
-        none-away x (subst (λ n. list_any (λ later. bytes_eq n later.name) x ≡ false)
-        (sym ((bytes_decides (codes "href") a.name).0 is)) none) in
-        sym (ap (λ t. away (seen a.value) || t) no_later ∙ or_false (away (seen a.value)) ∙ same)
+        sym (ap (λ t. away (seen a.value) || t) (none-away x
+        (ap (λ n. list_any (λ later. bytes_eq n later.name) x)
+        ((bytes_decides (codes "href") a.name).0 is) ∙ none))
+        ∙ or_false (away (seen a.value)) ∙ same)
       where
         or_false : (b : Bool) → (b || false) ≡ b
         or_false true = refl
@@ -174,13 +159,9 @@ wants : (x : List Attribute) → are_plain x ≡ true → want_rel (written_attr
     ≡ (list_any leads_away (seen_attributes x)
     && not (has_attribute (codes "rel") (seen_attributes x)))
 wants x h =
-    ap (λ v. option_map_or is_away v false
-    && is_none (value_of (framed (codes "rel")) (written_attributes x)))
-    (value_of-found (codes "href") x h)
-    ∙ ap (λ t. t && is_none (value_of (framed (codes "rel")) (written_attributes x)))
-    (found-away x h) ∙ ap (λ v. list_any leads_away (seen_attributes x) && is_none v)
-    (value_of-found (codes "rel") x h)
-    ∙ ap (λ t. list_any leads_away (seen_attributes x) && t) (none-found (codes "rel") x)
+    ap₂ (λ v w. option_map_or is_away v false && is_none w)
+    (value_of-found (codes "href") x h) (value_of-found (codes "rel") x h)
+    ∙ ap₂ (λ s t. s && t) (found-away x h) (none-found (codes "rel") x)
 
 -- an `a`
 picks-a : (x : List Attribute) (r : List ℕ) → are_plain x ≡ true →
@@ -205,7 +186,7 @@ no-a (b ∷ c ∷ name) tail h ne f =
     ap (λ t. (97 == b) && (t && true)) (ne_eqb 32 c (λ e. lie (ap is_name_byte e ∙ q.0)))
     ∙ and_false (97 == b)
 
-pub link-picks : PicksBy picks_link gets_rel
+link-picks : PicksBy picks_link gets_rel
 link-picks = record {
   elements = λ name x r named plain.
       elim (cases_Bool (bytes_eq name (codes "a"))) [
@@ -213,28 +194,20 @@ link-picks = record {
             subst (λ n. picks_link (n ++ (written_attributes x ++ (62 ∷ r)))
             ≡ gets_rel (StartTag n (seen_attributes x) false))
             (sym ((bytes_decides name (codes "a")).0 is)) (picks-a x r plain)
-        | inr other ↦ (let p = and_parts (begins_with_letter name) _ named in
-            let q = and_parts (list_all is_name_byte name) _ p.1 in
+        | inr other ↦
+            (let p = and3 (begins_with_letter name) (list_all is_name_byte name) _ named in
             let tail = written_attributes x ++ (62 ∷ r) in
             ap (λ t. t && option_map_or want_rel (before_angle (drop 1 (name ++ tail))) false)
-            (no-a name tail q.0 other p.0)
-            ∙ sym (ap (λ c. c && (list_any leads_away (seen_attributes x)
-            && not (has_attribute (codes "rel") (seen_attributes x)))) other))
+            (no-a name tail p.1 other p.0) ∙ sym (and_left _ _ other))
       ];
   voids = λ name r h.
       not-true (picks_link (name ++ r)) (void-name (λ n. not (picks_link (n ++ r))) name refl h);
   ends = λ r. refl;
-}
-
-pub link-elements : PicksElements gets_rel
-link-elements = record {
+  void_tokens = λ name x h.
+      and_left _ _ (not-true _ (void-name (λ n. not (bytes_eq n (codes "a"))) name refl h));
+  end_tokens = λ name. refl;
   characters = λ b. refl;
-  ends = λ name. refl;
   end_of_file = refl;
-  voids = λ name x h.
-      ap (λ c. c && (list_any leads_away x && not (has_attribute (codes "rel") x)))
-      (not-true (bytes_eq name (codes "a"))
-      (void-name (λ n. not (bytes_eq n (codes "a"))) name refl h));
 }
 
 -- an attribute is among those that are seen exactly if it is among those that are written
@@ -243,49 +216,28 @@ pub same-names : (key : List ℕ) (x : List Attribute) →
 same-names key [] = refl
 same-names key (a ∷ x) = ap (λ t. bytes_eq key a.name || t) (same-names key x)
 
-pub link-may : (text : List ℕ) → MayAdd gets_rel (new_rel text)
-link-may text = record {
-  named = λ n. refl;
-  escaped = λ n. is_escaped-encoded text;
-  fresh = λ n name x passes.
-      (let p = and_parts (bytes_eq name (codes "a")) _ passes in
-      let q = and_parts (list_any leads_away (seen_attributes x)) _ p.1 in
-      same-names (codes "rel") x ∙ not-true (has_attribute (codes "rel") (seen_attributes x)) q.1);
-}
-
-link-listed : (text : List ℕ) (n : ℕ) (t : Token) → gets_rel t ≡ true →
-    is_addition_to t (seen_attribute (new_rel text n)) ≡ true
-link-listed text n (Doctype name) h = refl
-link-listed text n (Character b) h = refl
-link-listed text n (StartTag name x flag) h =
-    or_left (bytes_eq name (codes "a") && true) (is_one_of heading_names name && false)
-    (and_from (bytes_eq name (codes "a")) true (and_parts (bytes_eq name (codes "a")) _ h).0 refl)
-link-listed text n (EndTag name) h = refl
-link-listed text n EndOfFile h = refl
-
-pub link-rule : (text : List ℕ) → IsRule picks_link gets_rel (new_rel text)
-link-rule text = record {
-  picks_by = link-picks;
-  elements = link-elements;
-  may_add = link-may text;
-  listed = link-listed text;
-  links = λ n. refl;
-  images = λ n. refl;
-}
-
 -- what a tokenizer sees of an escaped text
 pub seen-encoded : (text : List ℕ) → seen (encoded true text) ≡ shown text
 seen-encoded text = seen-is (encoded true text) (is_escaped-encoded text)
     ∙ ap with_line_feeds (read_back-encoded text)
 
--- a text with these links, and its tokens
-pub link-written : (rel text : List ℕ) → IsWritten text →
-    IsWritten (with_new picks_link (new_rel rel) text)
-link-written rel text w = keeps picks_link gets_rel (new_rel rel) (link-rule rel) text w
-
-pub link-tokens : (rel text : List ℕ) → IsWritten text → (x : List Token) → IsTokenized text x →
-    IsTokenized (with_new picks_link (new_rel rel) text) (with_link_rel rel x)
-link-tokens rel text w x h =
-    subst (λ v. IsTokenized (with_new picks_link (new_rel rel) text)
-    (added gets_rel (λ n. record { name = codes "rel"; value = v }) 0 x)) (seen-encoded rel)
-    (becomes picks_link gets_rel (new_rel rel) (link-rule rel) text w x h)
+pub link-rule : (text : List ℕ) → IsRule picks_link gets_rel (new_rel text) (rel_of text)
+link-rule text = record {
+  picks_by = link-picks;
+  may_add = record {
+    named = λ n. refl;
+    escaped = λ n. is_escaped-encoded text;
+    fresh = λ n name x passes. same-names (codes "rel") x ∙ not-true _ (and3 (bytes_eq name
+        (codes "a")) (list_any leads_away (seen_attributes x)) _ passes).2;
+  };
+  seen_so = λ n. ap (λ v. record { name = codes "rel"; value = v }) (seen-encoded text);
+  listed = listed;
+  links = λ n. refl;
+  images = λ n. refl;
+}
+  where
+    listed : (n : ℕ) (t : Token) → gets_rel t ≡ true →
+        is_addition_to t (seen_new (new_rel text) n) ≡ true
+    listed n (StartTag name x flag) h =
+        or_left _ _ (and_from _ _ (and_parts (bytes_eq name (codes "a")) _ h).0 refl)
+    listed n t h = refl

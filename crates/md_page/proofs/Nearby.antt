@@ -1,13 +1,14 @@
 -- Quicker ways: a link that stays within the page, and a text without headings.
 use Rattle.std.specs.Prelude.{is_none, is_some}
 use Rattle.std.proofs.Common.{◌≡◌, ℕ, suc, ◌==◌, Bool, true, false, ◌&&◌, cond, List, [], ◌∷◌, ◌++◌}
-use Rattle.std.proofs.Common.{length, drop, map, Option, Some, None, option_map, Result, Ok, Err}
-use Rattle.std.proofs.Common.{IfOk, refl, sym, ap, ◌∙◌, subst, arith, codes, eqb}
+use Rattle.std.proofs.Common.{length, drop, map, Option, Some, None, option_map}
+use Rattle.std.proofs.Common.{refl, sym, ap, ◌∙◌, arith, codes}
 use Rattle.std.specs.Option.{option_map_or}
-use Rattle.std.proofs.lemmas.Bool.{and_parts, eqb-true}
+use Rattle.std.proofs.lemmas.Bool.{eqb-true}
 use Rattle.md_base.proofs.Lies.{lie}
 use Rattle.md_text.specs.References.{begins_with}
 use Rattle.md_text.specs.Html.{written_attributes}
+use Rattle.md_safe.proofs.EscapedCases.{begins-is}
 use Rattle.md_page.specs.Headings.{listed}
 use Rattle.md_page.specs.Scan.{before_angle, parts_of, value_in, onto_first, is_away, want_rel}
 use Rattle.md_page.specs.Scan.{picks_link, picks_heading, scanned, scanned_heading}
@@ -15,14 +16,6 @@ use Rattle.md_page.specs.Scan.{scanned_headings, with_new, new_id, new_rel, IsSc
 use Rattle.md_page.specs.declared.headings.Heading.{Heading}
 
 -- ---- links that stay
-
-begun : (p x : List ℕ) → begins_with p x ≡ true → p ++ drop (length p) x ≡ x
-begun [] x h = refl
-begun (b ∷ p) [] h = lie h
-begun (b ∷ p) (c ∷ x) h =
-    let parts = and_parts (eqb b c) (begins_with p x) h in
-    ap (λ n. n ∷ (p ++ drop (length p) x)) (eqb-true b c parts.0)
-    ∙ ap (λ y. c ∷ y) (begun p x parts.1)
 
 -- what attributes in such parts want
 abbrev want_of : List (List ℕ) → Bool
@@ -51,31 +44,25 @@ abbrev onto : List ℕ → Option (List ℕ) → Option (List ℕ)
 onto [] found = found
 onto (b ∷ x) found = option_map (λ later. b ∷ later) (onto x found)
 
-hash-angle : (found : Option (List ℕ)) →
-    option_map_or want_rel (onto (codes " href=\"#") found) false ≡ false
-hash-angle None = refl
-hash-angle (Some a) = hash-stays a
-
-nothing-angle : (found : Option (List ℕ)) →
-    option_map_or want_rel (onto (codes " href=\"\"") found) false ≡ false
-nothing-angle None = refl
-nothing-angle (Some a) = nothing-stays a
-
 pub stays-within : (tag : List ℕ) → begins_with (codes "a href=\"#") tag ≡ true →
     picks_link tag ≡ false
 stays-within tag is =
-    subst (λ t. picks_link t ≡ false) (begun (codes "a href=\"#") tag is) (of (drop 9 tag))
+    ap picks_link (begins-is (codes "a href=\"#") tag is) ∙ by (before_angle (drop 9 tag))
   where
-    of : (rest : List ℕ) → picks_link (codes "a href=\"#" ++ rest) ≡ false
-    of rest = hash-angle (before_angle rest)
+    by : (found : Option (List ℕ)) →
+        option_map_or want_rel (onto (codes " href=\"#") found) false ≡ false
+    by None = refl
+    by (Some a) = hash-stays a
 
 pub leads-nowhere : (tag : List ℕ) → begins_with (codes "a href=\"\"") tag ≡ true →
     picks_link tag ≡ false
 leads-nowhere tag is =
-    subst (λ t. picks_link t ≡ false) (begun (codes "a href=\"\"") tag is) (of (drop 9 tag))
+    ap picks_link (begins-is (codes "a href=\"\"") tag is) ∙ by (before_angle (drop 9 tag))
   where
-    of : (rest : List ℕ) → picks_link (codes "a href=\"\"" ++ rest) ≡ false
-    of rest = nothing-angle (before_angle rest)
+    by : (found : Option (List ℕ)) →
+        option_map_or want_rel (onto (codes " href=\"\"") found) false ≡ false
+    by None = refl
+    by (Some a) = nothing-stays a
 
 -- ---- a text without headings
 
@@ -91,27 +78,16 @@ none-picked add n m (b ∷ rest) h = by ((b == 60) && picks_heading rest) h (non
     by true e later = cc
     by false e later = ap (λ y. b ∷ y) (later e)
 
--- a copy of it is what is answered
-pub unheaded :
-    {S E : Type 0} (bytes_of : S → List ℕ) (headings : List Heading) (prefix text : List ℕ) →
-    (length headings == 0) ≡ true → map listed headings ≡ scanned_headings 0 text →
-    (r : Result S E) →
-    IfOk r (λ out. bytes_of out ≡ text) →
-    IfOk r (λ out. bytes_of out ≡ with_new picks_heading (new_id prefix) text)
-unheaded bytes_of (heading ∷ headings) prefix text none all r copied =
-    absurd (omega (arith, eqb-true _ 0 none))
-unheaded bytes_of [] prefix text none all (Err why) copied = tt
-unheaded bytes_of [] prefix text none all (Ok out) copied =
-    copied ∙ sym (none-picked (λ n. written_attributes (new_id prefix n ∷ [])) 0 0 text all)
+pub unheaded : (headings : List Heading) (prefix text : List ℕ) → (length headings == 0) ≡ true →
+    map listed headings ≡ scanned_headings 0 text →
+    text ≡ with_new picks_heading (new_id prefix) text
+unheaded (heading ∷ headings) prefix text none all = absurd (omega (arith, eqb-true _ 0 none))
+unheaded [] prefix text none all =
+    sym (none-picked (λ n. written_attributes (new_id prefix n ∷ [])) 0 0 text all)
 
 -- ---- a text without links that are picked
 
--- a copy of it is what is answered
-pub unlinked : {S E : Type 0} (bytes_of : S → List ℕ) (rel text : List ℕ) (found : Option ℕ) →
-    is_some found ≡ false → IsScannedTo picks_link text found → (r : Result S E) →
-    IfOk r (λ out. bytes_of out ≡ text) →
-    IfOk r (λ out. bytes_of out ≡ with_new picks_link (new_rel rel) text)
-unlinked bytes_of rel text (Some end) none scan r copied = lie (sym none)
-unlinked bytes_of rel text None none scan (Err why) copied = tt
-unlinked bytes_of rel text None none scan (Ok out) copied =
-    copied ∙ sym (scan (λ n. written_attributes (new_rel rel n ∷ [])) 0)
+pub unlinked : (rel text : List ℕ) (found : Option ℕ) → is_some found ≡ false →
+    IsScannedTo picks_link text found → text ≡ with_new picks_link (new_rel rel) text
+unlinked rel text (Some end) none scan = lie (sym none)
+unlinked rel text None none scan = sym (scan (λ n. written_attributes (new_rel rel n ∷ [])) 0)

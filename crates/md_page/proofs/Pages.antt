@@ -1,11 +1,12 @@
 -- A page can be read in one way: its title ends where the first `<` stands, and its body
 -- has one reading.
-use Rattle.std.proofs.Common.{◌≡◌, ℕ, true, false, List, ◌++◌, refl, sym, ap, ◌∙◌, codes}
+use Rattle.std.proofs.Common.{◌≡◌, ℕ, true, List, [], ◌++◌, refl, sym, ap, ap₂, ◌∙◌, codes}
 use Rattle.std.specs.List.{list_all}
 use Rattle.std.proofs.lemmas.Bool.{and_parts}
 use Rattle.std.proofs.lemmas.List.{append_assoc, append-nil, append_cancel_left}
 use Rattle.std.proofs.lemmas.List.{append_cancel_right}
-use Rattle.md_text.specs.Html.{Forest, Empty, Text, Void, Element, is_forest, written}
+use Rattle.md_base.proofs.Lies.{lie}
+use Rattle.md_text.specs.Html.{Forest, Empty, Text, is_forest, written}
 use Rattle.md_text.specs.References.{is_escaped}
 use Rattle.md_text.proofs.HtmlNames.{no_angle, escaped-angle}
 use Rattle.md_text.proofs.HtmlSplit.{split}
@@ -24,11 +25,7 @@ after_body = codes "</body></html>\n"
 
 regroup : (a t x b y z w : List ℕ) → (((a ++ t) ++ (x ++ (b ++ y))) ++ z) ++ w ≡ a
     ++ (t ++ (x ++ (b ++ (y ++ (z ++ w)))))
-regroup a t x b y z w =
-    append_assoc ((a ++ t) ++ (x ++ (b ++ y))) z w
-    ∙ append_assoc (a ++ t) (x ++ (b ++ y)) (z ++ w)
-    ∙ append_assoc a t ((x ++ (b ++ y)) ++ (z ++ w)) ∙ ap (λ r. a ++ (t ++ r))
-    (append_assoc x (b ++ y) (z ++ w) ∙ ap (λ r. x ++ r) (append_assoc b y (z ++ w)))
+regroup a t x b y z w = simp append_assoc
 
 -- a page from its start to its end
 pub page_written : (title body : Forest) →
@@ -43,59 +40,19 @@ title_tidy Empty e = refl
 title_tidy (Text bytes Empty) e =
     ap (λ t. list_all no_angle t) (append-nil bytes) ∙ escaped-angle bytes
     (and_parts _ (is_escaped bytes) (and_parts _ true (and_parts _ true e).0).0).1
-title_tidy (Text bytes (Text more rest)) e = absurd (lie e)
-  where
-    lie : false ≡ true → ⊥
-    lie e = cc
-title_tidy (Text bytes (Void name attributes rest)) e = absurd (lie e)
-  where
-    lie : false ≡ true → ⊥
-    lie e = cc
-title_tidy (Text bytes (Element name attributes children rest)) e = absurd (lie e)
-  where
-    lie : false ≡ true → ⊥
-    lie e = cc
-title_tidy (Void name attributes rest) e = absurd (lie e)
-  where
-    lie : false ≡ true → ⊥
-    lie e = cc
-title_tidy (Element name attributes children rest) e = absurd (lie e)
-  where
-    lie : false ≡ true → ⊥
-    lie e = cc
+title_tidy other e = lie e
 
 title_forest : (title : Forest) → is_title title ≡ true → is_forest title ≡ true
 title_forest Empty e = refl
 title_forest (Text bytes Empty) e = e
-title_forest (Text bytes (Text more rest)) e = absurd (lie e)
-  where
-    lie : false ≡ true → ⊥
-    lie e = cc
-title_forest (Text bytes (Void name attributes rest)) e = absurd (lie e)
-  where
-    lie : false ≡ true → ⊥
-    lie e = cc
-title_forest (Text bytes (Element name attributes children rest)) e = absurd (lie e)
-  where
-    lie : false ≡ true → ⊥
-    lie e = cc
-title_forest (Void name attributes rest) e = absurd (lie e)
-  where
-    lie : false ≡ true → ⊥
-    lie e = cc
-title_forest (Element name attributes children rest) e = absurd (lie e)
-  where
-    lie : false ≡ true → ⊥
-    lie e = cc
+title_forest other e = lie e
 
 -- two forests that are written alike are one
 same_forest : (f g : Forest) → is_forest f ≡ true → is_forest g ≡ true →
     written f ≡ written g → f ≡ g
 same_forest f g hf hg e =
-    one_reading (written g) f g (record { in_grammar = hf; written_so = e }) (record {
-      in_grammar = hg;
-      written_so = refl;
-    })
+    one_reading (written g) f g (record { in_grammar = hf; written_so = e })
+    (record { in_grammar = hg; written_so = refl })
 
 pub one_page : (text : List ℕ) (title body title' body' : Forest) → IsPage text title body →
     IsPage text title' body' → (title ≡ title') × (body ≡ body')
@@ -112,3 +69,17 @@ one_page text title body title' body' p q =
           (title_forest title' q.title_is_text) parts.0,
       same_forest body body' p.body_in_grammar q.body_in_grammar bodies,
     )
+
+-- a page that is appended part by part
+pub page_appended : (title body : List ℕ) {start one two three four five given inside : List ℕ} →
+    start ≡ [] → one ≡ start ++ before_title → two ≡ one ++ given → three ≡ two ++ before_body →
+    four ≡ three ++ inside → five ≡ four ++ after_body → given ≡ title → inside ≡ body →
+    five ≡ before_title ++ (title ++ (before_body ++ (body ++ after_body)))
+page_appended title body {given = given} {inside = inside} e0 e1 e2 e3 e4 e5 titled bodied =
+    e5 ∙ ap (λ x. x ++ after_body) (e4 ∙ ap (λ x. x ++ inside) (e3 ∙ ap (λ x. x ++ before_body)
+    (e2 ∙ ap (λ x. x ++ given) (e1 ∙ ap (λ x. x ++ before_title) e0))))
+    ∙ joined before_title given before_body inside after_body
+    ∙ ap₂ (λ t b. before_title ++ (t ++ (before_body ++ (b ++ after_body)))) titled bodied
+  where
+    joined : (a t b x c : List ℕ) → (((a ++ t) ++ b) ++ x) ++ c ≡ a ++ (t ++ (b ++ (x ++ c)))
+    joined a t b x c = simp append_assoc

@@ -9,14 +9,14 @@ use Rattle.md_text.proofs.EncodeLaws.{is_escaped-encoded}
 use Rattle.md_safe.specs.Token.{Token, Doctype, Character, StartTag, EndTag, EndOfFile}
 use Rattle.md_safe.specs.Tokenizer.{IsTokenized}
 use Rattle.md_safe.specs.Tokens.{tokens, seen, seen_attributes}
-use Rattle.md_safe.specs.PageTokens.{charset, page_text, page_tokens, plain_tag}
+use Rattle.md_safe.specs.PageTokens.{charset, page_text, plain_tag}
 use Rattle.md_safe.specs.Node.{InBody}
 use Rattle.md_safe.specs.Node.{Empty as NoNode}
 use Rattle.md_safe.proofs.Pages.{body-place, page-built, body_at, root_at}
 use Rattle.md_safe.proofs.TreeSteps.{is_character, seen-characters}
 use Rattle.md_page.specs.Added.{shown}
 use Rattle.md_page.specs.Built.{IsBuiltAsWritten, IsBuiltPageAround}
-use Rattle.md_page.specs.PageAround.{going_on, after_body, page_around}
+use Rattle.md_page.specs.PageAround.{going_on, after_body}
 use Rattle.md_page.specs.Pieces.{IsWritten}
 use Rattle.md_page.proofs.LinkRule.{seen-encoded}
 use Rattle.md_page.proofs.PieceRuns.{characters-on}
@@ -48,11 +48,6 @@ around_body title body =
     ∷ StartTag (codes "meta") (charset ∷ []) true ∷ plain_tag (codes "title") ∷ (map Character title
     ++ (EndTag (codes "title") ∷ EndTag (codes "head") ∷ plain_tag (codes "body") ∷ body))
 
-page-tokens : (title : List ℕ) (f : Forest) →
-    page_around title (tokens f ++ (EndOfFile ∷ [])) ≡ page_tokens title f
-page-tokens title f =
-    ap (around_body title) (on-forest f (EndOfFile ∷ []) after_body)
-
 pub page-around-built : (title body : List ℕ) → IsWritten body → IsBuiltAsWritten body →
     IsBuiltPageAround (shown title) body (page_text (encoded true title) body)
 page-around-built title body w b =
@@ -62,7 +57,8 @@ page-around-built title body w b =
     record {
       inside = f;
       written_so = b.written_so;
-      tokenized = subst (IsTokenized text) (page-tokens (shown title) f)
+      tokenized = subst (IsTokenized text)
+          (ap (around_body (shown title)) (on-forest f (EndOfFile ∷ []) after_body))
           (page-emitted title body w (tokens f ++ (EndOfFile ∷ [])) b.tokenized).tokenized;
       built = page-built (shown title) f
           (subst (λ t. list_all is_character t ≡ true) (seen-encoded title)

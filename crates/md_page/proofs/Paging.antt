@@ -1,5 +1,6 @@
 -- A page: its fixed parts step by step, its title in the RCDATA state, and its body by its pieces.
-use Rattle.std.proofs.Common.{◌≡◌, ℕ, Bool, true, List, [], ◌∷◌, ◌++◌, map, refl, sym, subst, codes}
+use Rattle.std.proofs.Common.{◌≡◌, ℕ, Bool, true, List, [], ◌∷◌, ◌++◌, map, refl, sym, ap₂, subst}
+use Rattle.std.proofs.Common.{codes}
 use Rattle.std.specs.List.{list_all}
 use Rattle.std.proofs.lemmas.Bool.{and_parts, and_from}
 use Rattle.md_text.specs.Encode.{encoded}
@@ -8,7 +9,7 @@ use Rattle.md_text.specs.Html.{Attribute}
 use Rattle.md_text.specs.Safe.{is_safe_link, is_safe_image}
 use Rattle.md_text.proofs.EncodeLaws.{is_escaped-encoded}
 use Rattle.md_safe.specs.Input.{with_line_feeds}
-use Rattle.md_safe.specs.Token.{Token, Doctype, Character, StartTag, EndTag, EndOfFile}
+use Rattle.md_safe.specs.Token.{Token, Character, StartTag, EndTag, EndOfFile}
 use Rattle.md_safe.specs.TokenizerStates.{Data, Rcdata}
 use Rattle.md_safe.specs.Tokenizer.{IsTokenized}
 use Rattle.md_safe.specs.Tokens.{seen}
@@ -71,39 +72,15 @@ page-runs title x e h =
 on-all : (p : Token → Bool) (x after : List Token) → list_all p x ≡ true → list_all p after ≡ true →
     list_all p (going_on x after) ≡ true
 on-all p [] after h k = refl
-on-all p (Doctype name ∷ x) after h k =
-    let q = and_parts (p (Doctype name)) (list_all p x) h in
-    and_from (p (Doctype name)) (list_all p (going_on x after)) q.0 (on-all p x after q.1 k)
-on-all p (Character b ∷ x) after h k =
-    let q = and_parts (p (Character b)) (list_all p x) h in
-    and_from (p (Character b)) (list_all p (going_on x after)) q.0 (on-all p x after q.1 k)
-on-all p (StartTag name attributes flag ∷ x) after h k =
-    let q = and_parts (p (StartTag name attributes flag)) (list_all p x) h in
-    and_from (p (StartTag name attributes flag)) (list_all p (going_on x after)) q.0
-    (on-all p x after q.1 k)
-on-all p (EndTag name ∷ x) after h k =
-    let q = and_parts (p (EndTag name)) (list_all p x) h in
-    and_from (p (EndTag name)) (list_all p (going_on x after)) q.0 (on-all p x after q.1 k)
 on-all p (EndOfFile ∷ x) after h k = k
+on-all p (t ∷ x) after h k =
+    let q = and_parts (p t) (list_all p x) h in
+    and_from _ _ q.0 (on-all p x after q.1 k)
 
 abbrev after_title : List Token → List Token
 after_title body =
     EndTag (codes "title") ∷ EndTag (codes "head") ∷ plain_tag (codes "body")
     ∷ going_on body after_body
-
-page-links : (title : List ℕ) (x : List Token) → list_all has_safe_links x ≡ true →
-    list_all has_safe_links (page_around title x) ≡ true
-page-links title x h =
-    all-append has_safe_links (map Character title) (after_title x)
-    (all-characters has_safe_links is_safe_link links-pass title)
-    (on-all has_safe_links x after_body h refl)
-
-page-images : (title : List ℕ) (x : List Token) → list_all has_safe_images x ≡ true →
-    list_all has_safe_images (page_around title x) ≡ true
-page-images title x h =
-    all-append has_safe_images (map Character title) (after_title x)
-    (all-characters has_safe_images is_safe_image images-pass title)
-    (on-all has_safe_images x after_body h refl)
 
 pub page-emitted : (title body : List ℕ) → IsWritten body → (x : List Token) → IsTokenized body x →
     IsSafePage (page_text (encoded true title) body) (page_around (shown title) x)
@@ -114,17 +91,20 @@ page-emitted title body w x h =
     let same : x ≡ all_tokens w.pieces = (attributed body w).only x h in
     let runs : IsTokenized text emits =
     subst (λ b. IsTokenized (page_text (encoded true title) b) emits) w.written_so
-    (subst (λ y. IsTokenized (page_text (encoded true title) (all_written w.pieces))
-    (page_around (shown title) y)) (sym same)
-    (subst (λ c. IsTokenized (page_text (encoded true title) (all_written w.pieces))
-    (page_around c (all_tokens w.pieces))) (seen-encoded title)
-    (page-runs (encoded true title) w.pieces (is_escaped-encoded title) w.sound))) in
+    (subst (IsTokenized (page_text (encoded true title) (all_written w.pieces)))
+    (ap₂ page_around (seen-encoded title) (sym same))
+    (page-runs (encoded true title) w.pieces (is_escaped-encoded title) w.sound)) in
     record {
       tokenized = runs;
       only = λ other k. one_run Data (with_line_feeds text) other emits k runs;
-      safe_links = page-links (shown title) x
-          (subst (λ y. list_all has_safe_links y ≡ true) (sym same) w.safe_links);
+      safe_links =
+          all-append has_safe_links (map Character (shown title)) (after_title x)
+          (all-characters has_safe_links is_safe_link links-pass (shown title))
+          (on-all has_safe_links x after_body
+          (subst (λ y. list_all has_safe_links y ≡ true) (sym same) w.safe_links) refl);
       safe_images =
-          page-images (shown title) x
-          (subst (λ y. list_all has_safe_images y ≡ true) (sym same) w.safe_images);
+          all-append has_safe_images (map Character (shown title)) (after_title x)
+          (all-characters has_safe_images is_safe_image images-pass (shown title))
+          (on-all has_safe_images x after_body
+          (subst (λ y. list_all has_safe_images y ≡ true) (sym same) w.safe_images) refl);
     }

@@ -2,9 +2,11 @@
 use Rattle.std.specs.Str.{bytes_eq}
 use Rattle.std.proofs.Common.{◌≡◌, ℕ, suc, MatchOption, ◌<◌, ◌+◌, ◌-◌, ◌==◌, Bool, true, false, not}
 use Rattle.std.proofs.Common.{cond, List, [], ◌∷◌, ◌++◌, length, get_or, take, drop, refl, sym, ap}
-use Rattle.std.proofs.Common.{◌∙◌, Option, Some, None, option_map, arith, inl, inr}
+use Rattle.std.proofs.Common.{◌∙◌, Option, Some, None, option_map, arith}
+use Rattle.std.proofs.Common.{append_assoc}
 use Rattle.std.specs.List.{list_all}
-use Rattle.std.proofs.lemmas.Bool.{and_parts, and_from, not-true, cases_Bool, eqb-true}
+use Rattle.std.proofs.lemmas.Bool.{and_parts, and_from, not-true, eqb-true}
+use Rattle.std.proofs.lemmas.Bool.{cond-true, false_from_ne_true}
 use Rattle.std.proofs.lemmas.List.{take-append-drop, drop_more, length-take, length-drop}
 use Rattle.std.proofs.lemmas.List.{get_or-take, take_rest}
 use Rattle.memchr.specs.Find.{IsFirstByte, is_byte}
@@ -12,6 +14,13 @@ use Rattle.md_base.proofs.Lies.{lie}
 use Rattle.md_safe.proofs.Steps.{past}
 use Rattle.md_page.specs.Scan.{differs, IsFirstOf, before_angle, parts_of, onto_first, value_in}
 use Rattle.md_page.specs.Scan.{value_of}
+
+-- what is written, and after it the result for the rest, stays the whole
+pub written-on : {A : Type 0} (out front later : List A) {out' all whole : List A} →
+    out' ≡ out ++ front → all ≡ front ++ later → out ++ all ≡ whole → out' ++ later ≡ whole
+written-on out front later first scan before =
+    ap (λ y. y ++ later) first ∙ append_assoc out front later ∙ ap (λ y. out ++ y) (sym scan)
+    ∙ before
 
 -- ---- the parts of attributes
 
@@ -35,8 +44,7 @@ pub parts-run : (x r : List ℕ) → list_all (differs 34) x ≡ true →
 parts-run [] r h = refl
 parts-run (b ∷ x) r h =
     let p = and_parts (differs 34 b) (list_all (differs 34) x) h in
-    past ([] ∷ parts_of (x ++ (34 ∷ r))) (not-true (b == 34) p.0)
-    (ap (onto_first b) (parts-run x r p.1))
+    past _ (not-true (b == 34) p.0) (ap (onto_first b) (parts-run x r p.1))
 
 pub value_in-step : (key name value : List ℕ) (parts : List (List ℕ)) → is_filled parts ≡ true →
     value_in key (name ∷ value ∷ parts) ≡ cond (bytes_eq key name) (Some value) (value_in key parts)
@@ -48,22 +56,20 @@ pub parts-none : (x : List ℕ) → list_all (differs 34) x ≡ true → parts_o
 parts-none [] h = refl
 parts-none (b ∷ x) h =
     let p = and_parts (differs 34 b) (list_all (differs 34) x) h in
-    past ([] ∷ parts_of x) (not-true (b == 34) p.0) (ap (onto_first b) (parts-none x p.1))
+    past _ (not-true (b == 34) p.0) (ap (onto_first b) (parts-none x p.1))
 
 pub before-run : (x r : List ℕ) → list_all (differs 62) x ≡ true →
     before_angle (x ++ (62 ∷ r)) ≡ Some x
 before-run [] r h = refl
 before-run (b ∷ x) r h =
     let p = and_parts (differs 62 b) (list_all (differs 62) x) h in
-    past (Some []) (not-true (b == 62) p.0)
-    (ap (option_map (λ later. b ∷ later)) (before-run x r p.1))
+    past _ (not-true (b == 62) p.0) (ap (option_map (λ later. b ∷ later)) (before-run x r p.1))
 
 pub before-none : (x : List ℕ) → list_all (differs 62) x ≡ true → before_angle x ≡ None
 before-none [] h = refl
 before-none (b ∷ x) h =
     let p = and_parts (differs 62 b) (list_all (differs 62) x) h in
-    past (Some []) (not-true (b == 62) p.0)
-    (ap (option_map (λ later. b ∷ later)) (before-none x p.1))
+    past _ (not-true (b == 62) p.0) (ap (option_map (λ later. b ∷ later)) (before-none x p.1))
 
 -- ---- the first of a byte
 
@@ -71,9 +77,8 @@ before-none (b ∷ x) h =
 pub around : (byte : ℕ) (text : List ℕ) (at : ℕ) → IsFirstOf byte text at →
     text ≡ take at text ++ (byte ∷ drop (at + 1) text)
 around byte text at h =
-    sym (ap (λ rest. take at text ++ rest)
-    (sym (ap (λ b. b ∷ drop (at + 1) text) h.is) ∙ sym (drop_more text at 0 h.within))
-    ∙ take-append-drop at text)
+    sym (take-append-drop at text) ∙ ap (λ rest. take at text ++ rest)
+    (drop_more text at 0 h.within ∙ ap (λ b. b ∷ drop (at + 1) text) h.is)
 
 -- where a test fails at each place, it fails of each byte
 pub nowhere : (byte : ℕ) (x : List ℕ) →
@@ -81,11 +86,7 @@ pub nowhere : (byte : ℕ) (x : List ℕ) →
     list_all (differs byte) x ≡ true
 nowhere byte [] f = refl
 nowhere byte (b ∷ x) f =
-    and_from (differs byte b) (list_all (differs byte) x)
-    (elim (cases_Bool (b == byte)) [
-      | inl is ↦ absurd (f 0 (omega arith) is)
-      | inr other ↦ ap not other
-    ])
+    and_from _ _ (ap not (false_from_ne_true _ (f 0 (omega arith))))
     (nowhere byte x (λ k l e. f (suc k) (omega arith) e))
 
 -- what a search finds
@@ -115,11 +116,10 @@ before-found x at h =
     ap before_angle (around 62 x at h) ∙ before-run (take at x) (drop (at + 1) x) h.before
 
 -- a value, if its name is the target
-pub value-found : (key rest name after value more : List ℕ) →
-    parts_of rest ≡ name ∷ parts_of after →
-    parts_of after ≡ value ∷ parts_of more → bytes_eq key name ≡ true →
+pub value-found : (key rest more : List ℕ) {name value : List ℕ} {parts : List (List ℕ)} →
+    parts_of rest ≡ name ∷ parts → parts ≡ value ∷ parts_of more → bytes_eq key name ≡ true →
     value_of key rest ≡ Some value
-value-found key rest name after value more e f same =
+value-found key rest more {name = name} {value = value} e f same =
     ap (value_in key) (e ∙ ap (λ y. name ∷ y) f)
     ∙ value_in-step key name value (parts_of more) (parts-filled more)
-    ∙ ap (λ c. cond c (Some value) (value_in key (parts_of more))) same
+    ∙ cond-true (bytes_eq key name) _ _ same

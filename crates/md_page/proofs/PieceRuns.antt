@@ -22,115 +22,72 @@ use Rattle.md_safe.proofs.ForestLeads.{good-line_feeds}
 use Rattle.md_page.specs.Pieces.{Piece, Words, Opening, Single, Closing, all_written, all_tokens}
 use Rattle.md_page.specs.Pieces.{are_sound, are_plain, is_tag_name, void_names, begins_with_words}
 use Rattle.md_page.specs.PageAround.{going_on}
-use Rattle.md_page.proofs.Plain.{good_name, good_attributes, void-name}
-
--- a tag's name and its attributes, and what follows them
-tag-line_feeds : (name : List ℕ) (x : List Attribute) (r : List ℕ) →
-    is_good_name name ≡ true → are_good x ≡ true →
-    name ++ attributes_before (lined x) (with_line_feeds r)
-    ≡ with_line_feeds (name ++ (written_attributes x ++ r))
-tag-line_feeds name x r g h =
-    ap (λ y. name ++ y) (sym (line_feeds-attributes x r h))
-    ∙ sym (good-line_feeds name (attributes_before x r) g)
-    ∙ ap (λ y. with_line_feeds (name ++ y)) (sym (written_attributes-before x r))
-
--- the same before what follows
-abbrev written_before : List Piece → List ℕ → List ℕ
-written_before [] r = r
-written_before (Words text ∷ more) r = text ++ written_before more r
-written_before (Opening name x ∷ more) r =
-    60 ∷ (name ++ (written_attributes x ++ (62 ∷ written_before more r)))
-written_before (Single name x ∷ more) r =
-    60 ∷ (name ++ (written_attributes x ++ (32 ∷ 47 ∷ 62 ∷ written_before more r)))
-written_before (Closing name ∷ more) r = 60 ∷ 47 ∷ (name ++ (62 ∷ written_before more r))
-
-before-written : (x : List Piece) (r : List ℕ) → all_written x ++ r ≡ written_before x r
-before-written [] r = refl
-before-written (Words text ∷ more) r =
-    append_assoc text (all_written more) r ∙ ap (λ y. text ++ y) (before-written more r)
-before-written (Opening name x ∷ more) r =
-    ap (λ y. 60 ∷ y) (append_assoc name (written_attributes x ++ (62 ∷ all_written more)) r
-    ∙ ap (λ y. name ++ y) (append_assoc (written_attributes x) (62 ∷ all_written more) r
-    ∙ ap (λ y. written_attributes x ++ (62 ∷ y)) (before-written more r)))
-before-written (Single name x ∷ more) r =
-    ap (λ y. 60 ∷ y)
-    (append_assoc name (written_attributes x ++ (32 ∷ 47 ∷ 62 ∷ all_written more)) r
-    ∙ ap (λ y. name ++ y) (append_assoc (written_attributes x) (32 ∷ 47 ∷ 62 ∷ all_written more) r
-    ∙ ap (λ y. written_attributes x ++ (32 ∷ 47 ∷ 62 ∷ y)) (before-written more r)))
-before-written (Closing name ∷ more) r =
-    ap (λ y. 60 ∷ 47 ∷ y) (append_assoc name (62 ∷ all_written more) r
-    ∙ ap (λ y. name ++ (62 ∷ y)) (before-written more r))
+use Rattle.md_page.proofs.Plain.{and3, good_name, good_attributes, void-name}
 
 -- after a text no line feed comes
-pub after_words : (x : List Piece) (r : List ℕ) → not (begins_with_words x) ≡ true →
-    begins_with_line_feed r ≡ false → begins_with_line_feed (written_before x r) ≡ false
+after_words : (x : List Piece) (r : List ℕ) → not (begins_with_words x) ≡ true →
+    begins_with_line_feed r ≡ false → begins_with_line_feed (all_written x ++ r) ≡ false
 after_words [] r h n = n
 after_words (Words text ∷ more) r h n = lie h
-after_words (Opening name attributes ∷ more) r h n = refl
-after_words (Single name attributes ∷ more) r h n = refl
-after_words (Closing name ∷ more) r h n = refl
+after_words x r h n = refl
+
+pub after_text : (x : List Piece) → not (begins_with_words x) ≡ true →
+    begins_with_line_feed (all_written x) ≡ false
+after_text x h =
+    ap begins_with_line_feed (sym (append-nil (all_written x))) ∙ after_words x [] h refl
 
 pub characters-on : (x : List ℕ) (more t : List Token) →
     going_on (map Character x ++ more) t ≡ map Character x ++ going_on more t
 characters-on [] more t = refl
 characters-on (b ∷ x) more t = ap (λ y. Character b ∷ y) (characters-on x more t)
 
-before-run : (x : List Piece) (r : List ℕ) (t : List Token) → are_sound x ≡ true →
-    begins_with_line_feed r ≡ false →
-    IsTokenized r t → IsTokenized (written_before x r) (going_on (all_tokens x) t)
-before-run [] r t h n k = k
-before-run (Words text ∷ more) r t h n k =
-    let p = and_parts (is_escaped text) _ h in
-    let q = and_parts (not (begins_with_words more)) (are_sound more) p.1 in
-    let later = written_before more r in
-    let on = going_on (all_tokens more) t in
-    along Data (with_line_feeds text ++ with_line_feeds later) (with_line_feeds (text ++ later))
-    (map Character (seen text) ++ on) (going_on (map Character (seen text) ++ all_tokens more) t)
-    (sym (line_feeds-append text later (after_words more r q.0 n)))
-    (sym (characters-on (seen text) (all_tokens more) t))
-    (text-runs (with_line_feeds text) (line_feeds-escaped text p.0) (with_line_feeds later) on
-    (before-run more r t q.1 n k))
-before-run (Opening name x ∷ more) r t h n k =
-    let p = and_parts (is_tag_name name) _ h in
-    let q = and_parts (are_plain x) (are_sound more) p.1 in
-    let good = good_name name p.0 in
-    let fine = good_attributes x q.0 in
-    let later = written_before more r in
-    let on = going_on (all_tokens more) t in
-    let out : List Token = StartTag name (seen_attributes x) false ∷ on in
-    along Data (60 ∷ (name ++ attributes_before (lined x) (62 ∷ with_line_feeds later)))
-    (60 ∷ with_line_feeds (name ++ (written_attributes x ++ (62 ∷ later)))) out out
-    (ap (λ y. 60 ∷ y) (tag-line_feeds name x (62 ∷ later) good fine)) refl
-    (element-runs name x (with_line_feeds later) on good fine (before-run more r t q.1 n k))
-before-run (Single name x ∷ more) r t h n k =
-    let p = and_parts (is_one_of void_names name) _ h in
-    let q = and_parts (are_plain x) (are_sound more) p.1 in
-    let good = void-name is_good_name name refl p.0 in
-    let fine = good_attributes x q.0 in
-    let later = written_before more r in
-    let on = going_on (all_tokens more) t in
-    let out : List Token = StartTag name (seen_attributes x) true ∷ on in
-    along Data (60 ∷ (name ++ attributes_before (lined x) (32 ∷ 47 ∷ 62 ∷ with_line_feeds later)))
-    (60 ∷ with_line_feeds (name ++ (written_attributes x ++ (32 ∷ 47 ∷ 62 ∷ later)))) out out
-    (ap (λ y. 60 ∷ y) (tag-line_feeds name x (32 ∷ 47 ∷ 62 ∷ later) good fine)) refl
-    (void-runs name x (with_line_feeds later) on good fine (before-run more r t q.1 n k))
-before-run (Closing name ∷ more) r t h n k =
-    let p = and_parts (is_tag_name name) (are_sound more) h in
-    let good = good_name name p.0 in
-    let later = written_before more r in
-    let on = going_on (all_tokens more) t in
-    let out : List Token = EndTag name ∷ on in
-    along Data (60 ∷ 47 ∷ (name ++ (62 ∷ with_line_feeds later)))
-    (60 ∷ 47 ∷ with_line_feeds (name ++ (62 ∷ later)))
-    out out (ap (λ y. 60 ∷ 47 ∷ y) (sym (good-line_feeds name (62 ∷ later) good))) refl
-    (end-runs name (with_line_feeds later) on good (before-run more r t p.1 n k))
+-- a tag from its name to its end, before more pieces and what follows them
+tag-line_feeds : (name : List ℕ) (x : List Attribute) (ends more r : List ℕ) →
+    is_good_name name ≡ true → are_good x ≡ true →
+    name ++ attributes_before (lined x) (with_line_feeds (ends ++ (more ++ r)))
+    ≡ with_line_feeds ((name ++ (written_attributes x ++ (ends ++ more))) ++ r)
+tag-line_feeds name x ends more r g h =
+    let later = ends ++ (more ++ r) in
+    let whole : (name ++ (written_attributes x ++ (ends ++ more))) ++ r
+    ≡ name ++ (written_attributes x ++ later) = simp append_assoc in
+    ap (λ y. name ++ y) (sym (line_feeds-attributes x later h))
+    ∙ sym (good-line_feeds name (attributes_before x later) g)
+    ∙ ap (λ y. with_line_feeds (name ++ y)) (sym (written_attributes-before x later))
+    ∙ sym (ap with_line_feeds whole)
 
 pub pieces-before : (x : List Piece) (r : List ℕ) (t : List Token) → are_sound x ≡ true →
     begins_with_line_feed r ≡ false → IsTokenized r t →
     IsTokenized (all_written x ++ r) (going_on (all_tokens x) t)
-pieces-before x r t h n k =
-    subst (λ y. IsTokenized y (going_on (all_tokens x) t)) (sym (before-written x r))
-    (before-run x r t h n k)
+pieces-before [] r t h n k = k
+pieces-before (Words text ∷ more) r t h n k =
+    let q = and3 (is_escaped text) _ (are_sound more) h in
+    along Data _ _ _ _ (sym (ap with_line_feeds (append_assoc text (all_written more) r)
+    ∙ line_feeds-append text (all_written more ++ r) (after_words more r q.1 n)))
+    (sym (characters-on (seen text) (all_tokens more) t))
+    (text-runs (with_line_feeds text) (line_feeds-escaped text q.0)
+    (with_line_feeds (all_written more ++ r)) (going_on (all_tokens more) t)
+    (pieces-before more r t q.2 n k))
+pieces-before (Opening name x ∷ more) r t h n k =
+    let q = and3 (is_tag_name name) (are_plain x) (are_sound more) h in
+    let good = good_name name q.0 in
+    let fine = good_attributes x q.1 in
+    along Data _ _ _ _
+    (ap (λ y. 60 ∷ y) (tag-line_feeds name x (62 ∷ []) (all_written more) r good fine)) refl
+    (element-runs name x _ _ good fine (pieces-before more r t q.2 n k))
+pieces-before (Single name x ∷ more) r t h n k =
+    let q = and3 (is_one_of void_names name) (are_plain x) (are_sound more) h in
+    let good = void-name is_good_name name refl q.0 in
+    let fine = good_attributes x q.1 in
+    along Data _ _ _ _ (ap (λ y. 60 ∷ y)
+    (tag-line_feeds name x (32 ∷ 47 ∷ 62 ∷ []) (all_written more) r good fine)) refl
+    (void-runs name x _ _ good fine (pieces-before more r t q.2 n k))
+pieces-before (Closing name ∷ more) r t h n k =
+    let q = and_parts (is_tag_name name) (are_sound more) h in
+    let good = good_name name q.0 in
+    along Data _ _ _ _ (ap (λ y. 60 ∷ 47 ∷ y)
+    (sym (ap with_line_feeds (append_assoc name (62 ∷ all_written more) r)
+    ∙ good-line_feeds name (62 ∷ (all_written more ++ r)) good))) refl
+    (end-runs name _ _ good (pieces-before more r t q.1 n k))
 
 -- in place of the end of file the end of file
 on-end : (x : List Piece) → going_on (all_tokens x) (EndOfFile ∷ []) ≡ all_tokens x
@@ -147,9 +104,3 @@ pieces-run x h =
     subst (λ y. IsTokenized y (all_tokens x)) (append-nil (all_written x))
     (subst (IsTokenized (all_written x ++ [])) (on-end x)
     (pieces-before x [] (EndOfFile ∷ []) h refl record { steps = 1; emits = refl }))
-
-pub after_text : (x : List Piece) → not (begins_with_words x) ≡ true →
-    begins_with_line_feed (all_written x) ≡ false
-after_text x h =
-    ap begins_with_line_feed (sym (append-nil (all_written x)) ∙ before-written x [])
-    ∙ after_words x [] h refl

@@ -8,8 +8,7 @@ pub returns-then-closes_heading : goal.returns-then-closes_heading
 returns-then-closes_heading c =
     let parts = c.in-Some.ensures.parts in
     text-ends c.args.digit (string_bytes c.loop-words.out) c.in-Some.words.now c.in-Some.tag.now
-    c.loop-words.rest.now (string_bytes c.push_lined.new.out) _ parts.0 parts.1
-    c.in_ok-push_lined.ensures
+    parts.0 parts.1 c.in_ok-push_lined.ensures
     (ap (closes_heading c.args.digit) (sym c.as_bytes.ensures.value) ∙ sym c.closes_heading.ensures
     ∙ c.if-closes_heading.true) c.loop-words.invariant.0
 
@@ -17,12 +16,10 @@ pub loop-words-preserved : goal.loop-words-preserved
 loop-words-preserved c =
     let parts = c.in-Some.ensures.parts in (
       text-turn c.args.digit (string_bytes c.loop-words.out) c.in-Some.words.now c.in-Some.tag.now
-          c.loop-words.rest.now (string_bytes c.push_lined.new.out)
-          c.past_angle-rest.result.now _ parts.0 parts.1
-          c.in_ok-push_lined.ensures
+          parts.0 parts.1 c.in_ok-push_lined.ensures
           (ap (closes_heading c.args.digit) (sym c.as_bytes.ensures.value)
-          ∙ sym c.closes_heading.ensures
-          ∙ c.if-closes_heading.false) c.past_angle-rest.ensures.value c.loop-words.invariant.0,
+          ∙ sym c.closes_heading.ensures ∙ c.if-closes_heading.false)
+          c.past_angle-rest.ensures.value c.loop-words.invariant.0,
       c.past_angle-rest.utf8,
     )
 

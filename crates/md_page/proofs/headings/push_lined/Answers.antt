@@ -8,10 +8,8 @@ pub loop-line-preserved : goal.loop-line-preserved
 loop-line-preserved c =
     let parts = c.in-Some.ensures.parts in (
       lined-turn (string_bytes c.loop-line.out) c.in-Some.line.now c.in-Some.after.now
-          c.loop-line.rest.now
-          (string_bytes c.push_str.new.self) (string_bytes c.push_line_feed.new.out) _
-          parts.0 parts.1
-          c.in_ok-push_str.ensures.bytes c.in_ok-push_line_feed.ensures c.loop-line.invariant.0,
+          parts.0 parts.1 c.in_ok-push_str.ensures.bytes c.in_ok-push_line_feed.ensures
+          c.loop-line.invariant.0,
       c.in-Some.ensures.texts.1,
     )
 

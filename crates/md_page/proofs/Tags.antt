@@ -1,0 +1,150 @@
+-- The tags of sound pieces: their tokens, and the bytes between `<` and `>`.
+use Rattle.std.proofs.Common.{◌≡◌, ℕ, Bool, true, false, not, ◌&&◌, List, [], ◌∷◌, ◌++◌, refl}
+use Rattle.std.proofs.Common.{sym, ap, ◌∙◌, append_assoc, codes}
+use Rattle.std.specs.List.{list_all}
+use Rattle.std.proofs.lemmas.Bool.{and_parts, and_from}
+use Rattle.std.proofs.lemmas.List.Folds.{list_all-append}
+use Rattle.md_base.proofs.Lies.{lie}
+use Rattle.md_text.specs.Bytes.{is_one_of}
+use Rattle.md_text.specs.References.{is_escaped, is_escaped_byte}
+use Rattle.md_text.specs.Html.{Attribute, written_attributes}
+use Rattle.md_text.proofs.HtmlRead.{passes_not}
+use Rattle.md_safe.specs.Token.{Token, TokenAttribute, Character, StartTag, EndTag, EndOfFile}
+use Rattle.md_safe.specs.Tokens.{seen_attributes}
+use Rattle.md_safe.proofs.Cases.{all-weaker}
+use Rattle.md_page.specs.Pieces.{Piece, Words, Opening, Single, Closing, all_written, all_tokens}
+use Rattle.md_page.specs.Pieces.{are_sound, are_plain, is_name_byte, is_tag_name, void_names}
+use Rattle.md_page.specs.Scan.{differs}
+use Rattle.md_page.proofs.Plain.{and3, plain_attribute, name_bytes, void-name}
+
+-- a tag that may be among sound pieces
+abbrev pub is_sound_tag : Piece → Bool
+is_sound_tag (Words text) = false
+is_sound_tag (Opening name x) = is_tag_name name && are_plain x
+is_sound_tag (Single name x) = is_one_of void_names name && are_plain x
+is_sound_tag (Closing name) = is_tag_name name
+
+-- the token of a tag
+abbrev pub token_of : Piece → Token
+token_of (Words text) = EndOfFile
+token_of (Opening name x) = StartTag name (seen_attributes x) false
+token_of (Single name x) = StartTag name (seen_attributes x) true
+token_of (Closing name) = EndTag name
+
+-- the bytes between a tag's `<` and its `>`
+abbrev pub inside : Piece → List ℕ
+inside (Words text) = []
+inside (Opening name x) = name ++ written_attributes x
+inside (Single name x) = name ++ (written_attributes x ++ (32 ∷ 47 ∷ []))
+inside (Closing name) = 47 ∷ name
+
+pub tag-written : (tag : Piece) (more : List Piece) → is_sound_tag tag ≡ true →
+    all_written (tag ∷ more) ≡ 60 ∷ (inside tag ++ (62 ∷ all_written more))
+tag-written (Words text) more h = lie h
+tag-written (Opening name x) more h = simp append_assoc
+tag-written (Single name x) more h = simp append_assoc
+tag-written (Closing name) more h = refl
+
+pub tag-tokens : (tag : Piece) (more : List Piece) → is_sound_tag tag ≡ true →
+    all_tokens (tag ∷ more) ≡ token_of tag ∷ all_tokens more
+tag-tokens (Words text) more h = lie h
+tag-tokens tag more h = refl
+
+pub tag-sound : (tag : Piece) (more : List Piece) → is_sound_tag tag ≡ true →
+    are_sound more ≡ true → are_sound (tag ∷ more) ≡ true
+tag-sound (Words text) more h later = lie h
+tag-sound (Closing name) more h later = and_from _ _ h later
+tag-sound tag more h later =
+    let p = and_parts _ _ h in
+    and_from _ _ p.0 (and_from _ _ p.1 later)
+
+-- tags are picked by their bytes as by their tokens, and each is the start tag of an element
+pub record PicksBy (picks : List ℕ → Bool) (test : Token → Bool) : Type 0 where
+  pub elements : (name : List ℕ) (x : List Attribute) (r : List ℕ) → is_tag_name name ≡ true →
+      are_plain x ≡ true →
+      picks (name ++ (written_attributes x ++ (62 ∷ r)))
+      ≡ test (StartTag name (seen_attributes x) false)
+  pub voids : (name r : List ℕ) → is_one_of void_names name ≡ true → picks (name ++ r) ≡ false
+  pub ends : (r : List ℕ) → picks (47 ∷ r) ≡ false
+  pub void_tokens : (name : List ℕ) (x : List TokenAttribute) → is_one_of void_names name ≡ true →
+      test (StartTag name x true) ≡ false
+  pub end_tokens : (name : List ℕ) → test (EndTag name) ≡ false
+  pub characters : (b : ℕ) → test (Character b) ≡ false
+  pub end_of_file : test EndOfFile ≡ false
+
+pub picks-tag : {picks : List ℕ → Bool} {test : Token → Bool} → PicksBy picks test →
+    (tag : Piece) (r : List ℕ) → is_sound_tag tag ≡ true →
+    picks (inside tag ++ (62 ∷ r)) ≡ test (token_of tag)
+picks-tag by (Words text) r h = lie h
+picks-tag {picks = picks} by (Opening name x) r h =
+    let p = and_parts (is_tag_name name) (are_plain x) h in
+    ap picks (append_assoc name (written_attributes x) (62 ∷ r)) ∙ by.elements name x r p.0 p.1
+picks-tag {picks = picks} by (Single name x) r h =
+    let void = (and_parts (is_one_of void_names name) (are_plain x) h).0 in
+    ap picks (append_assoc name (written_attributes x ++ (32 ∷ 47 ∷ [])) (62 ∷ r))
+    ∙ by.voids name _ void ∙ sym (by.void_tokens name (seen_attributes x) void)
+picks-tag by (Closing name) r h = by.ends (name ++ (62 ∷ r)) ∙ sym (by.end_tokens name)
+
+-- ---- bytes that aren't in tags
+
+pub escaped-differs : (n : ℕ) (x : List ℕ) → ((rest : List ℕ) → is_escaped_byte n rest ≡ false) →
+    is_escaped x ≡ true → list_all (differs n) x ≡ true
+escaped-differs n [] fails h = refl
+escaped-differs n (b ∷ rest) fails h =
+    let p = and_parts (is_escaped_byte b rest) (is_escaped rest) h in
+    and_from _ _ (ap not (passes_not (λ c. is_escaped_byte c rest) b n (fails rest) p.0))
+    (escaped-differs n rest fails p.1)
+
+pub name-differs : (n : ℕ) (x : List ℕ) → is_name_byte n ≡ false → list_all is_name_byte x ≡ true →
+    list_all (differs n) x ≡ true
+name-differs n x fails h =
+    all-weaker is_name_byte (differs n) (λ b own. ap not (passes_not is_name_byte b n fails own))
+    x h
+
+pub all-join : (p : ℕ → Bool) (x y : List ℕ) → list_all p x ≡ true → list_all p y ≡ true →
+    list_all p (x ++ y) ≡ true
+all-join p x y h k = list_all-append p x y ∙ and_from _ _ h k
+
+-- a byte that stands neither in names nor in escaped texts, and isn't a space, `=`, `"` or `/`
+pub record StandsOutside (n : ℕ) : Type 0 where
+  pub names : is_name_byte n ≡ false
+  pub escaped : (rest : List ℕ) → is_escaped_byte n rest ≡ false
+  pub marks : list_all (differs n) (codes " =\"/") ≡ true
+
+pub opens : StandsOutside 60
+opens = record { names = refl; escaped = λ rest. refl; marks = refl }
+
+pub closes : StandsOutside 62
+closes = record { names = refl; escaped = λ rest. refl; marks = refl }
+
+pub attributes-differ : (n : ℕ) (x : List Attribute) → StandsOutside n → are_plain x ≡ true →
+    list_all (differs n) (written_attributes x) ≡ true
+attributes-differ n [] o h = refl
+attributes-differ n (a ∷ x) o h =
+    let p = plain_attribute a x h in
+    let m = and3 (differs n 32) (differs n 61) _ o.marks in
+    let quote = (and_parts (differs n 34) _ m.2).0 in
+    and_from _ _ m.0 (all-join (differs n) a.name _ (name-differs n a.name o.names
+    (and_parts _ (list_all is_name_byte a.name) p.0).1)
+    (and_from _ _ m.1 (and_from _ _ quote (all-join (differs n) a.value _
+    (escaped-differs n a.value o.escaped p.1)
+    (and_from _ _ quote (attributes-differ n x o p.3))))))
+
+pub tag-differs : (n : ℕ) (tag : Piece) → StandsOutside n → is_sound_tag tag ≡ true →
+    list_all (differs n) (inside tag) ≡ true
+tag-differs n (Words text) o h = refl
+tag-differs n (Opening name x) o h =
+    let p = and_parts (is_tag_name name) (are_plain x) h in
+    all-join (differs n) name (written_attributes x)
+    (name-differs n name o.names (name_bytes name p.0)) (attributes-differ n x o p.1)
+tag-differs n (Single name x) o h =
+    let p = and_parts (is_one_of void_names name) (are_plain x) h in
+    let m = and3 (differs n 32) (differs n 61) _ o.marks in
+    all-join (differs n) name (written_attributes x ++ (32 ∷ 47 ∷ []))
+    (name-differs n name o.names (void-name (list_all is_name_byte) name refl p.0))
+    (all-join (differs n) (written_attributes x) (32 ∷ 47 ∷ []) (attributes-differ n x o p.1)
+    (and_from _ _ m.0 (and_parts (differs n 34) _ m.2).1))
+tag-differs n (Closing name) o h =
+    let m = and3 (differs n 32) (differs n 61) _ o.marks in
+    and_from _ _ (and_parts _ _ (and_parts (differs n 34) _ m.2).1).0
+    (name-differs n name o.names (name_bytes name h))
