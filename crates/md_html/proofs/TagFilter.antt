@@ -5,6 +5,7 @@ use Rattle.std.specs.Prelude.{if◌then◌else◌, ◌==◌, codes, find, bytes_
 use Rattle.std.specs.Option.{option_map_or}
 use Rattle.std.specs.List.{flat_map}
 use Rattle.std.proofs.lemmas.Bool.{true≢false}
+use Rattle.std.proofs.Math.Path.{fun_ext}
 use Rattle.md_base.specs.declared.event.Name.{Name}
 use Rattle.md_base.specs.declared.event.Name.TheVariants.{BlockQuote, HtmlFlowData, HtmlTextData}
 use Rattle.md_text.specs.Encode.{encoded}
@@ -117,29 +118,20 @@ ways_back-moot filter options identifier number (suc count) =
     ++ backreference options identifier number (suc count)))
     (ways_back-moot filter options identifier number count)
 
-items-moot :
-    (filter : Bool) (context : Context) (footnotes : List Footnote) (identifiers : List (List ℕ)) →
-    flat_map (item (under filter context) footnotes) identifiers
-    ≡ flat_map (item context footnotes) identifiers
-items-moot filter context footnotes [] = refl
-items-moot filter context footnotes (identifier ∷ identifiers) =
-    let number : ℕ = place_among (distinct context.calls) identifier in
-    let footnote = find (λ (f : Footnote). bytes_eq f.identifier identifier) footnotes in
-    ap (λ back. (Forced ∷ Text (codes "<li id=\"")
-    ∷ Text (id_of context.options (codes "fn-") identifier number) ∷ Text (codes "\">")
-    ∷ Forced ∷ (body (option_map_or (λ (f : Footnote). f.text) footnote []) back
-    ++ on_own_line (codes "</li>"))) ++ flat_map (item (under filter context) footnotes)
-    identifiers)
-    (ways_back-moot filter context.options identifier number (count_of context.calls identifier))
-    ∙ ap (λ ps. item context footnotes identifier ++ ps)
-    (items-moot filter context footnotes identifiers)
+item-moot :
+    (filter : Bool) (context : Context) (footnotes : List Footnote) (identifier : List ℕ) →
+    item (under filter context) footnotes identifier ≡ item context footnotes identifier
+item-moot filter context footnotes identifier =
+    rw (ways_back-moot filter context.options identifier
+    (place_among (distinct context.calls) identifier) (count_of context.calls identifier))
 
 section-moot : (filter : Bool) (context : Context) (footnotes : List Footnote) →
     section (under filter context) footnotes ≡ section context footnotes
 section-moot filter context footnotes =
-    ap (λ ps. when (not (length context.calls == 0)) (section_start context.options
-    ++ (ps ++ (Forced ∷ Text (codes "</ol>") ∷ Forced ∷ Text (codes "</section>") ∷ Forced ∷ []))))
-    (items-moot filter context footnotes (distinct context.calls))
+    ap (λ (of : List ℕ → List Piece). when (not (length context.calls == 0))
+    (section_start context.options ++ (flat_map of (distinct context.calls)
+    ++ (Forced ∷ Text (codes "</ol>") ∷ Forced ∷ Text (codes "</section>") ∷ Forced ∷ []))))
+    (fun_ext (item-moot filter context footnotes))
 
 -- the text of what a document means
 abbrev text_by : Context → Outcome → List ℕ
