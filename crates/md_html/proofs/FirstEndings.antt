@@ -114,8 +114,12 @@ or_else_none (Some o) = refl
 module _ (document : Forest) (events : List Event) (flat : flatten document ≡ events) where
   of_document : Outcome events (positions_of document) (first_ending document)
   of_document =
-      rw (append-nil (flatten document), append-nil (positions_of document),
-      or_else_none (first_ending document), flat) at
+      rw (
+        append-nil (flatten document),
+        append-nil (positions_of document),
+        or_else_none (first_ending document),
+        flat,
+      ) at
       (outcome document [] [] None (inl (refl, refl)))
 
   pub ending-none : first_index events ≡ None → first_ending document ≡ None

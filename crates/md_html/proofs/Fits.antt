@@ -96,8 +96,10 @@ fits-over bytes last (Node name start end children rest) captured tail more f =
     let inner : ℕ = if captures name then suc captured else captured in
     let after = fits-over bytes last rest captured tail more f in
     let left = exits-so (captures name) name end captured here behind behind_seen refl after in
-    rw (append_assoc (flatten children) (exiting name end ∷ flatten rest) tail,
-    append_assoc seen (here ∷ noticed bytes last rest) more) (and_from
+    rw (
+      append_assoc (flatten children) (exiting name end ∷ flatten rest) tail,
+      append_assoc seen (here ∷ noticed bytes last rest) more,
+    ) (and_from
     (may_end (entering name start) captured)
     (fits (passes (entering name start) here.inside) (captured_after (entering name start) captured)
     within within_seen)

@@ -15,7 +15,7 @@ use Rattle.md_printer.specs.declared.context.Context.{Context as Supplied}
 use Rattle.md_html.specs.Windows.{window}
 use Rattle.md_html.specs.Stepping.{Follows, Goes}
 use Rattle.md_html.specs.Fits.{fits}
-use Rattle.md_html.specs.Printed.{text_of, IsPrinted, IsPrintedOver, IsRun, IsRunOver}
+use Rattle.md_html.specs.Printed.{IsPrinted, IsPrintedOver, IsRun, IsRunOver}
 use Rattle.md_html.proofs.Windows.{windows-all, window-end}
 use Rattle.md_html.proofs.FirstText.{outermost, laid-grows, run-grows}
 use Rattle.md_html.proofs.Fits.{fits-all}

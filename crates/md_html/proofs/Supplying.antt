@@ -9,7 +9,7 @@ use Rattle.md_base.specs.Reference.{name_table}
 use Rattle.md_base.specs.Tree.{Forest, flatten}
 use Rattle.md_text.specs.declared.options.CompileOptions.{CompileOptions}
 use Rattle.md_meaning.specs.Meaning.{meaning, ending_at}
-use Rattle.md_meaning.specs.Meaning.At.{Defined, Context, Target}
+use Rattle.md_meaning.specs.Meaning.At.{Defined, Context}
 use Rattle.md_meaning.specs.Meaning.Finds.{first_ending}
 use Rattle.md_tree.specs.Grammar.{IsChecked, IsGrammatical, IsReadAs}
 use Rattle.md_steps.specs.Run.{defined, context_alone, printed}
@@ -17,7 +17,7 @@ use Rattle.md_steps.specs.Steps.{nowhere}
 use Rattle.md_facts.proofs.FoundLemmas.{grammatical-there}
 use Rattle.md_printer.specs.Supplies.{Supplies, target_at}
 use Rattle.md_printer.specs.declared.context.Context.{Context as Supplied}
-use Rattle.md_html.specs.Printed.{AreTargets, IsMeant, IsPrinted, IsPrintedOver, text_of}
+use Rattle.md_html.specs.Printed.{IsMeant, IsPrinted, IsPrintedOver, text_of}
 use Rattle.md_html.specs.Within.{IsLonger}
 
 none-led : (place : Option ℕ) → target_at [] place ≡ nowhere

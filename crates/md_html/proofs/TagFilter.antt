@@ -1,8 +1,7 @@
 -- Where HTML is escaped the tag filter changes no meaning.
 use Rattle.std.proofs.Common.{◌≡◌, ℕ, Bool, true, false, ◌&&◌, not, zero, suc, List, [], ◌∷◌, ◌++◌}
 use Rattle.std.proofs.Common.{length, refl, ap, ◌∙◌}
-use Rattle.std.specs.Prelude.{if◌then◌else◌, ◌==◌, codes, find, bytes_eq}
-use Rattle.std.specs.Option.{option_map_or}
+use Rattle.std.specs.Prelude.{if◌then◌else◌, ◌==◌, codes}
 use Rattle.std.specs.List.{flat_map}
 use Rattle.std.proofs.lemmas.Bool.{true≢false}
 use Rattle.std.proofs.Math.Path.{fun_ext}
@@ -19,14 +18,14 @@ use Rattle.md_meaning.specs.Meaning.Inherited.{inside, outermost}
 use Rattle.md_tree.specs.Rules.{place}
 use Rattle.md_meaning.specs.Meaning.Finds.{first_ending}
 use Rattle.md_meaning.specs.Meaning.{meaning, ending_at}
-use Rattle.md_meaning.specs.Meaning.Layout.{Piece, Text, Forced, layout, when, on_own_line}
+use Rattle.md_meaning.specs.Meaning.Layout.{Piece, Text, Forced, layout, when}
 use Rattle.md_meaning.specs.Meaning.At.{Context, Defined, Footnote, At, Before, text_in}
 use Rattle.md_meaning.specs.Meaning.Before.{nothing_before, before_children}
 use Rattle.md_meaning.specs.Meaning.Spans.{html}
 use Rattle.md_meaning.specs.Meaning.Means.{prints}
 use Rattle.md_meaning.specs.Meaning.Nodes.{Outcome, outcome, node, both, continued, before_next}
 use Rattle.md_meaning.specs.Meaning.Footnotes.{distinct, count_of, backreference, backreferences}
-use Rattle.md_meaning.specs.Meaning.Footnotes.{body, place_among, id_of, item, section_start}
+use Rattle.md_meaning.specs.Meaning.Footnotes.{place_among, item, section_start}
 use Rattle.md_meaning.specs.Meaning.Footnotes.{section}
 
 -- the options with the tag filter on or off

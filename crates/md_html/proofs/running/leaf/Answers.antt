@@ -1,6 +1,5 @@
 -- A node whose exit comes right after its entry has no children.
-use Rattle.std.proofs.Common.{refl, rules, subst, sym}
-use Rattle.std.specs.Prelude.{Result, Ok, Err, IfOk}
+use Rattle.std.proofs.Common.{refl, subst, sym}
 use Rattle.md_tree.specs.Texts.{EntersAt, ExitsAt}
 use Rattle.md_facts.specs.NodeFacts.{IsNoticedAt}
 use Rattle.md_facts.proofs.EndLemmas.{one-more}
