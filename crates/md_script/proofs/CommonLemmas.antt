@@ -1,14 +1,11 @@
 -- Names and numbers at the front of a text, where sixteen bytes are compared at once.
 use Rattle.std.proofs.Common.{◌≡◌, ℕ, zero, suc, ◌+◌, ◌-◌, ◌<◌, ◌≤◌, Bool, true, false, not, cond}
-use Rattle.std.proofs.Common.{◌&&◌, ◌||◌, leb, List, [], ◌∷◌, ◌++◌, map, length, take, drop, get_or}
+use Rattle.std.proofs.Common.{List, [], ◌∷◌, ◌++◌, map, length, take, drop, get_or}
 use Rattle.std.proofs.Common.{Option, Some, None, refl, sym, ap, ◌∙◌, arith, subst, codes, bytes_eq}
 use Rattle.std.specs.Prelude.{nat_le, option_map, find}
 use Rattle.std.specs.List.{before_first, list_all, list_any, slice_get}
-use Rattle.std.specs.Char.{is_ascii_digit}
-use Rattle.std.specs.Str.{all_ascii_digits}
-use Rattle.std.specs.Str.Parse.{digits_value}
-use Rattle.std.proofs.lemmas.Bool.{and_parts, leb-true, le-leb, eqb-true, ne_eqb, not-true}
-use Rattle.std.proofs.lemmas.List.{take-append-drop, length-take-le, take_rest}
+use Rattle.std.proofs.lemmas.Bool.{and_parts, eqb-true, not-true}
+use Rattle.std.proofs.lemmas.List.{take-append-drop, take_rest}
 use Rattle.std.proofs.lemmas.List.Folds.{list_any-append}
 use Rattle.std.proofs.lemmas.Option.{slice_get-map}
 use Rattle.std.proofs.lemmas.Slice.Eq.{bytes_eq-Decides}
@@ -18,7 +15,7 @@ use Rattle.md_base.specs.declared.event.Point.{Point}
 use Rattle.md_base.specs.declared.event.Name.TheVariants.{Other}
 use Rattle.md_base.specs.EventNames.{event_names}
 use Rattle.md_base.specs.Table.{listed}
-use Rattle.md_script.specs.Line.{◌>>=◌, is_space, is_line_feed, kind_of, otherwise, other_name}
+use Rattle.md_script.specs.Line.{◌>>=◌, is_space, kind_of, otherwise, other_name}
 use Rattle.md_script.specs.Line.{name_of}
 use Rattle.md_script.specs.Number.{number_of}
 use Rattle.md_script.specs.CommonName.{IsFirstSpace, spelled, named, is_full, AreRows}

@@ -1,12 +1,10 @@
 -- A valid line is one step of progress; the line that ends the script, an invalid one or the
 -- input's end decides the result. The search alone doesn't derive the meaning of all lines from the
 -- last one.
-use Rattle.std.proofs.Common.{rules, ◌≡◌, ℕ, ◌+◌, ◌++◌, ◌∷◌, [], List, true, cond, refl, sym, ◌∙◌}
-use Rattle.std.proofs.Common.{subst, arith, length, option_to_list, is_some}
+use Rattle.std.proofs.Common.{rules, ◌≡◌, ℕ, ◌+◌, List, refl, sym, ◌∙◌}
+use Rattle.std.proofs.Common.{subst, arith, length}
 use Rattle.std.specs.Borrow.{Bor}
-use Rattle.std.proofs.lemmas.List.{length-append, length-map}
-use Rattle.md_base.specs.declared.event.Event.{Event}
-use Rattle.md_script.specs.Line.{event_of}
+use Rattle.std.proofs.lemmas.List.{length-map}
 use Rattle.md_script.specs.Setting.{texts_of, HasOptions}
 use Rattle.md_script.specs.Script.{Explains}
 use Rattle.md_script.specs.declared.error.RunError.TheVariants.{Line}
