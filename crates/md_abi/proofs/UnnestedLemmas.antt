@@ -14,7 +14,6 @@ use Rattle.md_html.specs.declared.unnested.UnnestedError.{UnnestedError}
 use Rattle.md_html.specs.declared.unnested.UnnestedError.TheVariants as unnested
 use Rattle.md_abi.specs.Options.{KeepsImages}
 use Rattle.md_abi.specs.Failures.{about, answer_of}
-use Rattle.md_abi.specs.Refusals.{refusal_of}
 use Rattle.md_abi.specs.Unnested.{IsUnnestedText, IsNestedIn, IsOfUnnested}
 use Rattle.md_abi.specs.UnnestedFailures.{unnested_failure_of, answer_of_unnested}
 use Rattle.md_abi.specs.UnnestedFailures.{IsCompiledUnnested, IsUnnestedFault, ExplainsUnnested}
@@ -23,7 +22,6 @@ use Rattle.md_abi.specs.declared.answer.Answer.{Answer}
 use Rattle.md_abi.specs.declared.event.CEvent.{CEvent}
 use Rattle.md_abi.specs.declared.reference.CReference.{CReference}
 use Rattle.md_abi.specs.declared.option.COptions.{COptions}
-use Rattle.md_abi.specs.declared.refusal.Refusal.{Refusal}
 use Rattle.md_abi.specs.declared.refusal.Refusal.TheVariants as refusal
 use Rattle.md_abi.specs.declared.unnested.UnnestedFailure.{UnnestedFailure}
 use Rattle.md_abi.specs.declared.unnested.UnnestedFailure.TheVariants.{Nested, Refused}

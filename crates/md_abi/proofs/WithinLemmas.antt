@@ -1,7 +1,7 @@
 -- From the compiler's promises within limits to those about C's result and its answer.
 use Rattle.std.proofs.Common.{◌≡◌, inl, inr, ℕ, ◌<◌, ◌≤◌, List, [], ◌∷◌, map, Some}
 use Rattle.std.proofs.Common.{Result, Ok, Err}
-use Rattle.std.proofs.Common.{IfOk, IfErr, OnOk, refl, sym, ap, ◌∙◌, subst, arith}
+use Rattle.std.proofs.Common.{IfOk, IfErr, OnOk, refl, sym, ap, ◌∙◌, arith}
 use Rattle.std.specs.Borrow.{Bor}
 use Rattle.md_base.specs.Reference.{name_table}
 use Rattle.md_base.specs.declared.event.Event.{Event}
