@@ -172,13 +172,17 @@ module _ (events : List CEvent) (bytes : List ℕ) (options : COptions)
     pub no_name : answer.status ≡ 4 → IsFirstWithout reference_of names answer.index
     pub no_option : answer.status ≡ 5 → StandsForNone options answer.index
 
-  says : (why : Failure) → Explains events bytes options names why → Says (answer_of why)
-  says failure.Memory h = record {
-    refused = never 7 2 refl;
-    no_event = never 7 3 refl;
-    no_name = never 7 4 refl;
-    no_option = never 7 5 refl;
+  -- another status says none of this
+  pub says_nothing : (answer : Answer) → 5 < answer.status → Says answer
+  says_nothing answer many = record {
+    refused = λ is. absurd (omega (arith, is, many));
+    no_event = λ is. absurd (omega (arith, is, many));
+    no_name = λ is. absurd (omega (arith, is, many));
+    no_option = λ is. absurd (omega (arith, is, many));
   }
+
+  says : (why : Failure) → Explains events bytes options names why → Says (answer_of why)
+  says failure.Memory h = says_nothing (answer_of failure.Memory) (omega arith)
   says (failure.Event index) h = record {
     refused = never 3 2 refl;
     no_event = λ _. h;

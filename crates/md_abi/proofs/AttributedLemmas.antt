@@ -1,8 +1,8 @@
 -- From the promises about a safe text and its attributes to those about C's result.
 use Rattle.std.proofs.Common.{◌≡◌, ℕ, ◌≤◌, Bool, true, false, cond, eqb, List, [], ◌∷◌, ◌++◌}
-use Rattle.std.proofs.Common.{length, take, drop, Option, Some, None, Result, Ok, Err, IfOk, IfErr}
+use Rattle.std.proofs.Common.{length, take, drop, Option, Some, None, Result, Ok, Err, IfOk}
 use Rattle.std.proofs.Common.{refl, sym, ap, ◌∙◌, subst, arith}
-use Rattle.std.specs.Prelude.{IsTrue, IsErrAnd, option_map, option_and_then, string_bytes}
+use Rattle.std.specs.Prelude.{IsTrue, option_map, option_and_then, string_bytes}
 use Rattle.std.proofs.lemmas.Bool.{eqb-true}
 use Rattle.std.proofs.lemmas.List.{length-append, take-append-le, drop-append-le, take_all}
 use Rattle.std.proofs.lemmas.List.{drop_all}
@@ -38,7 +38,6 @@ use Rattle.md_abi.specs.declared.reference.CReference.{CReference}
 use Rattle.md_abi.specs.declared.option.CText.{CText}
 use Rattle.md_abi.specs.declared.option.COptions.{COptions}
 use Rattle.md_abi.specs.declared.attributes.CAttributes.{CAttributes}
-use Rattle.md_abi.specs.declared.refusal.Refusal.{Refusal}
 use Rattle.md_abi.proofs.GivenLemmas.{reported_of}
 
 -- ---- safe options of C encode safe options
@@ -210,15 +209,8 @@ made_text events bytes options names attributes rel prefix plain whole start giv
 -- ---- refusals
 
 -- the error of a safe text
-pub safe_reported : {T : Type 0} (given : Handed) (options : CompileOptions) (why : SafeError)
-    (r : Result T Refusal) →
-    IsErrAnd r (λ made. made ≡ refusal_of why) → IsRefusedFor options why →
-    OfCompile (IsRefusal given) why → IfErr r (IsRefusalFor given options)
-safe_reported given options why (Ok x) same unsafe refused = tt
-safe_reported given options why (Err made) same unsafe refused =
-    subst (IsRefusalFor given options) (sym same) (of why unsafe refused)
-  where
-    of : (why : SafeError) → IsRefusedFor options why → OfCompile (IsRefusal given) why →
-        IsRefusalFor given options (refusal_of why)
-    of wrong.Options unsafe refused = unsafe
-    of (wrong.Compile cause) unsafe refused = reported_of given cause refused
+pub safe_fault_of : (given : Handed) (options : CompileOptions) (why : SafeError) →
+    IsRefusedFor options why → OfCompile (IsRefusal given) why →
+    IsRefusalFor given options (refusal_of why)
+safe_fault_of given options wrong.Options unsafe refused = unsafe
+safe_fault_of given options (wrong.Compile cause) unsafe refused = reported_of given cause refused

@@ -173,10 +173,8 @@ pub reported_of : (given : Handed) (why : CompileError) → IsRefusal given why 
 reported_of given refusal.Memory h = tt
 reported_of given (refusal.Event index rule) h = h
 
--- what the conversion of a refusal gives
-pub reported : {T : Type 0} (given : Handed) (why : CompileError) (r : Result T Failure) →
-    IsRefusal given why →
-    IsErrAnd r (λ made. made ≡ failure_of why) → IfErr r (IsRefusalOf given)
-reported given why (Ok x) refused is = tt
-reported given why (Err made) refused is =
-    subst (IsRefusalOf given) (sym is) (reported_of given why refused)
+-- what the conversion of an error gives
+pub reported : {T E W : Type 0} (claim : E → Type 0) (of : W → E) (why : W) (r : Result T E) →
+    claim (of why) → IsErrAnd r (λ made. made ≡ of why) → IfErr r claim
+reported claim of why (Ok x) holds is = tt
+reported claim of why (Err made) holds is = subst claim (sym is) holds

@@ -5,11 +5,6 @@ use Rattle.md_abi.specs.Options.{KeepsImages}
 use Rattle.md_abi.specs.Attributes.{StandsForNoAttribute}
 use Rattle.md_abi.specs.Failures.{answer_of, about}
 use Rattle.md_abi.specs.Refusals.{answer_of_refusal, ExplainsRefusal}
-use Rattle.md_abi.specs.Events.{event_of}
-use Rattle.md_abi.specs.References.{reference_of}
-use Rattle.md_abi.specs.Standing.{IsFirstWithout}
-use Rattle.md_abi.specs.Options.{StandsForNone}
-use Rattle.md_abi.specs.Rendered.{IsRefusedBy}
 use Rattle.md_abi.specs.Buffer.{HandsOver, IsHandedOver, IsListHandedOver}
 use Rattle.md_abi.specs.Answers.{IsOfAttributed}
 use Rattle.md_abi.specs.declared.answer.Answer.{Answer}
@@ -20,7 +15,8 @@ use Rattle.md_abi.specs.declared.attributes.CAttributes.{CAttributes}
 use Rattle.md_abi.specs.declared.refusal.Refusal.{Refusal}
 use Rattle.md_abi.specs.declared.refusal.Refusal.TheVariants as refusal
 use Rattle.md_abi.proofs.AnswerLemmas.{never, handed_over, failure_hands_over, failed}
-use Rattle.md_abi.proofs.AnswerLemmas.{failure_of_compile, failure_says}
+use Rattle.md_abi.proofs.AnswerLemmas.{failure_of_compile, failure_says, Says}
+use Rattle.md_abi.proofs.AnswerLemmas.{says_nothing, text_says}
 
 pub list_handed : (claim : ℕ → List ℕ → Type 0) (whole : List ℕ) (start : ℕ)
     (old new : List ℕ) (answer : Answer) →
@@ -137,10 +133,8 @@ module _ (events : List CEvent) (bytes : List ℕ) (options : COptions) (names :
 
   -- what each status says
   pub record SaysRefusal (answer : Answer) : Type 0 where
-    pub refused : answer.status ≡ 2 → IsRefusedBy events bytes names answer.index answer.rule
-    pub no_event : answer.status ≡ 3 → IsFirstWithout event_of events answer.index
-    pub no_name : answer.status ≡ 4 → IsFirstWithout reference_of names answer.index
-    pub no_option : answer.status ≡ 5 → StandsForNone options answer.index
+    pub plain : Says events bytes options names answer
+    pub open plain use *
     pub unsafe_options : answer.status ≡ 8 → KeepsImages options → ⊥
     pub no_attribute : answer.status ≡ 9 → StandsForNoAttribute attributes answer.index
 
@@ -151,18 +145,12 @@ module _ (events : List CEvent) (bytes : List ℕ) (options : COptions) (names :
       of : (why : Refusal) → ExplainsRefusal events bytes options names attributes why →
           SaysRefusal (answer_of_refusal why)
       of refusal.Unsafe h = record {
-        refused = never 8 2 refl;
-        no_event = never 8 3 refl;
-        no_name = never 8 4 refl;
-        no_option = never 8 5 refl;
+        plain = says_nothing events bytes options names (about 8 0) (omega arith);
         unsafe_options = λ _. h;
         no_attribute = never 8 9 refl;
       }
       of (refusal.Attribute number) h = record {
-        refused = never 9 2 refl;
-        no_event = never 9 3 refl;
-        no_name = never 9 4 refl;
-        no_option = never 9 5 refl;
+        plain = says_nothing events bytes options names (about 9 number) (omega arith);
         unsafe_options = never 9 8 refl;
         no_attribute = λ _. h;
       }
@@ -171,20 +159,14 @@ module _ (events : List CEvent) (bytes : List ℕ) (options : COptions) (names :
           let known = (failure_of_compile events bytes options names cause (answer_of cause) h
           refl).plain.known in
           record {
-            refused = says.refused;
-            no_event = says.no_event;
-            no_name = says.no_name;
-            no_option = says.no_option;
+            plain = says;
             unsafe_options = λ is. absurd (omega (arith, is, known));
             no_attribute = λ is. absurd (omega (arith, is, known));
           }
 
   pub list_says : (answer : Answer) → answer.status ≤ 1 → SaysRefusal answer
   list_says answer few = record {
-    refused = λ is. absurd (omega (arith, is, few));
-    no_event = λ is. absurd (omega (arith, is, few));
-    no_name = λ is. absurd (omega (arith, is, few));
-    no_option = λ is. absurd (omega (arith, is, few));
+    plain = text_says events bytes options names answer few;
     unsafe_options = λ is. absurd (omega (arith, is, few));
     no_attribute = λ is. absurd (omega (arith, is, few));
   }

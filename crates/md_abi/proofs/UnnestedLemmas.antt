@@ -2,7 +2,6 @@
 -- answer.
 use Rattle.std.proofs.Common.{◌≡◌, ℕ, ◌<◌, ◌≤◌, List, map, Some, Result, Ok, Err, IfOk, IfErr}
 use Rattle.std.proofs.Common.{refl, sym, ap, ◌∙◌, subst, inl, inr, arith}
-use Rattle.std.specs.Prelude.{IsErrAnd}
 use Rattle.std.specs.Borrow.{Bor}
 use Rattle.md_base.specs.Reference.{name_table}
 use Rattle.md_base.specs.declared.event.Event.{Event}
@@ -13,13 +12,8 @@ use Rattle.md_html.specs.Safe.{IsRefusedFor, OfCompile}
 use Rattle.md_html.specs.Unnested.{AreNested, OfSafe, OfNested}
 use Rattle.md_html.specs.declared.unnested.UnnestedError.{UnnestedError}
 use Rattle.md_html.specs.declared.unnested.UnnestedError.TheVariants as unnested
-use Rattle.md_abi.specs.Standing.{IsFirstWithout}
-use Rattle.md_abi.specs.Events.{event_of}
-use Rattle.md_abi.specs.References.{reference_of}
-use Rattle.md_abi.specs.Options.{StandsForNone, KeepsImages}
-use Rattle.md_abi.specs.Rendered.{IsRefusedBy}
+use Rattle.md_abi.specs.Options.{KeepsImages}
 use Rattle.md_abi.specs.Failures.{about, answer_of}
-use Rattle.md_abi.specs.Refusals.{refusal_of}
 use Rattle.md_abi.specs.Unnested.{IsUnnestedText, IsNestedIn, IsOfUnnested}
 use Rattle.md_abi.specs.UnnestedFailures.{unnested_failure_of, answer_of_unnested}
 use Rattle.md_abi.specs.UnnestedFailures.{IsCompiledUnnested, IsUnnestedFault, ExplainsUnnested}
@@ -28,38 +22,25 @@ use Rattle.md_abi.specs.declared.answer.Answer.{Answer}
 use Rattle.md_abi.specs.declared.event.CEvent.{CEvent}
 use Rattle.md_abi.specs.declared.reference.CReference.{CReference}
 use Rattle.md_abi.specs.declared.option.COptions.{COptions}
-use Rattle.md_abi.specs.declared.refusal.Refusal.{Refusal}
 use Rattle.md_abi.specs.declared.refusal.Refusal.TheVariants as refusal
 use Rattle.md_abi.specs.declared.unnested.UnnestedFailure.{UnnestedFailure}
 use Rattle.md_abi.specs.declared.unnested.UnnestedFailure.TheVariants.{Nested, Refused}
 use Rattle.md_abi.proofs.GivenLemmas as on_given
 use Rattle.md_abi.proofs.GivenLemmas.{IsRead, rendered, explained}
-use Rattle.md_abi.proofs.AttributedLemmas.{keeps_images, safe_reported}
+use Rattle.md_abi.proofs.AttributedLemmas.{keeps_images, safe_fault_of}
 use Rattle.md_abi.proofs.AnswerLemmas.{never, failed, failure_hands_over, failure_of_compile}
-use Rattle.md_abi.proofs.AnswerLemmas.{failure_says, text_of_compile}
+use Rattle.md_abi.proofs.AnswerLemmas.{failure_says, text_of_compile, Says, says_nothing}
+use Rattle.md_abi.proofs.AnswerLemmas.{text_says}
 
 -- ---- the failure for a compiler's error
 
-fault_of : (given : Handed) (options : CompileOptions) (why : UnnestedError) →
+pub fault_of : (given : Handed) (options : CompileOptions) (why : UnnestedError) →
     OfNested (AreNested given.events) why → OfNested (IsChecked given) why →
     OfSafe (IsRefusedFor options) why → OfSafe (OfCompile (IsRefusal given)) why →
     IsUnnestedFault given options (unnested_failure_of why)
 fault_of given options unnested.Nested nests checked unsafe refused = (checked, nests)
 fault_of given options (unnested.Safe cause) nests checked unsafe refused =
-    let made : Result ℕ Refusal = Err (refusal_of cause) in
-    safe_reported given options cause made refl unsafe refused
-
--- what its conversion gives
-pub unnested_reported : {T : Type 0} (given : Handed) (options : CompileOptions)
-    (why : UnnestedError) (r : Result T UnnestedFailure) →
-    IsErrAnd r (λ made. made ≡ unnested_failure_of why) →
-    OfNested (AreNested given.events) why → OfNested (IsChecked given) why →
-    OfSafe (IsRefusedFor options) why → OfSafe (OfCompile (IsRefusal given)) why →
-    IfErr r (IsUnnestedFault given options)
-unnested_reported given options why (Ok x) same nests checked unsafe refused = tt
-unnested_reported given options why (Err made) same nests checked unsafe refused =
-    subst (IsUnnestedFault given options) (sym same)
-    (fault_of given options why nests checked unsafe refused)
+    safe_fault_of given options cause unsafe refused
 
 -- ---- the converted input, passed as slices
 
@@ -168,10 +149,8 @@ module _ (events : List CEvent) (bytes : List ℕ) (options : COptions)
 
   -- what each status says
   pub record SaysUnnested (answer : Answer) : Type 0 where
-    pub refused : answer.status ≡ 2 → IsRefusedBy events bytes names answer.index answer.rule
-    pub no_event : answer.status ≡ 3 → IsFirstWithout event_of events answer.index
-    pub no_name : answer.status ≡ 4 → IsFirstWithout reference_of names answer.index
-    pub no_option : answer.status ≡ 5 → StandsForNone options answer.index
+    pub plain : Says events bytes options names answer
+    pub open plain use *
     pub unsafe_options : answer.status ≡ 8 → KeepsImages options → ⊥
     pub nested : answer.status ≡ 12 → IsNestedIn events bytes names
 
@@ -182,18 +161,12 @@ module _ (events : List CEvent) (bytes : List ℕ) (options : COptions)
       of : (why : UnnestedFailure) → ExplainsUnnested events bytes options names why →
           SaysUnnested (answer_of_unnested why)
       of Nested h = record {
-        refused = never 12 2 refl;
-        no_event = never 12 3 refl;
-        no_name = never 12 4 refl;
-        no_option = never 12 5 refl;
+        plain = says_nothing events bytes options names (about 12 0) (omega arith);
         unsafe_options = never 12 8 refl;
         nested = λ _. h;
       }
       of (Refused refusal.Unsafe) h = record {
-        refused = never 8 2 refl;
-        no_event = never 8 3 refl;
-        no_name = never 8 4 refl;
-        no_option = never 8 5 refl;
+        plain = says_nothing events bytes options names (about 8 0) (omega arith);
         unsafe_options = λ _. h;
         nested = never 8 12 refl;
       }
@@ -203,20 +176,14 @@ module _ (events : List CEvent) (bytes : List ℕ) (options : COptions)
           let known = (failure_of_compile events bytes options names cause (answer_of cause) h
           refl).plain.known in
           record {
-            refused = says.refused;
-            no_event = says.no_event;
-            no_name = says.no_name;
-            no_option = says.no_option;
+            plain = says;
             unsafe_options = λ is. absurd (omega (arith, is, known));
             nested = λ is. absurd (omega (arith, is, known));
           }
 
   pub text_says_unnested : (answer : Answer) → answer.status ≤ 1 → SaysUnnested answer
   text_says_unnested answer few = record {
-    refused = λ is. absurd (omega (arith, is, few));
-    no_event = λ is. absurd (omega (arith, is, few));
-    no_name = λ is. absurd (omega (arith, is, few));
-    no_option = λ is. absurd (omega (arith, is, few));
+    plain = text_says events bytes options names answer few;
     unsafe_options = λ is. absurd (omega (arith, is, few));
     nested = λ is. absurd (omega (arith, is, few));
   }

@@ -2,11 +2,6 @@
 use Rattle.std.proofs.Common.{◌≡◌, inl, ℕ, ◌<◌, ◌≤◌, List}
 use Rattle.std.proofs.Common.{refl, sym, subst, arith}
 use Rattle.md_tree.specs.Grammar.{handed}
-use Rattle.md_abi.specs.Standing.{IsFirstWithout}
-use Rattle.md_abi.specs.Events.{event_of}
-use Rattle.md_abi.specs.References.{reference_of}
-use Rattle.md_abi.specs.Options.{StandsForNone}
-use Rattle.md_abi.specs.Rendered.{IsRefusedBy}
 use Rattle.md_abi.specs.Failures.{about, answer_of}
 use Rattle.md_abi.specs.Within.{IsTooLong, IsTooMuch, IsBounded, IsShallow}
 use Rattle.md_abi.specs.Within.{NestsTooDeep}
@@ -25,7 +20,8 @@ use Rattle.md_abi.specs.declared.within.WithinFailure.{WithinFailure}
 use Rattle.md_abi.specs.declared.within.WithinFailure.TheVariants.{TooLong, TooMuch, TooDeep}
 use Rattle.md_abi.specs.declared.within.WithinFailure.TheVariants.{Failed}
 use Rattle.md_abi.proofs.AnswerLemmas.{never, failed, failure_hands_over, failure_of_compile}
-use Rattle.md_abi.proofs.AnswerLemmas.{failure_says, text_of_compile}
+use Rattle.md_abi.proofs.AnswerLemmas.{failure_says, text_of_compile, Says, says_nothing}
+use Rattle.md_abi.proofs.AnswerLemmas.{text_says}
 
 pub within_hands_over : (claim : List ℕ → Type 0) (old : List ℕ) (why : WithinFailure)
     (answer : Answer) → answer ≡ answer_of_within why → HandsOver claim old old answer
@@ -92,10 +88,8 @@ module _ (events : List CEvent) (bytes : List ℕ) (options : COptions) (names :
 
   -- what each status says
   pub record SaysWithin (answer : Answer) : Type 0 where
-    pub refused : answer.status ≡ 2 → IsRefusedBy events bytes names answer.index answer.rule
-    pub no_event : answer.status ≡ 3 → IsFirstWithout event_of events answer.index
-    pub no_name : answer.status ≡ 4 → IsFirstWithout reference_of names answer.index
-    pub no_option : answer.status ≡ 5 → StandsForNone options answer.index
+    pub plain : Says events bytes options names answer
+    pub open plain use *
     pub too_long : answer.status ≡ 10 → IsTooLong events bytes options names limits
     pub too_much : answer.status ≡ 11 → IsTooMuch events bytes options names limits
     pub too_deep : answer.status ≡ 13 → NestsTooDeep events limits
@@ -119,10 +113,7 @@ module _ (events : List CEvent) (bytes : List ℕ) (options : COptions) (names :
       of : (why : WithinFailure) → ExplainsWithin events bytes options names limits why →
           SaysWithin (answer_of_within why)
       of TooLong h = record {
-        refused = never 10 2 refl;
-        no_event = never 10 3 refl;
-        no_name = never 10 4 refl;
-        no_option = never 10 5 refl;
+        plain = says_nothing events bytes options names (about 10 0) (omega arith);
         too_long = λ _. h.0;
         too_much = never 10 11 refl;
         too_deep = never 10 13 refl;
@@ -130,10 +121,7 @@ module _ (events : List CEvent) (bytes : List ℕ) (options : COptions) (names :
         shallow = λ _. h.2;
       }
       of TooMuch h = record {
-        refused = never 11 2 refl;
-        no_event = never 11 3 refl;
-        no_name = never 11 4 refl;
-        no_option = never 11 5 refl;
+        plain = says_nothing events bytes options names (about 11 0) (omega arith);
         too_long = never 11 10 refl;
         too_much = λ _. h.0;
         too_deep = never 11 13 refl;
@@ -141,10 +129,7 @@ module _ (events : List CEvent) (bytes : List ℕ) (options : COptions) (names :
         shallow = λ _. h.1;
       }
       of TooDeep h = record {
-        refused = never 13 2 refl;
-        no_event = never 13 3 refl;
-        no_name = never 13 4 refl;
-        no_option = never 13 5 refl;
+        plain = says_nothing events bytes options names (about 13 0) (omega arith);
         too_long = never 13 10 refl;
         too_much = never 13 11 refl;
         too_deep = λ _. h;
@@ -157,10 +142,7 @@ module _ (events : List CEvent) (bytes : List ℕ) (options : COptions) (names :
           let of_it = failure_of_compile events bytes options names cause given h.0 refl in
           let known = of_it.plain.known in
           record {
-            refused = says.refused;
-            no_event = says.no_event;
-            no_name = says.no_name;
-            no_option = says.no_option;
+            plain = says;
             too_long = λ is. absurd (omega (arith, is, known));
             too_much = λ is. absurd (omega (arith, is, known));
             too_deep = λ is. absurd (omega (arith, is, known));
@@ -171,10 +153,7 @@ module _ (events : List CEvent) (bytes : List ℕ) (options : COptions) (names :
   pub text_says_within : (answer : Answer) → answer.status ≤ 1 → IsBounded events limits →
       IsShallow events limits → SaysWithin answer
   text_says_within answer few bounded shallow = record {
-    refused = λ is. absurd (omega (arith, is, few));
-    no_event = λ is. absurd (omega (arith, is, few));
-    no_name = λ is. absurd (omega (arith, is, few));
-    no_option = λ is. absurd (omega (arith, is, few));
+    plain = text_says events bytes options names answer few;
     too_long = λ is. absurd (omega (arith, is, few));
     too_much = λ is. absurd (omega (arith, is, few));
     too_deep = λ is. absurd (omega (arith, is, few));

@@ -1,21 +1,18 @@
 -- From the compiler's promises within limits to those about C's result and its answer.
 use Rattle.std.proofs.Common.{◌≡◌, inl, inr, ℕ, ◌<◌, ◌≤◌, List, [], ◌∷◌, map, Some}
 use Rattle.std.proofs.Common.{Result, Ok, Err}
-use Rattle.std.proofs.Common.{IfOk, IfErr, OnOk, refl, sym, ap, ◌∙◌, subst, arith}
-use Rattle.std.specs.Prelude.{IsErrAnd}
+use Rattle.std.proofs.Common.{IfOk, IfErr, OnOk, refl, sym, ap, ◌∙◌, arith}
 use Rattle.std.specs.Borrow.{Bor}
 use Rattle.md_base.specs.Reference.{name_table}
 use Rattle.md_base.specs.declared.event.Event.{Event}
 use Rattle.md_base.specs.Tree.{Forest}
-use Rattle.md_tree.specs.Grammar.{Handed, handed, IsChecked}
-use Rattle.md_tree.specs.Refusal.{IsRefusal}
+use Rattle.md_tree.specs.Grammar.{Handed, handed}
 use Rattle.md_text.specs.declared.options.CompileOptions.{CompileOptions}
 use Rattle.md_depth.specs.Depth.{depth, height}
 use Rattle.md_depth.proofs.Nodes.{events-nest}
 use Rattle.md_html.specs.Work.{work}
 use Rattle.md_html.specs.Reuse.{reuse}
-use Rattle.md_html.specs.Within.{IsLonger, IsOver, IsTooMuchFor, IsTooDeepFor, OfTooLong, OfWithin}
-use Rattle.md_html.specs.Within.{WithinPromises}
+use Rattle.md_html.specs.Within.{IsOver, WithinPromises, WithinRefusal}
 use Rattle.md_html.specs.declared.within.Limits.{Limits}
 use Rattle.md_html.specs.declared.within.WithinError.{WithinError}
 use Rattle.md_html.specs.declared.within.WithinError.TheVariants as within
@@ -36,34 +33,20 @@ use Rattle.md_abi.proofs.GivenLemmas.{reported_of, IsRead, rendered, explained}
 
 -- ---- the failure for a compiler's error
 
-failure_within : (given : Handed) (options : CompileOptions) (limits : Limits) (why : WithinError) →
-    IsTooDeepFor given.events limits.depth why → IsTooMuchFor options given limits.work why →
-    OfTooLong (IsLonger options given limits.text) why →
-    OfTooLong (IsChecked given) why → OfWithin (IsRefusal given) why →
+pub failure_within : (given : Handed) (options : CompileOptions) (limits : Limits)
+    (why : WithinError) → WithinRefusal options given limits why →
     IsFailureWithin given options limits (within_failure_of why)
-failure_within given options limits within.TooLong deep much longer checked refusal = record {
-  grammatical = checked;
-  longer = longer;
-  bounded = much.0;
-  shallow = deep;
-  reused = much.1;
+failure_within given options limits within.TooLong says = record {
+  grammatical = says.long_grammatical;
+  longer = says.too_long;
+  bounded = says.too_much.0;
+  shallow = says.too_deep;
+  reused = says.too_much.1;
 }
-failure_within given options limits within.TooMuch deep much longer checked refusal = (deep, much)
-failure_within given options limits within.TooDeep deep much longer checked refusal = deep
-failure_within given options limits (within.Compile cause) deep much longer checked refusal =
-    (deep, much, reported_of given cause refusal)
-
--- what its conversion gives
-pub within_reported : {T : Type 0} (given : Handed) (options : CompileOptions) (limits : Limits)
-    (why : WithinError) (r : Result T WithinFailure) →
-    IsErrAnd r (λ made. made ≡ within_failure_of why) →
-    IsTooDeepFor given.events limits.depth why → IsTooMuchFor options given limits.work why →
-    OfTooLong (IsLonger options given limits.text) why → OfTooLong (IsChecked given) why →
-    OfWithin (IsRefusal given) why → IfErr r (IsFailureWithin given options limits)
-within_reported given options limits why (Ok x) same deep much longer checked refusal = tt
-within_reported given options limits why (Err made) same deep much longer checked refusal =
-    subst (IsFailureWithin given options limits) (sym same)
-    (failure_within given options limits why deep much longer checked refusal)
+failure_within given options limits within.TooMuch says = (says.too_deep, says.too_much)
+failure_within given options limits within.TooDeep says = says.too_deep
+failure_within given options limits (within.Compile cause) says =
+    (says.too_deep, says.too_much, reported_of given cause says.refused)
 
 -- ---- a list encodes only one list
 

@@ -1,49 +1,61 @@
 -- The first line ending of a document is the one that exits first in its events.
 use Rattle.std.proofs.Common.{◌≡◌, ◌⊎◌, inl, inr, ℕ, suc, Bool, true, false, List, [], ◌∷◌, ◌++◌}
-use Rattle.std.proofs.Common.{Option, Some, None, refl, ap, sym, ◌∙◌, subst, append_assoc}
-use Rattle.std.proofs.Common.{append-nil, slice_get}
+use Rattle.std.proofs.Common.{Option, Some, None, refl, ap, sym, ◌∙◌, append_assoc, append-nil}
+use Rattle.std.proofs.Common.{slice_get}
 use Rattle.std.specs.Prelude.{if◌then◌else◌, option_map}
-use Rattle.std.proofs.lemmas.Bool.{and_parts, false≢true}
 use Rattle.md_base.specs.declared.event.Name.{Name}
 use Rattle.md_base.specs.declared.event.Name.TheVariants.{LineEnding, BlankLineEnding}
-use Rattle.md_base.specs.declared.event.Kind.{Kind}
-use Rattle.md_base.specs.declared.event.Kind.TheVariants.{Enter, Exit}
 use Rattle.md_base.specs.declared.event.Point.{Point}
 use Rattle.md_base.specs.declared.event.Position.{Position}
 use Rattle.md_base.specs.declared.event.Event.{Event}
 use Rattle.md_base.specs.Tree.{Forest, Empty, Node, flatten, entering, exiting}
 use Rattle.md_base.specs.Children.{or_else}
 use Rattle.md_base.specs.NameTests.{is_line_ending}
+use Rattle.md_base.proofs.Lies.{lie}
 use Rattle.md_tree.specs.Texts.{positions_of, is_text_name, ExitsText}
 use Rattle.md_meaning.specs.Meaning.Finds.{first_ending}
-use Rattle.md_pattern.specs.Ending.{is_exit, exits_line_ending, first_index}
+use Rattle.md_pattern.specs.Ending.{exits_line_ending, first_index}
 
--- there is none, or it is at an index, where its place is
+-- the event at an index is the first one that exits a line ending, whose place this is
+pub record IsFirst (events : List Event) (positions : List (Option Position))
+    (found : Option Position) (index : ℕ) : Type 0 where
+  pub position : Position
+  pub first : first_index events ≡ Some index
+  pub there : slice_get positions index ≡ Some (Some position)
+  pub is : found ≡ Some position
+  pub exits : ExitsText events index
+
+-- there is none, or it is at an index
 abbrev Outcome : List Event → List (Option Position) → Option Position → Type 0
 Outcome events positions found =
     ((first_index events ≡ None) × (found ≡ None))
-    ⊎ ((index : ℕ) × (place : Position) × (first_index events ≡ Some index)
-    × (slice_get positions index ≡ Some (Some place)) × (found ≡ Some place))
+    ⊎ ((index : ℕ) × IsFirst events positions found index)
 
 shift : (event : Event) (position : Option Position) (events : List Event)
     (positions : List (Option Position))
     (found : Option Position) → exits_line_ending event ≡ false → Outcome events positions found →
     Outcome (event ∷ events) (position ∷ positions) found
-shift event position events positions found e (inl none) =
-    inl (
-      ap (λ b. if b then Some 0 else option_map (λ index. suc index) (first_index events)) e
-          ∙ ap (option_map (λ index. suc index)) none.0,
-      none.1,
-    )
-shift event position events positions found e (inr some) =
-    inr (
-      suc some.0,
-      some.1,
-      ap (λ b. if b then Some 0 else option_map (λ index. suc index) (first_index events)) e
-          ∙ ap (option_map (λ index. suc index)) some.2,
-      some.3,
-      some.4,
-    )
+shift event position events positions found e later =
+    let next = ap (λ b. if b then Some 0 else option_map (λ index. suc index) (first_index events))
+    e in
+    elim later [
+      | inl none ↦ inl (next ∙ ap (option_map (λ index. suc index)) none.0, none.1)
+      | inr some ↦ inr (
+        suc some.0,
+        record {
+          position = some.1.position;
+          first = next ∙ ap (option_map (λ index. suc index)) some.1.first;
+          there = some.1.there;
+          is = some.1.is;
+          exits = some.1.exits;
+        },
+      )
+    ]
+
+ending_text : (name : Name) → is_line_ending name ≡ true → is_text_name name ≡ true
+ending_text LineEnding h = refl
+ending_text BlankLineEnding h = refl
+ending_text _ h = lie h
 
 exit_step : (name : Name) (end : Point) (place : Position) (events : List Event)
     (positions : List (Option Position))
@@ -57,10 +69,14 @@ exit_step name end place events positions found later = by (is_line_ending name)
         ∷ positions) (or_else (if ends then Some place else None) found)
     by true e = inr (
       0,
-      place,
-      ap (λ b. if b then Some 0 else option_map (λ index. suc index) (first_index events)) e,
-      refl,
-      refl,
+      record {
+        position = place;
+        first = ap (λ b. if b then Some 0 else option_map (λ index. suc index) (first_index events))
+            e;
+        there = refl;
+        is = refl;
+        exits = (name, (exiting name end, refl, refl, refl), ending_text name e);
+      },
     )
     by false e = shift (exiting name end) (Some place) events positions found e later
 
@@ -79,113 +95,51 @@ outcome (Node name start end children rest) tail more found later =
     let own : Option Position = if is_line_ending name then Some place else None in
     let beyond : List Event = flatten rest ++ tail in
     let places : List (Option Position) = positions_of rest ++ more in
-    let after = exit_step name end place beyond places (or_else (first_ending rest) found)
-    (outcome rest tail more found later) in
-    let inner = outcome children (exiting name end ∷ beyond) (Some place
-    ∷ places) (or_else own (or_else (first_ending rest) found)) after in
-    let whole = shift (entering name start) None (flatten children ++ exiting name end
-    ∷ beyond) (positions_of children ++ Some place ∷ places) (or_else (first_ending children)
-    (or_else own (or_else (first_ending rest) found))) refl inner in
-    subst (λ es. Outcome (entering name start ∷ es) (None
-    ∷ ((positions_of children ++ Some place ∷ positions_of rest) ++ more))
-    (or_else (first_ending (Node name start end children rest)) found))
-    (sym (append_assoc (flatten children) (exiting name end ∷ flatten rest) tail))
-    (subst (λ ps. Outcome (entering name start ∷ (flatten children ++ exiting name end ∷ beyond))
-    (None
-    ∷ ps) (or_else (first_ending (Node name start end children rest)) found))
-    (sym (append_assoc (positions_of children) (Some place ∷ positions_of rest) more))
-    (subst (Outcome (entering name start ∷ (flatten children ++ exiting name end ∷ beyond)) (None
-    ∷ (positions_of children ++ Some place ∷ places)))
-    (ap (or_else (first_ending children)) (or_else_assoc own (first_ending rest) found)
-    ∙ or_else_assoc (first_ending children) (or_else own (first_ending rest)) found) whole))
+    let last : Option Position = or_else (first_ending rest) found in
+    rw (
+      append_assoc (flatten children) (exiting name end ∷ flatten rest) tail,
+      append_assoc (positions_of children) (Some place ∷ positions_of rest) more,
+      ← or_else_assoc (first_ending children) (or_else own (first_ending rest)) found,
+      ← or_else_assoc own (first_ending rest) found,
+    ) (shift (entering name start) None (flatten children ++ exiting name end ∷ beyond)
+    (positions_of children ++ Some place ∷ places) (or_else (first_ending children)
+    (or_else own last)) refl (outcome children (exiting name end ∷ beyond) (Some place ∷ places)
+    (or_else own last) (exit_step name end place beyond places last
+    (outcome rest tail more found later))))
 
 or_else_none : (o : Option Position) → or_else o None ≡ o
 or_else_none None = refl
 or_else_none (Some o) = refl
 
-of_document : (document : Forest) (events : List Event) → flatten document ≡ events →
-    Outcome events (positions_of document) (first_ending document)
-of_document document events flat =
-    subst (Outcome events (positions_of document)) (or_else_none (first_ending document))
-    (subst (λ ps. Outcome events ps (or_else (first_ending document) None))
-    (append-nil (positions_of document))
-    (subst (λ es. Outcome es (positions_of document ++ []) (or_else (first_ending document) None))
-    (append-nil (flatten document) ∙ flat) (outcome document [] [] None (inl (refl, refl)))))
+module _ (document : Forest) (events : List Event) (flat : flatten document ≡ events) where
+  of_document : Outcome events (positions_of document) (first_ending document)
+  of_document =
+      rw (
+        append-nil (flatten document),
+        append-nil (positions_of document),
+        or_else_none (first_ending document),
+        flat,
+      ) at
+      (outcome document [] [] None (inl (refl, refl)))
 
-pub ending-none : (document : Forest) (events : List Event) → flatten document ≡ events →
-    first_index events ≡ None →
-    first_ending document ≡ None
-ending-none document events flat none =
-    elim (of_document document events flat) [
-      | inl there ↦ there.1
-      | inr some ↦ absurd (differ some.0 (sym some.2 ∙ none))
-    ]
-  where
-    differ : (index : ℕ) → Some index ≡ None → ⊥
-    differ index e = cc
+  pub ending-none : first_index events ≡ None → first_ending document ≡ None
+  ending-none none = elim of_document [
+    | inl there ↦ there.1
+    | inr some ↦ absurd (differ some.0 (sym some.1.first ∙ none))
+  ]
+    where
+      differ : (index : ℕ) → Some index ≡ None → ⊥
+      differ index e = cc
 
-pub ending-some : (document : Forest) (events : List Event) (index : ℕ) →
-    flatten document ≡ events →
-    first_index events ≡ Some index →
-    (place : Position) × (slice_get (positions_of document) index ≡ Some (Some place))
-    × (first_ending document ≡ Some place)
-ending-some document events index flat found =
-    elim (of_document document events flat) [
-      | inl none ↦ absurd (differ (sym found ∙ none.0))
-      | inr some ↦ (
-        some.1,
-        ap (slice_get (positions_of document)) (same some.0 (sym found ∙ some.2)) ∙ some.3,
-        some.4,
-      )
-    ]
-  where
-    differ : Some index ≡ None → ⊥
-    differ e = cc
+  pub ending-some : (index : ℕ) → first_index events ≡ Some index →
+      IsFirst events (positions_of document) (first_ending document) index
+  ending-some index found = elim of_document [
+    | inl none ↦ absurd (differ (sym found ∙ none.0))
+    | inr some ↦ rw (same some.0 (sym some.1.first ∙ found)) at some.1
+  ]
+    where
+      differ : Some index ≡ None → ⊥
+      differ e = cc
 
-    same : (other : ℕ) → Some index ≡ Some other → index ≡ other
-    same other e = cc
-
--- the event there exits a text
-ending_text : (name : Name) → is_line_ending name ≡ true → is_text_name name ≡ true
-ending_text LineEnding h = refl
-ending_text BlankLineEnding h = refl
-ending_text _ h = absurd (false≢true h)
-
-exit_is : (kind : Kind) → is_exit kind ≡ true → kind ≡ Exit
-exit_is Exit h = refl
-exit_is Enter h = absurd (false≢true h)
-
-pub ending-text : (events : List Event) (index : ℕ) → first_index events ≡ Some index →
-    ExitsText events index
-ending-text [] index found = absurd (differ found)
-  where
-    differ : None ≡ Some index → ⊥
-    differ e = cc
-ending-text (event ∷ events) index found =
-    by (exits_line_ending event) refl found (λ i f. ending-text events i f)
-  where
-    differ : None ≡ Some index → ⊥
-    differ e = cc
-
-    same : (i j : ℕ) → Some i ≡ Some j → i ≡ j
-    same i j e = cc
-
-    shifted : (o : Option ℕ) → option_map (λ i. suc i) o ≡ Some index →
-        ((i : ℕ) → o ≡ Some i → ExitsText events i) →
-        ExitsText (event ∷ events) index
-    shifted None e again = absurd (differ e)
-    shifted (Some i) e again =
-        subst (ExitsText (event ∷ events)) (same (suc i) index e) (again i refl)
-
-    by : (ends : Bool) → exits_line_ending event ≡ ends → (if ends then Some 0
-        else option_map (λ i. suc i) (first_index events)) ≡ Some index →
-        ((i : ℕ) → first_index events ≡ Some i → ExitsText events i) →
-        ExitsText (event ∷ events) index
-    by true e f again =
-        let parts = and_parts (is_exit event.kind) (is_line_ending event.name) e in
-        subst (ExitsText (event ∷ events)) (same 0 index f) (
-          event.name,
-          (event, refl, exit_is event.kind parts.0, refl),
-          ending_text event.name parts.1,
-        )
-    by false e f again = shifted (first_index events) f again
+      same : (other : ℕ) → Some other ≡ Some index → other ≡ index
+      same other e = cc

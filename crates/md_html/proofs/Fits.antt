@@ -1,10 +1,9 @@
 -- In the events of a document, and from each one on, each captured text that ends has begun before.
-use Rattle.std.proofs.Common.{◌≡◌, ℕ, zero, suc, ◌+◌, ◌-◌, Bool, true, false, not, ◌&&◌, List, []}
-use Rattle.std.proofs.Common.{◌∷◌, ◌++◌, length, drop, refl, sym, ap, ◌∙◌, subst, append-nil}
+use Rattle.std.proofs.Common.{◌≡◌, ℕ, zero, suc, ◌-◌, Bool, true, false, not, ◌&&◌, List, []}
+use Rattle.std.proofs.Common.{◌∷◌, ◌++◌, length, drop, refl, sym, ap, ◌∙◌, append-nil}
 use Rattle.std.proofs.Common.{append_assoc, arith}
 use Rattle.std.specs.Prelude.{if◌then◌else◌}
-use Rattle.std.proofs.lemmas.Bool.{and_parts}
-use Rattle.std.proofs.lemmas.List.{length-append}
+use Rattle.std.proofs.lemmas.Bool.{and_parts, and_from}
 use Rattle.md_base.specs.declared.event.Event.{Event}
 use Rattle.md_base.specs.declared.event.Name.{Name}
 use Rattle.md_base.specs.declared.event.Point.{Point}
@@ -39,50 +38,45 @@ fits-step captured event one events seen f =
     (fits (passes event one.inside) (captured_after event captured) events seen) f).1
 
 -- ---- a document's events
-both-true : (x y : Bool) → x ≡ true → y ≡ true → (x && y) ≡ true
-both-true true y e f = f
-both-true false y e f = cc
-
 may-enter : (name : Name) (start : Point) (captured : ℕ) →
     may_end (entering name start) captured ≡ true
 may-enter name start zero = refl
 may-enter name start (suc captured) = refl
 
-may-exit : (c : Bool) (name : Name) (end : Point) (captured : ℕ) → captures name ≡ c →
-    may_end (exiting name end) (if c then suc captured else captured) ≡ true
-may-exit true name end captured e = refl
-may-exit false name end zero e = ap (λ b. not b) e
-may-exit false name end (suc captured) e = refl
+-- at the node's last event, where what comes after it fits
+exits-so : (c : Bool) (name : Name) (end : Point) (captured : ℕ) (one : Noticed)
+    (events : List Event) (seen : List Noticed) → captures name ≡ c →
+    fits 0 captured events seen ≡ true →
+    fits 0 (if c then suc captured else captured) (exiting name end ∷ events) (one ∷ seen) ≡ true
+exits-so true name end captured one events seen e f =
+    ap (λ b. fits 0 (if b then suc captured - 1 else suc captured) events seen) e
+    ∙ ap (λ n. fits 0 n events seen) (sym (one_less captured)) ∙ f
+exits-so false name end zero one events seen e f =
+    ap (λ b. not b && fits 0 (if b then 0 - 1 else 0) events seen) e ∙ f
+exits-so false name end (suc captured) one events seen e f =
+    ap (λ b. fits 0 (if b then suc captured - 1 else suc captured) events seen) e ∙ f
 
-exit-after : (c : Bool) (name : Name) (end : Point) (captured : ℕ) → captures name ≡ c →
-    captured ≡ captured_after (exiting name end) (if c then suc captured else captured)
-exit-after true name end captured e =
-    one_less captured ∙ ap (λ b. if b then suc captured - 1 else suc captured) (sym e)
-exit-after false name end captured e = ap (λ b. if b then captured - 1 else captured) (sym e)
+-- at the node's first event, all others are skipped
+fits-passed : (captured : ℕ) (events : List Event) (seen : List Noticed) (event : Event)
+    (one : Noticed) (tail : List Event) (more : List Noticed) → length seen ≡ length events →
+    fits 0 captured tail more ≡ true →
+    fits (suc (length events)) captured (events ++ event ∷ tail) (seen ++ one ∷ more) ≡ true
+fits-passed captured [] [] event one tail more e f = f
+fits-passed captured [] (other ∷ seen) event one tail more e f = cc
+fits-passed captured (other ∷ events) [] event one tail more e f = cc
+fits-passed captured (first ∷ events) (other ∷ seen) event one tail more e f =
+    fits-passed captured events seen event one tail more (omega (arith, e)) f
 
-fits-passed : (captured : ℕ) (events : List Event) (seen : List Noticed) (tail : List Event)
-    (more : List Noticed) →
-    length seen ≡ length events → fits 0 captured tail more ≡ true →
-    fits (length events) captured (events ++ tail) (seen ++ more) ≡ true
-fits-passed captured [] [] tail more e f = f
-fits-passed captured [] (one ∷ seen) tail more e f = cc
-fits-passed captured (event ∷ events) [] tail more e f = cc
-fits-passed captured (event ∷ events) (one ∷ seen) tail more e f =
-    fits-passed captured events seen tail more (one_fewer (length seen) (length events) e) f
-  where
-    one_fewer : (n m : ℕ) → suc n ≡ suc m → n ≡ m
-    one_fewer n m g = omega (arith, g)
-
--- the node's first event, where what comes after it fits
+-- or none is
 enters-so : (p c : Bool) (inside captured : ℕ) (events : List Event) (seen : List Noticed) →
-    (p ≡ true → fits inside captured events seen ≡ true) →
-    (p ≡ false → fits 0 (if c then suc captured else captured) events seen ≡ true) →
+    fits inside captured events seen ≡ true →
+    fits 0 (if c then suc captured else captured) events seen ≡ true →
     fits (if p then inside else 0) (if c && not p then suc captured else captured) events seen
     ≡ true
-enters-so true true inside captured events seen f g = f refl
-enters-so true false inside captured events seen f g = f refl
-enters-so false true inside captured events seen f g = g refl
-enters-so false false inside captured events seen f g = g refl
+enters-so true true inside captured events seen f g = f
+enters-so true false inside captured events seen f g = f
+enters-so false true inside captured events seen f g = g
+enters-so false false inside captured events seen f g = g
 
 pub fits-over : (bytes : List ℕ) (last : Bool) (forest : Forest) (captured : ℕ) (tail : List Event)
     (more : List Noticed) → fits 0 captured tail more ≡ true →
@@ -94,56 +88,29 @@ fits-over bytes last (Node name start end children rest) captured tail more f =
       inside = suc (length (flatten children));
     }
     in
-    let enter : Event = entering name start in
-    let exit : Event = exiting name end in
+    let seen : List Noticed = noticed bytes false children in
     let behind : List Event = flatten rest ++ tail in
     let behind_seen : List Noticed = noticed bytes last rest ++ more in
+    let within : List Event = flatten children ++ exiting name end ∷ behind in
+    let within_seen : List Noticed = seen ++ here ∷ behind_seen in
+    let inner : ℕ = if captures name then suc captured else captured in
     let after = fits-over bytes last rest captured tail more f in
-    let within : List Event = flatten children ++ exit ∷ behind in
-    let within_seen : List Noticed = noticed bytes false children ++ here ∷ behind_seen in
-    let count :
-    length (noticed bytes false children ++ here ∷ []) ≡ length (flatten children ++ exit ∷ []) =
-    length-append (noticed bytes false children) (here ∷ [])
-    ∙ ap (λ n. n + 1) (noticed-length bytes false children)
-    ∙ sym (length-append (flatten children) (exit ∷ [])) in
-    let skipped : fits (length (flatten children ++ exit ∷ [])) captured
-    ((flatten children ++ exit ∷ []) ++ behind)
-    ((noticed bytes false children ++ here ∷ []) ++ behind_seen) ≡ true =
-    fits-passed captured (flatten children ++ exit ∷ []) (noticed bytes false children ++ here ∷ [])
-    behind behind_seen count after in
-    let c = captures name in
-    let left :
-    fits 0 (if c then suc captured else captured) (exit ∷ behind) (here ∷ behind_seen) ≡ true =
-    both-true (may_end exit (if c then suc captured else captured))
-    (fits 0 (captured_after exit (if c then suc captured else captured)) behind behind_seen)
-    (may-exit c name end captured refl)
-    (subst (λ n. fits 0 n behind behind_seen ≡ true) (exit-after c name end captured refl) after) in
-    subst (λ es. fits 0 captured (enter ∷ es)
-    (here ∷ (noticed bytes false children ++ here ∷ noticed bytes last rest) ++ more) ≡ true)
-    (sym (append_assoc (flatten children) (exit ∷ flatten rest) tail))
-    (subst (λ ts. fits 0 captured (enter ∷ within) (here ∷ ts) ≡ true)
-    (sym (append_assoc (noticed bytes false children) (here ∷ noticed bytes last rest) more))
-    (both-true (may_end enter captured)
-    (fits (passes enter here.inside) (captured_after enter captured) within within_seen)
+    let left = exits-so (captures name) name end captured here behind behind_seen refl after in
+    rw (
+      append_assoc (flatten children) (exiting name end ∷ flatten rest) tail,
+      append_assoc seen (here ∷ noticed bytes last rest) more,
+    ) (and_from
+    (may_end (entering name start) captured)
+    (fits (passes (entering name start) here.inside) (captured_after (entering name start) captured)
+    within within_seen)
     (may-enter name start captured)
-    (enters-so (is_passed name) c here.inside captured within within_seen
-    (λ yes.
-    subst (λ n. fits n captured within within_seen ≡ true)
-    (length-append (flatten children) (exit ∷ []) ∙ one_more (length (flatten children)))
-    (subst (λ es. fits (length (flatten children ++ exit ∷ [])) captured es within_seen ≡ true)
-    (append_assoc (flatten children) (exit ∷ []) behind)
-    (subst (λ ts. fits (length (flatten children ++ exit ∷ [])) captured
-    ((flatten children ++ exit ∷ []) ++ behind) ts ≡ true)
-    (append_assoc (noticed bytes false children) (here ∷ []) behind_seen) skipped)))
-    (λ no. fits-over bytes false children (if c then suc captured else captured) (exit ∷ behind)
-    (here ∷ behind_seen) left))))
-  where
-    one_more : (n : ℕ) → n + 1 ≡ suc n
-    one_more n = omega arith
+    (enters-so (is_passed name) (captures name) here.inside captured within within_seen
+    (fits-passed captured (flatten children) seen (exiting name end) here behind behind_seen
+    (noticed-length bytes false children) after)
+    (fits-over bytes false children inner (exiting name end ∷ behind) (here ∷ behind_seen) left)))
 
 pub fits-all : (bytes : List ℕ) (document : Forest) →
     fits 0 0 (flatten document) (noticed bytes true document) ≡ true
 fits-all bytes document =
-    subst (λ es. fits 0 0 es (noticed bytes true document) ≡ true) (append-nil (flatten document))
-    (subst (λ ts. fits 0 0 (flatten document ++ []) ts ≡ true)
-    (append-nil (noticed bytes true document)) (fits-over bytes true document 0 [] [] refl))
+    rw (append-nil (flatten document), append-nil (noticed bytes true document)) at
+    (fits-over bytes true document 0 [] [] refl)

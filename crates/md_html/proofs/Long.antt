@@ -1,112 +1,112 @@
 -- What is printed after some of a document's events, and how long the whole text is then.
-use Rattle.std.proofs.Common.{◌≡◌, ◌≤◌, ◌<◌, ℕ, true, [], length, sym, ap, ◌∙◌, subst}
+use Rattle.std.proofs.Common.{◌≡◌, ◌≤◌, ◌<◌, ℕ, true, List, [], length, refl, sym, ap, ◌∙◌}
 use Rattle.std.proofs.Common.{arith}
+use Rattle.md_base.specs.declared.event.Event.{Event}
 use Rattle.md_base.specs.Tree.{Forest, flatten}
 use Rattle.md_meaning.specs.Meaning.At.{Context}
 use Rattle.md_meaning.specs.Meaning.Footnotes.{section}
-use Rattle.md_steps.specs.Run.{noticed, run}
+use Rattle.md_meaning.specs.Meaning.Layout.{laid_after}
+use Rattle.md_steps.specs.Run.{Noticed, noticed, run}
 use Rattle.md_steps.specs.State.{State}
 use Rattle.md_steps.specs.Steps.{beginning}
 use Rattle.md_steps.proofs.Running.{noticed-length}
 use Rattle.md_printer.specs.Supplies.{Supplies}
 use Rattle.md_printer.specs.declared.context.Context.{Context as Supplied}
 use Rattle.md_html.specs.Windows.{window}
-use Rattle.md_html.specs.Stepping.{Goes}
+use Rattle.md_html.specs.Stepping.{Follows, Goes}
 use Rattle.md_html.specs.Fits.{fits}
-use Rattle.md_html.specs.Printed.{text_of}
-use Rattle.md_html.proofs.Owns.{window-all}
-use Rattle.md_html.proofs.Windows.{window-end}
+use Rattle.md_html.specs.Printed.{IsPrinted, IsPrintedOver, IsRun, IsRunOver}
+use Rattle.md_html.proofs.Windows.{windows-all, window-end}
 use Rattle.md_html.proofs.FirstText.{outermost, laid-grows, run-grows}
 use Rattle.md_html.proofs.Fits.{fits-all}
 
--- a run that continues another run
-pub goes-on : (code : Supplied) (from index next to end : ℕ) (first before after : State) →
-    to ≤ end →
-    Goes code from index end first before → Goes code index next to before after →
-    Goes code from next end first after
-goes-on code from index next to end first before after le goes on = record {
-  runs = λ at document last supplies flat later.
-      on.runs at document last supplies flat (most last later)
-      ∙ goes.runs at document last supplies flat later;
-  fits = λ at document last supplies flat later f.
-      on.fits at document last supplies flat (most last later)
-      (goes.fits at document last supplies flat later f);
-}
-  where
-    most : (last : ℕ) → end ≤ last → to ≤ last
-    most last later = omega (arith, le, later)
+module _ (code : Supplied) (index count : ℕ) (state : State)
+    (all : count ≡ length code.checked.now.events)
+    (goes : Goes code 0 index count beginning state) where
+  module _ (at : Context) (document : Forest) (supplies : Supplies code at)
+      (flat : flatten document ≡ code.checked.now.events) where
+    abbrev events : List Event
+    events = code.checked.now.events
 
-module _ (code : Supplied) (at : Context) (document : Forest) (index count : ℕ)
-    (first state : State)
-    (supplies : Supplies code at) (flat : flatten document ≡ code.checked.now.events)
-    (all : count ≡ length code.checked.now.events) (new : first ≡ beginning)
-    (goes : Goes code 0 index count first state) where
-  abbrev whole : State
-  whole = run at 0 (flatten document) (noticed at.bytes true document) beginning
+    abbrev seen : List Noticed
+    seen = noticed code.checked.now.bytes true document
 
-  events-all : window 0 count code.checked.now.events ≡ flatten document
-  events-all = window-all code.checked.now.events count all ∙ sym flat
+    abbrev whole : State
+    whole = run at 0 (flatten document) (noticed at.bytes true document) beginning
 
-  seen-all : window 0 count (noticed code.checked.now.bytes true document)
-      ≡ noticed code.checked.now.bytes true document
-  seen-all =
-      window-all (noticed code.checked.now.bytes true document) count (all
-      ∙ ap (λ es. length es) (sym flat) ∙ sym (noticed-length code.checked.now.bytes true document))
+    follows : Follows at events seen count 0 index beginning state
+    follows = goes.follows at document count supplies flat (omega arith)
 
-  same : (n : ℕ) → n ≤ n
-  same n = omega arith
+    same_count : count ≡ length seen
+    same_count =
+        omega (
+          arith,
+          all,
+          ap (λ es. length es) flat,
+          noticed-length code.checked.now.bytes true document,
+        )
 
-  -- going on to the last event is as going over all of them
-  goes-whole : run at 0 (window index count code.checked.now.events)
-      (window index count (noticed code.checked.now.bytes true document)) state ≡ whole
-  goes-whole =
-      goes.runs at document count supplies flat (same count)
-      ∙ ap (λ es. run at 0 es (window 0 count (noticed code.checked.now.bytes true document)) first)
-      events-all ∙ ap (λ ts. run at 0 (flatten document) ts first) seen-all
-      ∙ ap (λ bytes. run at 0 (flatten document) (noticed bytes true document) first)
-      (sym (Supplies.bytes supplies))
-      ∙ ap (λ s. run at 0 (flatten document) (noticed at.bytes true document) s) new
+    -- going on to the last event is as going over all of them
+    goes-whole : run at 0 (window index count events) (window index count seen) state ≡ whole
+    goes-whole =
+        follows.runs
+        ∙ windows-all (λ es ts. run at 0 es ts beginning) events seen count all same_count
+        ∙ ap (λ es. run at 0 es seen beginning) (sym flat)
+        ∙ ap (λ bytes. run at 0 (flatten document) (noticed bytes true document) beginning)
+        (sym supplies.bytes)
+
+    fits-on : fits 0 (length state.below) (window index count events) (window index count seen)
+        ≡ true
+    fits-on =
+        follows.fits (windows-all (λ es ts. fits 0 0 es ts) events seen count all same_count
+        ∙ ap (λ es. fits 0 0 es seen) (sym flat) ∙ fits-all code.checked.now.bytes document)
 
   -- no event is left
-  pub whole-run : count ≤ index → state ≡ whole
-  whole-run le =
+  pub whole-run : count ≤ index → IsRun code state
+  whole-run le = λ at document supplies flat.
       sym (window-end at code.checked.now.events (noticed code.checked.now.bytes true document)
-      index count state le) ∙ goes-whole
-
-  fits-on : fits 0 (length state.below) (window index count code.checked.now.events)
-      (window index count (noticed code.checked.now.bytes true document)) ≡ true
-  fits-on =
-      goes.fits at document count supplies flat (same count)
-      (subst (λ (s : State). fits 0 (length s.below) (window 0 count code.checked.now.events)
-      (window 0 count (noticed code.checked.now.bytes true document)) ≡ true) (sym new) (subst
-      (λ es. fits 0 0 es (window 0 count (noticed code.checked.now.bytes true document)) ≡ true)
-      (sym events-all)
-      (subst (λ ts. fits 0 0 (flatten document) ts ≡ true) (sym seen-all)
-      (fits-all code.checked.now.bytes document))))
+      index count state le) ∙ goes-whole at document supplies flat
 
   -- a text that is longer than this, where none is captured, makes the whole one longer
-  pub longer-run : (limit : ℕ) → state.below ≡ [] → limit < length state.text →
-      limit < length whole.text
-  longer-run limit none lt =
-      subst (λ (s : State). limit < length s.text) goes-whole
-      (more (length (outermost state.text state.below))
-      (length (run at 0 (window index count code.checked.now.events)
-      (window index count (noticed code.checked.now.bytes true document)) state).text)
-      (subst (λ b. limit < length (outermost state.text b)) (sym none) lt)
-      (run-grows at 0 (window index count code.checked.now.events)
-      (window index count (noticed code.checked.now.bytes true document)) state fits-on))
-    where
-      more : (n m : ℕ) → limit < n → n ≤ m → limit < m
-      more n m f g = omega (arith, f, g)
+  pub longer-run : (limit : ℕ) → (state.below ≡ []) × (limit < length state.text) →
+      IsRunOver code limit
+  longer-run limit long = λ at document supplies flat.
+      let shown : length (outermost state.text state.below) ≡ length state.text =
+      ap (λ b. length (outermost state.text b)) long.0 in
+      omega (
+        arith,
+        shown,
+        long.1,
+        run-grows at 0 (window index count code.checked.now.events)
+            (window index count (noticed code.checked.now.bytes true document)) state
+            (fits-on at document supplies flat),
+        ap (λ (s : State). length s.text) (goes-whole at document supplies flat),
+      )
 
--- with the section of footnotes it is no shorter
-pub longer-text : (at : Context) (document : Forest) (limit : ℕ) →
-    limit < length (run at 0 (flatten document) (noticed at.bytes true document) beginning).text →
-    limit < length (text_of at document)
-longer-text at document limit lt =
-    let after : State = run at 0 (flatten document) (noticed at.bytes true document) beginning in
-    more (length after.text) (length (text_of at document)) lt
-    (laid-grows at.ending after.text (section (record at { calls = after.calls }) after.footnotes))
-  where
-    more : (n m : ℕ) → limit < n → n ≤ m → limit < m
-    more n m f g = omega (arith, f, g)
+module _ (code : Supplied) where
+  -- the text of this state with the section of footnotes
+  pub printed : (after : State) (text : List ℕ) → IsRun code after →
+      ((at : Context) → at.options ≡ code.options.now → at.ending ≡ code.ending.now →
+      at.calls ≡ after.calls →
+      text ≡ laid_after at.ending after.text (section at after.footnotes)) →
+      IsPrinted code text
+  printed after text ran says = record {
+    is = λ at document supplies flat.
+        says (record at { calls = after.calls }) supplies.options supplies.ending refl
+        ∙ ap (λ (s : State). laid_after at.ending s.text
+        (section (record at { calls = s.calls }) s.footnotes)) (ran at document supplies flat);
+  }
+
+  -- with it a text is no shorter
+  pub longer-text : (limit : ℕ) → IsRunOver code limit → IsPrintedOver code limit
+  longer-text limit long = record {
+    is = λ at document supplies flat.
+        let after : State = run at 0 (flatten document) (noticed at.bytes true document) beginning
+        in
+        omega (
+          arith,
+          long at document supplies flat,
+          laid-grows at.ending after.text
+              (section (record at { calls = after.calls }) after.footnotes),
+        );
+  }

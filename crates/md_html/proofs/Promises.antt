@@ -1,16 +1,12 @@
 -- What holds of a text that is what a checked document means: what holds of each meaning.
-use Rattle.std.proofs.Common.{◌≡◌, ℕ, ◌+◌, ◌*◌, ◌≤◌, ◌<◌, ◌^◌, false, List, length, ap, sym, ◌∙◌}
-use Rattle.std.proofs.Common.{subst, arith}
+use Rattle.std.proofs.Common.{◌≡◌, ℕ, ◌+◌, ◌*◌, ◌≤◌, ◌<◌, ◌^◌, false, List, length, ap}
+use Rattle.std.proofs.Common.{arith}
 use Rattle.md_base.specs.Tree.{Forest, flatten}
-use Rattle.md_base.specs.declared.event.Name.TheVariants.{Paragraph}
-use Rattle.md_base.specs.declared.event.Point.{Point}
-use Rattle.md_text.specs.Html.{any_attribute, HasOneReadingWith, IsReading}
-use Rattle.md_text.specs.Ids.{HasDistinctIds}
+use Rattle.md_text.specs.Html.{any_attribute, HasOneReadingWith}
 use Rattle.md_text.specs.Safe.{is_safe_link, is_safe_image}
 use Rattle.md_text.specs.declared.options.CompileOptions.{CompileOptions}
-use Rattle.md_tree.specs.Grammar.{Handed, IsChecked, IsGrammatical}
-use Rattle.md_tree.proofs.OneTree.{flatten_one}
-use Rattle.md_meaning.specs.Meaning.{meaning}
+use Rattle.md_tree.specs.Grammar.{Handed, IsChecked}
+use Rattle.md_facts.proofs.FoundLemmas.{grammatical-there}
 use Rattle.md_content.specs.Built.{IsBuilt, Blocks}
 use Rattle.md_content.specs.Underlined.{IsUnderlined}
 use Rattle.md_content.proofs.Grammatical.{grammatical-built}
@@ -19,7 +15,6 @@ use Rattle.md_safe.specs.Options.{KeepsGrammar, KeepsLinks, KeepsImages}
 use Rattle.md_safe.proofs.Whole.{one-reading, safe-links, safe-images}
 use Rattle.md_safe.proofs.WholeIds.{distinct-ids}
 use Rattle.md_safe.proofs.ContainedWhole.{meaning-contained, meaning-unnested}
-use Rattle.md_safe.specs.Contents.{IsContained, IsUnnested}
 use Rattle.md_safe.proofs.Tokenized.{read-tokenized, link-tokens, image-tokens}
 use Rattle.md_safe.proofs.Tokenized.{safely-tokenized}
 use Rattle.md_safe.proofs.WholeTrees.{text-built}
@@ -29,53 +24,42 @@ use Rattle.md_depth.specs.Depth.{depth, height}
 use Rattle.md_depth.specs.Levels.{NestsWithin}
 use Rattle.md_depth.proofs.Nodes.{events-nest}
 use Rattle.md_depth.proofs.WholeMoves.{elements-nest}
+use Rattle.md_html.specs.Printed.{IsMeant}
 use Rattle.md_html.specs.Promises.{Promises, SafePromises}
 use Rattle.md_html.specs.Reuse.{reuse}
 use Rattle.md_html.specs.Within.{IsReuseWithin}
 use Rattle.md_html.specs.Work.{work}
 
--- a point
-start : Point
-start = record { line = 1; column = 1; index = 0; vs = 0 }
-
 pub promises : (options : CompileOptions) (given : Handed) (text : List ℕ) → IsChecked given →
-    length given.events < 2 ^ 63 →
-    ((document : Forest) → flatten document ≡ given.events →
-    text ≡ meaning options given.names given.bytes document) → Promises options given text
+    length given.events < 2 ^ 63 → IsMeant options given text → Promises options given text
 promises options given text read few meant =
     let built : IsBuilt given.bytes Blocks read.0 = grammatical-built given.bytes given.names read.0
     read.1.grammatical in
     let underlined : IsUnderlined false read.0 =
     grammatical-underlined given.bytes given.names read.0 read.1.grammatical in
     let fewer : length (flatten read.0) < 2 ^ 64 = omega (ap length read.1.flattened, few, arith) in
-    let same = sym (meant read.0 read.1.flattened) in
-    let one : KeepsGrammar options → HasOneReadingWith any_attribute text = λ keeps.
-    subst (λ t. HasOneReadingWith any_attribute t) same
-    (one-reading given.bytes given.names options read.0 built keeps) in
-    let links : KeepsLinks options → HasOneReadingWith is_safe_link text = λ keeps.
-    subst (λ t. HasOneReadingWith is_safe_link t) same
-    (safe-links given.bytes given.names options read.0 built keeps) in
-    let images : KeepsImages options → HasOneReadingWith is_safe_image text = λ keeps.
-    subst (λ t. HasOneReadingWith is_safe_image t) same
-    (safe-images given.bytes given.names options read.0 built keeps) in
+    let same = meant read.0 read.1.flattened in
+    let one : KeepsGrammar options → HasOneReadingWith any_attribute text =
+    λ keeps. rw same (one-reading given.bytes given.names options read.0 built keeps) in
+    let links : KeepsLinks options → HasOneReadingWith is_safe_link text =
+    λ keeps. rw same (safe-links given.bytes given.names options read.0 built keeps) in
+    let images : KeepsImages options → HasOneReadingWith is_safe_image text =
+    λ keeps. rw same (safe-images given.bytes given.names options read.0 built keeps) in
     record {
       grammatical = read;
       meaning = meant;
       one_reading = one;
       safe_links = links;
       safe_images = images;
-      contained = λ keeps. subst IsContained same
-          (meaning-contained given.bytes given.names options read.0 read.1.grammatical keeps);
+      contained = λ keeps.
+          rw same (meaning-contained given.bytes given.names options read.0 read.1.grammatical keeps);
       tree = λ document flat unnested keeps.
-          text-built text (subst IsUnnested (sym (meant document flat))
-          (meaning-unnested given.bytes given.names options document
-          (subst (IsGrammatical given.bytes given.names) (flatten_one Paragraph start read.0
-          document (read.1.flattened ∙ sym flat)) read.1.grammatical)
-          keeps unnested));
+          text-built text (rw (meant document flat) (meaning-unnested given.bytes given.names options
+          document (grammatical-there given document read flat) keeps unnested));
       tokenized = λ keeps. read-tokenized any_attribute text (one keeps);
       safe_link_tokens = λ keeps. link-tokens text (links keeps);
       safe_image_tokens = λ keeps. image-tokens text (images keeps);
-      distinct_ids = λ keeps. subst HasDistinctIds same
+      distinct_ids = λ keeps. rw same
           (distinct-ids given.bytes given.names options read.0 built underlined keeps fewer);
     }
 
@@ -95,10 +79,8 @@ safe_promises options given text keeps kept = record {
 
 -- how long it is, where work and what is used again are within a limit
 pub bounded : (options : CompileOptions) (given : Handed) (text : List ℕ) (limit : ℕ) →
-    IsChecked given → length given.events < 2 ^ 63 →
-    ((document : Forest) → flatten document ≡ given.events →
-    text ≡ meaning options given.names given.bytes document) → work given.events ≤ limit →
-    IsReuseWithin options given limit →
+    IsChecked given → length given.events < 2 ^ 63 → IsMeant options given text →
+    work given.events ≤ limit → IsReuseWithin options given limit →
     length text ≤ text_bound options given.names (length given.events) (2 * limit)
 bounded options given text limit read few meant worked reused =
     let document : Forest = read.0 in
@@ -120,14 +102,12 @@ bounded options given text limit read few meant worked reused =
 
 -- how deep its elements nest, where its events nest no deeper than a limit
 pub nested : (options : CompileOptions) (given : Handed) (text : List ℕ) (limit : ℕ) →
-    IsChecked given →
-    ((document : Forest) → flatten document ≡ given.events →
-    text ≡ meaning options given.names given.bytes document) → depth given.events ≤ limit →
+    IsChecked given → IsMeant options given text → depth given.events ≤ limit →
     KeepsGrammar options → NestsWithin (2 * limit + 5) text
 nested options given text limit read meant shallow keeps tree reading =
     let document : Forest = read.0 in
     let same : depth (flatten document) ≡ depth given.events = ap depth read.1.flattened in
     let nests : depth (flatten document) ≡ height document = events-nest document in
     let kept = elements-nest given.bytes given.names options document read.1.grammatical keeps tree
-    (subst (λ text. IsReading text tree) (meant document read.1.flattened) reading) in
+    (rw (meant document read.1.flattened) at reading) in
     omega (arith, same, nests, shallow, kept)

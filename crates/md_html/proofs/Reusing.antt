@@ -7,12 +7,14 @@ use Rattle.std.specs.Prelude.{map, drop, slice_get, option_map, ◌*◌, ◌-◌
 use Rattle.std.specs.Option.{option_map_or}
 use Rattle.std.proofs.lemmas.Option.{slice_get-map, slice_get_within}
 use Rattle.std.proofs.lemmas.List.{length-append, drop_all}
+use Rattle.std.proofs.lemmas.Simd.{map-map}
 use Rattle.md_base.specs.declared.event.Event.{Event}
 use Rattle.md_base.specs.declared.event.Kind.{Kind}
 use Rattle.md_base.specs.declared.event.Kind.TheVariants.{Enter, Exit}
 use Rattle.md_base.specs.declared.event.Name.{Name}
 use Rattle.md_base.specs.declared.event.Name.TheVariants.{Link, Image}
 use Rattle.md_base.specs.Tree.{Forest, Empty, Node, flatten, exiting}
+use Rattle.md_base.proofs.Lies.{lie}
 use Rattle.md_pattern.specs.Standing.{standing_of}
 use Rattle.md_pattern.specs.Facts.{facts_at}
 use Rattle.md_pattern.specs.declared.facts.Fact.{Fact}
@@ -31,16 +33,13 @@ use Rattle.md_html.specs.Work.{covered, covered_from}
 use Rattle.md_text.specs.declared.options.CompileOptions.{CompileOptions}
 use Rattle.md_measure.specs.Counting.{capped}
 
-lie : true ≡ false → ⊥
-lie h = cc
-
 -- a mention of neither a link nor an image refers to no definition
 pub not-media :
     (bytes : List ℕ) (mentions : List Mention) (name : Name) (target : Referral) →
     is_media name ≡ false →
     definition_for bytes mentions (mention_of (reading_of (standing_of name)) target) ≡ None
-not-media bytes mentions Link target is = absurd (lie is)
-not-media bytes mentions Image target is = absurd (lie is)
+not-media bytes mentions Link target is = lie (sym is)
+not-media bytes mentions Image target is = lie (sym is)
 not-media bytes mentions _ Missing is = refl
 not-media bytes mentions _ Resource is = refl
 not-media bytes mentions _ (Label label) is = refl
@@ -106,22 +105,15 @@ none-led bytes document events index event mention flat there here unless =
         let same : m ≡ mention = cc in
         subst leads same (of_kind event.kind fact m refl recorded)
 
--- the first of the events that are left
-pub first-there : (events : List Event) (index : ℕ) (event : Event) (following : List Event) →
-    drop index events ≡ event ∷ following → slice_get events index ≡ Some event
-first-there [] zero event following split = cc
-first-there [] (suc index) event following split = cc
-first-there (e ∷ events) zero event following split = cc
-first-there (e ∷ events) (suc index) event following split =
-    first-there events index event following split
-
-pub others-there : (events : List Event) (index : ℕ) (event : Event) (following : List Event) →
-    drop index events ≡ event ∷ following → following ≡ drop (suc index) events
-others-there [] zero event following split = cc
-others-there [] (suc index) event following split = cc
-others-there (e ∷ events) zero event following split = cc
-others-there (e ∷ events) (suc index) event following split =
-    others-there events index event following split
+-- the first of the events that are left, and the others
+pub split-there : (events : List Event) (index : ℕ) (event : Event) (following : List Event) →
+    drop index events ≡ event ∷ following →
+    (slice_get events index ≡ Some event) × (following ≡ drop (suc index) events)
+split-there [] zero event following split = cc
+split-there [] (suc index) event following split = cc
+split-there (e ∷ events) zero event following split = (cc, cc)
+split-there (e ∷ events) (suc index) event following split =
+    split-there events index event following split
 
 -- what is counted is counted once
 pub capped-more : (counted more later : ℕ) →
@@ -159,14 +151,7 @@ pub lengths-capped : (document : Forest) (events : List Event) → flatten docum
 lengths-capped document events flat =
     ap (λ es. map (λ entry. capped (definition_length es entry)) (definition_entries 0 document))
     (sym flat)
-    ∙ sym (map-map (definition_entries 0 document))
-  where
-    map-map : (entries : List ℕ) →
-        map capped (map (definition_length (flatten document)) entries)
-        ≡ map (λ entry. capped (definition_length (flatten document) entry)) entries
-    map-map [] = refl
-    map-map (entry ∷ entries) =
-        ap (λ es. capped (definition_length (flatten document) entry) ∷ es) (map-map entries)
+    ∙ sym (map-map capped (definition_length (flatten document)) (definition_entries 0 document))
 
 -- ---- what is missing counts nothing
 

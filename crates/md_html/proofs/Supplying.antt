@@ -1,24 +1,26 @@
--- What the code is supplied with is what the steps are given: before the definitions are
--- known, and after.
-use Rattle.std.proofs.Common.{◌≡◌, ℕ, zero, suc, Bool, true, false, Option, Some, None, List, []}
-use Rattle.std.proofs.Common.{refl, sym, ap, ◌∙◌}
+-- What the code is supplied with is what the steps are given, before the definitions are known and
+-- after; then what is printed is the meaning of the document.
+use Rattle.std.proofs.Common.{◌≡◌, ◌<◌, ℕ, zero, suc, Bool, true, false, Option, Some, None, List, []}
+use Rattle.std.proofs.Common.{length, refl, sym, ap, ◌∙◌, subst}
 use Rattle.std.specs.Prelude.{slice_get, map, option_map, unwrap_or, option_and_then, if◌then◌else◌}
 use Rattle.std.specs.Option.{option_map_or}
 use Rattle.std.proofs.lemmas.Option.{slice_get-map}
 use Rattle.md_base.specs.Reference.{name_table}
 use Rattle.md_base.specs.Tree.{Forest, flatten}
-use Rattle.md_meaning.specs.Meaning.At.{Defined, Context, Target}
-use Rattle.md_tree.specs.Grammar.{Handed}
 use Rattle.md_text.specs.declared.options.CompileOptions.{CompileOptions}
-use Rattle.md_steps.specs.Run.{Noticed, defined, context_alone}
-use Rattle.md_steps.specs.Sides.{referred}
+use Rattle.md_meaning.specs.Meaning.{meaning, ending_at}
+use Rattle.md_meaning.specs.Meaning.At.{Defined, Context}
+use Rattle.md_meaning.specs.Meaning.Finds.{first_ending}
+use Rattle.md_tree.specs.Grammar.{IsChecked, IsGrammatical, IsReadAs}
+use Rattle.md_steps.specs.Run.{defined, context_alone, printed}
 use Rattle.md_steps.specs.Steps.{nowhere}
-use Rattle.md_facts.specs.NodeFacts.{IsNoticedAt}
-use Rattle.md_facts.specs.Definitions.{RefersTo}
+use Rattle.md_facts.proofs.FoundLemmas.{grammatical-there}
 use Rattle.md_printer.specs.Supplies.{Supplies, target_at}
 use Rattle.md_printer.specs.declared.context.Context.{Context as Supplied}
+use Rattle.md_html.specs.Printed.{IsMeant, IsPrinted, IsPrintedOver, text_of}
+use Rattle.md_html.specs.Within.{IsLonger}
 
-pub none-led : (place : Option ℕ) → target_at [] place ≡ nowhere
+none-led : (place : Option ℕ) → target_at [] place ≡ nowhere
 none-led None = refl
 none-led (Some zero) = refl
 none-led (Some (suc place)) = refl
@@ -37,35 +39,18 @@ mapped-led found (Some place) =
     by None = refl
     by (Some d) = refl
 
-pub known-led : (handed : Handed) (document : Forest) (alone at : Context) (targets : List Target)
-    (index : ℕ) (one : Noticed) (place : Option ℕ) → flatten document ≡ handed.events →
-    alone.bytes ≡ handed.bytes →
-    at.definitions ≡ defined alone document →
-    targets ≡ map (λ (d : Defined). d.target) (defined alone document) →
-    IsNoticedAt handed index one → RefersTo handed index place →
-    target_at targets place ≡ referred at one.facts
-known-led handed document alone at targets index one place flat same known are there led =
-    ap (λ ts. target_at ts place) (are ∙ ap (map (λ (d : Defined). d.target)) (sym known))
-    ∙ mapped-led at.definitions place
-    ∙ sym (led one at there
-    (document, alone, flat, same, ap (map (λ (d : Defined). d.identifier)) known))
-
--- ---- all that the code is supplied with
-
-module _ (code : Supplied) (options : CompileOptions) (names : List (List ℕ × List ℕ))
-    (bytes ending : List ℕ)
-    (same_bytes : bytes ≡ code.checked.now.bytes) (same_names : names ≡ name_table code.names.now)
-    (same_options : options ≡ code.options.now) (same_ending : ending ≡ code.ending.now) where
-  abbrev alone : Context
-  alone = context_alone options names bytes ending
-
+module _ (code : Supplied) (named : name_table code.names.now ≡ code.checked.now.names) where
   -- before the definitions are known
+  abbrev pub alone : Context
+  alone =
+      context_alone code.options.now code.checked.now.names code.checked.now.bytes code.ending.now
+
   pub alone-supplied : code.definitions.now ≡ [] → Supplies code alone
   alone-supplied none = record {
-    bytes = same_bytes;
-    names = same_names;
-    options = same_options;
-    ending = same_ending;
+    bytes = refl;
+    names = sym named;
+    options = refl;
+    ending = refl;
     finds = λ index one place there led. ap (λ ts. target_at ts place) none ∙ none-led place
         ∙ either-way one.facts.resource;
   }
@@ -75,16 +60,54 @@ module _ (code : Supplied) (options : CompileOptions) (names : List (List ℕ ×
       either-way false = refl
 
   -- when they are
-  pub all-supplied : (document : Forest) → flatten document ≡ code.checked.now.events →
-      code.definitions.now ≡ map (λ (d : Defined). d.target) (defined alone document) →
-      Supplies code (record alone { definitions = defined alone document })
-  all-supplied document flat are = record {
-    bytes = same_bytes;
-    names = same_names;
-    options = same_options;
-    ending = same_ending;
-    finds = λ index one place there led.
-        known-led code.checked.now document alone
-        (record alone { definitions = defined alone document })
-        code.definitions.now index one place flat same_bytes refl are there led;
-  }
+  abbrev whole : Forest → Context
+  whole document = record alone { definitions = defined alone document }
+
+  module _ (known : (document : Forest) → flatten document ≡ code.checked.now.events →
+      code.definitions.now ≡ map (λ (d : Defined). d.target) (defined alone document)) where
+    all-supplied : (document : Forest) → flatten document ≡ code.checked.now.events →
+        Supplies code (whole document)
+    all-supplied document flat = record {
+      bytes = refl;
+      names = sym named;
+      options = refl;
+      ending = refl;
+      finds = λ index one place there led. ap (λ ts. target_at ts place) (known document flat)
+          ∙ mapped-led (defined alone document) place
+          ∙ sym (led one (whole document) there (document, alone, flat, refl, refl));
+    }
+
+    pub supplied : IsChecked code.checked.now → (at : Context) × Supplies code at
+    supplied checked =
+        (whole checked.0, all-supplied checked.0 (IsReadAs.flattened checked.1))
+
+    module _ (checked : IsChecked code.checked.now)
+        (ending : (document : Forest) → flatten document ≡ code.checked.now.events →
+        code.ending.now
+        ≡ ending_at code.options.now code.checked.now.bytes (first_ending document))
+        (law : (options : CompileOptions) (names : List (List ℕ × List ℕ)) (bytes : List ℕ)
+        (document : Forest) → IsGrammatical bytes names document →
+        printed options names bytes document ≡ meaning options names bytes document) where
+      means : (document : Forest) → flatten document ≡ code.checked.now.events →
+          text_of (whole document) document
+          ≡ meaning code.options.now code.checked.now.names code.checked.now.bytes document
+      means document flat =
+          let first : List ℕ → Context = λ ending. context_alone code.options.now
+          code.checked.now.names code.checked.now.bytes ending in
+          ap (λ ending. text_of (record (first ending) {
+            definitions = defined (first ending) document;
+          }) document) (ending document flat)
+          ∙ law code.options.now code.checked.now.names code.checked.now.bytes document
+          (grammatical-there code.checked.now document checked flat)
+
+      pub printed-meant : (text : List ℕ) → IsPrinted code text →
+          IsMeant code.options.now code.checked.now text
+      printed-meant text printed = λ document flat.
+          printed.is (whole document) document (all-supplied document flat) flat
+          ∙ means document flat
+
+      pub over-longer : (limit : ℕ) → IsPrintedOver code limit →
+          IsLonger code.options.now code.checked.now limit
+      over-longer limit over = λ document flat.
+          subst (λ text. limit < length text) (means document flat)
+          (over.is (whole document) document (all-supplied document flat) flat)

@@ -1,10 +1,10 @@
 -- Where HTML is escaped the tag filter changes no meaning.
 use Rattle.std.proofs.Common.{◌≡◌, ℕ, Bool, true, false, ◌&&◌, not, zero, suc, List, [], ◌∷◌, ◌++◌}
 use Rattle.std.proofs.Common.{length, refl, ap, ◌∙◌}
-use Rattle.std.specs.Prelude.{if◌then◌else◌, ◌==◌, codes, find, bytes_eq}
-use Rattle.std.specs.Option.{option_map_or}
+use Rattle.std.specs.Prelude.{if◌then◌else◌, ◌==◌, codes}
 use Rattle.std.specs.List.{flat_map}
 use Rattle.std.proofs.lemmas.Bool.{true≢false}
+use Rattle.std.proofs.Math.Path.{fun_ext}
 use Rattle.md_base.specs.declared.event.Name.{Name}
 use Rattle.md_base.specs.declared.event.Name.TheVariants.{BlockQuote, HtmlFlowData, HtmlTextData}
 use Rattle.md_text.specs.Encode.{encoded}
@@ -18,14 +18,14 @@ use Rattle.md_meaning.specs.Meaning.Inherited.{inside, outermost}
 use Rattle.md_tree.specs.Rules.{place}
 use Rattle.md_meaning.specs.Meaning.Finds.{first_ending}
 use Rattle.md_meaning.specs.Meaning.{meaning, ending_at}
-use Rattle.md_meaning.specs.Meaning.Layout.{Piece, Text, Forced, layout, when, on_own_line}
+use Rattle.md_meaning.specs.Meaning.Layout.{Piece, Text, Forced, layout, when}
 use Rattle.md_meaning.specs.Meaning.At.{Context, Defined, Footnote, At, Before, text_in}
 use Rattle.md_meaning.specs.Meaning.Before.{nothing_before, before_children}
 use Rattle.md_meaning.specs.Meaning.Spans.{html}
 use Rattle.md_meaning.specs.Meaning.Means.{prints}
 use Rattle.md_meaning.specs.Meaning.Nodes.{Outcome, outcome, node, both, continued, before_next}
 use Rattle.md_meaning.specs.Meaning.Footnotes.{distinct, count_of, backreference, backreferences}
-use Rattle.md_meaning.specs.Meaning.Footnotes.{body, place_among, id_of, item, section_start}
+use Rattle.md_meaning.specs.Meaning.Footnotes.{place_among, item, section_start}
 use Rattle.md_meaning.specs.Meaning.Footnotes.{section}
 
 -- the options with the tag filter on or off
@@ -117,29 +117,20 @@ ways_back-moot filter options identifier number (suc count) =
     ++ backreference options identifier number (suc count)))
     (ways_back-moot filter options identifier number count)
 
-items-moot :
-    (filter : Bool) (context : Context) (footnotes : List Footnote) (identifiers : List (List ℕ)) →
-    flat_map (item (under filter context) footnotes) identifiers
-    ≡ flat_map (item context footnotes) identifiers
-items-moot filter context footnotes [] = refl
-items-moot filter context footnotes (identifier ∷ identifiers) =
-    let number : ℕ = place_among (distinct context.calls) identifier in
-    let footnote = find (λ (f : Footnote). bytes_eq f.identifier identifier) footnotes in
-    ap (λ back. (Forced ∷ Text (codes "<li id=\"")
-    ∷ Text (id_of context.options (codes "fn-") identifier number) ∷ Text (codes "\">")
-    ∷ Forced ∷ (body (option_map_or (λ (f : Footnote). f.text) footnote []) back
-    ++ on_own_line (codes "</li>"))) ++ flat_map (item (under filter context) footnotes)
-    identifiers)
-    (ways_back-moot filter context.options identifier number (count_of context.calls identifier))
-    ∙ ap (λ ps. item context footnotes identifier ++ ps)
-    (items-moot filter context footnotes identifiers)
+item-moot :
+    (filter : Bool) (context : Context) (footnotes : List Footnote) (identifier : List ℕ) →
+    item (under filter context) footnotes identifier ≡ item context footnotes identifier
+item-moot filter context footnotes identifier =
+    rw (ways_back-moot filter context.options identifier
+    (place_among (distinct context.calls) identifier) (count_of context.calls identifier))
 
 section-moot : (filter : Bool) (context : Context) (footnotes : List Footnote) →
     section (under filter context) footnotes ≡ section context footnotes
 section-moot filter context footnotes =
-    ap (λ ps. when (not (length context.calls == 0)) (section_start context.options
-    ++ (ps ++ (Forced ∷ Text (codes "</ol>") ∷ Forced ∷ Text (codes "</section>") ∷ Forced ∷ []))))
-    (items-moot filter context footnotes (distinct context.calls))
+    ap (λ (of : List ℕ → List Piece). when (not (length context.calls == 0))
+    (section_start context.options ++ (flat_map of (distinct context.calls)
+    ++ (Forced ∷ Text (codes "</ol>") ∷ Forced ∷ Text (codes "</section>") ∷ Forced ∷ []))))
+    (fun_ext (item-moot filter context footnotes))
 
 -- the text of what a document means
 abbrev text_by : Context → Outcome → List ℕ

@@ -1,138 +1,146 @@
--- One iteration of the run: its index, the counts, and the remaining events.
-use Rattle.std.proofs.Common.{◌≡◌, ◌≤◌, ◌<◌, ℕ, suc, ◌+◌, true, Some, List, ◌∷◌, length, drop}
-use Rattle.std.proofs.Common.{sym, ap, ◌∙◌, subst, arith}
+-- One iteration of the run: the remaining events, and the counts.
+use Rattle.std.proofs.Common.{◌≡◌, ◌≤◌, ◌<◌, ℕ, suc, ◌+◌, true, Some, List, length, refl, sym, ap}
+use Rattle.std.proofs.Common.{◌∙◌, arith}
 use Rattle.std.specs.Prelude.{slice_get}
 use Rattle.md_base.specs.declared.event.Event.{Event}
-use Rattle.md_base.specs.Tree.{Forest, flatten}
+use Rattle.md_base.specs.declared.event.Kind.TheVariants.{Enter, Exit}
+use Rattle.md_base.specs.Tree.{Forest, flatten, entering, exiting}
 use Rattle.md_meaning.specs.Meaning.At.{Context}
 use Rattle.md_tree.specs.Grammar.{IsChecked, IsReadAs}
 use Rattle.md_steps.specs.Run.{Noticed, noticed, passes, stepped, run}
 use Rattle.md_steps.specs.State.{State}
+use Rattle.md_facts.proofs.Nodes.{same-document}
 use Rattle.md_printer.specs.Supplies.{Supplies}
 use Rattle.md_printer.specs.declared.context.Context.{Context as Supplied}
 use Rattle.md_html.specs.Windows.{window}
-use Rattle.md_html.specs.Stepping.{Steps, Goes}
-use Rattle.md_html.proofs.Stepping.{Seen, seen, stepped-cells, stepped-fences}
+use Rattle.md_html.specs.Stepping.{Steps, Leafs, Follows, Goes, Few}
 use Rattle.md_html.specs.Fits.{fits, captured_after}
-use Rattle.md_html.proofs.Windows.{window-step, window-first, window-drop}
-use Rattle.md_html.proofs.FirstText.{stepped-captured}
+use Rattle.md_html.proofs.Alone.{alone, none_passed}
 use Rattle.md_html.proofs.Fits.{fits-step}
+use Rattle.md_html.proofs.FirstText.{stepped-captured}
+use Rattle.md_html.proofs.Stepping.{Seen, seen, is-there, stepped-few}
+use Rattle.md_html.proofs.Windows.{windows-first, windows-drop, run-passing, window-end}
 
-module _ (code : Supplied) (at : Context) (index : ℕ) (event : Event) (more : ℕ)
-    (before after : State)
-    (checked : IsChecked code.checked.now) (supplies : Supplies code at)
+module _ (at : Context) (events : List Event) (all : List Noticed) (end : ℕ) where
+  -- the step at an event
+  follows-step : (index next : ℕ) (event : Event) (one : Noticed) (before after : State) →
+      index < end → slice_get events index ≡ Some event → slice_get all index ≡ Some one →
+      next ≡ suc index + passes event one.inside → after ≡ stepped at event one.facts before →
+      Follows at events all end index next before after
+  follows-step index next event one before after lt got there e same =
+      let skips : ℕ = passes event one.inside in
+      let captured : ℕ = length before.below in
+      let following : List Event = window (suc index) end events in
+      let followed : List Noticed = window (suc index) end all in
+      rw same (record {
+        runs = sym (windows-first (λ es ts. run at 0 es ts before) events all index end event one lt
+            got there ∙ run-passing at skips following followed (stepped at event one.facts before)
+            ∙ windows-drop (λ es ts. run at 0 es ts (stepped at event one.facts before)) events all
+            (suc index) end skips next e);
+        fits = λ f.
+            ap (λ n. fits 0 n (window next end events) (window next end all))
+            (stepped-captured at event one.facts before)
+            ∙ sym (windows-drop (fits 0 (captured_after event captured)) events all (suc index) end
+            skips next e)
+            ∙ fits-step captured event one following followed
+            (sym (windows-first (fits 0 captured) events all index end event one lt got there) ∙ f);
+        few = stepped-few at event one.facts before index next (omega (arith, e));
+      })
+
+  -- one after another
+  pub follows-on : (from index next : ℕ) (first before after : State) →
+      Follows at events all end from index first before →
+      Follows at events all end index next before after →
+      Follows at events all end from next first after
+  follows-on from index next first before after earlier later = record {
+    runs = later.runs ∙ earlier.runs;
+    fits = λ f. later.fits (earlier.fits f);
+    few = λ few. later.few (earlier.few few);
+  }
+
+-- the events that are skipped after a step are in the document
+pub turn-within : (code : Supplied) (index : ℕ) (event : Event) (more : ℕ) (before after : State)
+    (supplied : (at : Context) × Supplies code at) → IsChecked code.checked.now →
+    slice_get code.checked.now.events index ≡ Some event →
+    Steps code index event more before after →
+    index + more < length code.checked.now.events
+turn-within code index event more before after supplied checked got steps =
+    let here : Seen code.checked.now checked.0 index event =
+    seen code.checked.now checked.0 index event (IsReadAs.flattened checked.1) got in
+    omega (arith, (steps supplied.0 here.one supplied.1 here.there).0, here.inner)
+
+module _ (code : Supplied) (from index to : ℕ) (event : Event) (first before after : State)
     (got : slice_get code.checked.now.events index ≡ Some event)
-    (steps : Steps code index event more before after) where
-  abbrev pub here : Seen code.checked.now checked.0 index event
-  here = seen code.checked.now checked.0 index event (IsReadAs.flattened checked.1) got
+    (goes : Goes code from index to first before) where
+  pub goes-turn : (more : ℕ) → index < to → Steps code index event more before after →
+      Goes code from (index + (1 + more)) to first after
+  goes-turn more lt steps = record {
+    follows = λ at document end supplies flat le.
+        let events : List Event = code.checked.now.events in
+        let all : List Noticed = noticed code.checked.now.bytes true document in
+        let here : Seen code.checked.now document index event =
+        seen code.checked.now document index event flat got in
+        let (skips, same) = steps at here.one supplies here.there in
+        follows-on at events all end from index (index + (1 + more)) first before after
+        (goes.follows at document end supplies flat le)
+        (follows-step at events all end index (index + (1 + more)) event here.one before after
+        (omega (arith, lt, le)) got here.got (omega (arith, skips)) same);
+  }
 
-  -- the skipped events are in the document
-  pub turn-within : index + more < length code.checked.now.events
-  turn-within =
-      within (passes event here.one.inside) (steps at here.one supplies here.there).0 here.inner
-    where
-      within : (p : ℕ) → more ≡ p → index + p < length code.checked.now.events →
-          index + more < length code.checked.now.events
-      within p e lt = omega (arith, e, lt)
+  -- the two steps at a node without children, which is printed at once
+  pub goes-leaf : Leafs code index to event before after → Goes code from (index + 2) to first after
+  goes-leaf leafs = record {
+    follows = λ at document end supplies flat le.
+        let events : List Event = code.checked.now.events in
+        let all : List Noticed = noticed code.checked.now.bytes true document in
+        let here : Seen code.checked.now document index event =
+        seen code.checked.now document index event flat got in
+        let one : Noticed = here.one in
+        let twin = leafs.noticed one here.there in
+        let enter : Event = entering event.name event.point in
+        let exit : Event = exiting event.name leafs.exits.0.point in
+        let inner : State = stepped at enter one.facts before in
+        follows-on at events all end from (suc index) (index + 2) first inner after
+        (follows-on at events all end from index (suc index) first before inner
+        (goes.follows at document end supplies flat le)
+        (follows-step at events all end index (suc index) enter one before inner
+        (omega (arith, leafs.within, le))
+        (is-there events index Enter event.name (event, got, leafs.enters, refl)) here.got
+        (omega (arith, none_passed event.name leafs.alone one.inside)) refl))
+        (follows-step at events all end (suc index) (index + 2) exit one inner after
+        (omega (arith, leafs.within, le)) (is-there events (suc index) Exit event.name leafs.exits)
+        (ap (λ d. slice_get (noticed code.checked.now.bytes true d) (suc index))
+        (same-document document twin.0 events flat twin.1) ∙ twin.2)
+        (omega arith) (leafs.left at one supplies here.there
+        ∙ sym (alone event.name leafs.alone event.point at one.facts before)));
+  }
 
-  further : (n : ℕ) → n ≤ index + 1 → n ≤ index + (1 + more)
-  further n le = omega (arith, le)
-
-  pub turn-cells : before.cells ≤ index → after.cells ≤ index + (1 + more)
-  turn-cells le =
-      subst (λ (s : State). s.cells ≤ index + (1 + more))
-      (sym (steps at here.one supplies here.there).1)
-      (further (stepped at event here.one.facts before).cells
-      (stepped-cells at event here.one.facts before index le))
-
-  pub turn-fences : before.fences ≤ index → after.fences ≤ index + (1 + more)
-  turn-fences le =
-      subst (λ (s : State). s.fences ≤ index + (1 + more))
-      (sym (steps at here.one supplies here.there).1)
-      (further (stepped at event here.one.facts before).fences
-      (stepped-fences at event here.one.facts before index le))
-
--- going on after the event is as going on from it
-pub turn-runs : (code : Supplied) (at : Context) (document : Forest) (index to : ℕ) (event : Event)
-    (more : ℕ) (before after : State) → Supplies code at →
-    flatten document ≡ code.checked.now.events → index < to →
-    slice_get code.checked.now.events index ≡ Some event →
-    Steps code index event more before after →
-    run at 0 (window (index + (1 + more)) to code.checked.now.events)
-    (window (index + (1 + more)) to (noticed code.checked.now.bytes true document)) after
-    ≡ run at 0 (window index to code.checked.now.events)
-    (window index to (noticed code.checked.now.bytes true document)) before
-turn-runs code at document index to event more before after supplies flat lt got steps =
-    let here : Seen code.checked.now document index event =
-    seen code.checked.now document index event flat got in
-    let both = steps at here.one supplies here.there in
-    ap (λ s. run at 0 (window (index + (1 + more)) to code.checked.now.events)
-    (window (index + (1 + more)) to (noticed code.checked.now.bytes true document)) s) both.1
-    ∙ window-step at code.checked.now.events (noticed code.checked.now.bytes true document) index to
-    (index + (1 + more)) event here.one before lt got here.got
-    (next (passes event here.one.inside) both.0)
-  where
-    next : (p : ℕ) → more ≡ p → index + (1 + more) ≡ suc index + p
-    next p e = omega (arith, e)
-
--- what fits from an event on fits from the next one on
-pub window-fits : (events : List Event) (seen : List Noticed) (i to next captured : ℕ)
-    (event : Event) (one : Noticed) →
-    i < to → slice_get events i ≡ Some event → slice_get seen i ≡ Some one →
-    next ≡ suc i + passes event one.inside →
-    fits 0 captured (window i to events) (window i to seen) ≡ true →
-    fits 0 (captured_after event captured) (window next to events) (window next to seen) ≡ true
-window-fits events seen i to next captured event one lt got there e f =
-    subst (λ es. fits 0 (captured_after event captured) es (window next to seen) ≡ true)
-    (window-drop events (suc i) to (passes event one.inside) next e)
-    (subst (λ ts. fits 0 (captured_after event captured)
-    (drop (passes event one.inside) (window (suc i) to events)) ts ≡ true)
-    (window-drop seen (suc i) to (passes event one.inside) next e)
-    (fits-step captured event one (window (suc i) to events) (window (suc i) to seen)
-    (subst (λ es. fits 0 captured es (one ∷ window (suc i) to seen) ≡ true) (window-first events i
-    to event lt got) (subst (λ ts. fits 0 captured (window i to events) ts ≡ true)
-    (window-first seen i to one lt there) f))))
-
--- after the event, in the state that it leaves
-pub turn-fits : (code : Supplied) (at : Context) (document : Forest) (index to : ℕ) (event : Event)
-    (more : ℕ) (before after : State) → Supplies code at →
-    flatten document ≡ code.checked.now.events → index < to →
-    slice_get code.checked.now.events index ≡ Some event →
-    Steps code index event more before after →
-    fits 0 (length before.below) (window index to code.checked.now.events)
-    (window index to (noticed code.checked.now.bytes true document)) ≡ true →
-    fits 0 (length after.below) (window (index + (1 + more)) to code.checked.now.events)
-    (window (index + (1 + more)) to (noticed code.checked.now.bytes true document)) ≡ true
-turn-fits code at document index to event more before after supplies flat lt got steps f =
-    let here : Seen code.checked.now document index event =
-    seen code.checked.now document index event flat got in
-    let both = steps at here.one supplies here.there in
-    let all = noticed code.checked.now.bytes true document in
-    subst (λ n. fits 0 n (window (index + (1 + more)) to code.checked.now.events)
-    (window (index + (1 + more)) to all) ≡ true)
-    (sym (ap (λ (s : State). length s.below) both.1
-    ∙ stepped-captured at event here.one.facts before))
-    (window-fits code.checked.now.events all index to (index + (1 + more))
-    (length before.below) event here.one lt
-    got here.got (next (passes event here.one.inside) both.0) f)
-  where
-    next : (p : ℕ) → more ≡ p → index + (1 + more) ≡ suc index + p
-    next p e = omega (arith, e)
-
--- ---- from the first event on
-pub lt-later : (index to end : ℕ) → index < to → to ≤ end → index < end
-lt-later index to end lt le = omega (arith, lt, le)
-
-pub goes-turn :
-    (code : Supplied) (from index to : ℕ) (event : Event) (more : ℕ) (first before after : State) →
-    index < to → slice_get code.checked.now.events index ≡ Some event →
-    Steps code index event more before after →
-    Goes code from index to first before → Goes code from (index + (1 + more)) to first after
-goes-turn code from index to event more first before after lt got steps goes = record {
-  runs = λ at document end supplies flat le.
-      turn-runs code at document index end event more before after supplies flat
-      (lt-later index to end lt le) got steps ∙ goes.runs at document end supplies flat le;
-  fits = λ at document end supplies flat le f.
-      turn-fits code at document index end event more before after supplies flat
-      (lt-later index to end lt le) got steps (goes.fits at document end supplies flat le f);
+-- a run that continues another run
+pub goes-on : (code : Supplied) (from index next to end : ℕ) (first before after : State) →
+    to ≤ end →
+    Goes code from index end first before → Goes code index next to before after →
+    Goes code from next end first after
+goes-on code from index next to end first before after le goes on = record {
+  follows = λ at document last supplies flat later.
+      follows-on at code.checked.now.events (noticed code.checked.now.bytes true document) last from
+      index next first before after (goes.follows at document last supplies flat later)
+      (on.follows at document last supplies flat (omega (arith, le, later)));
 }
+
+-- counts stay few
+pub goes-few : (code : Supplied) (from next to : ℕ) (before after : State)
+    (supplied : (at : Context) × Supplies code at) → IsChecked code.checked.now →
+    Goes code from next to before after → Few from before → Few next after
+goes-few code from next to before after supplied checked goes few =
+    (goes.follows supplied.0 checked.0 to supplied.1 (IsReadAs.flattened checked.1)
+    (omega arith)).few few
+
+-- the events up to the end are run
+pub goes-through : (code : Supplied) (at : Context) (document : Forest) (from next to : ℕ)
+    (before after : State) → Supplies code at → flatten document ≡ code.checked.now.events →
+    to ≤ next → Goes code from next to before after →
+    after ≡ run at 0 (window from to code.checked.now.events)
+    (window from to (noticed code.checked.now.bytes true document)) before
+goes-through code at document from next to before after supplies flat le goes =
+    sym (window-end at code.checked.now.events (noticed code.checked.now.bytes true document) next
+    to after le) ∙ (goes.follows at document to supplies flat (omega arith)).runs

@@ -1,63 +1,53 @@
 -- The events between two indices, in sequence.
-use Rattle.std.proofs.Common.{◌≡◌, ◌≤◌, ◌<◌, ℕ, zero, suc, ◌+◌, ◌-◌, Some, List, [], ◌∷◌, take}
-use Rattle.std.proofs.Common.{drop, refl, sym, ap, ◌∙◌, arith}
+use Rattle.std.proofs.Common.{◌≡◌, ◌≤◌, ◌<◌, ℕ, zero, suc, ◌+◌, Some, List, [], ◌∷◌, length, take}
+use Rattle.std.proofs.Common.{drop, refl, sym, ap, ◌∙◌, arith, add-one, take_all, length-take}
+use Rattle.std.proofs.Common.{drop-drop, get_or-take}
 use Rattle.std.specs.Prelude.{slice_get}
-use Rattle.std.proofs.lemmas.List.{drop-drop}
+use Rattle.std.proofs.lemmas.List.{drop_more, drop_all}
+use Rattle.std.proofs.lemmas.Option.{slice_get_within, get_or_from_slice_get}
 use Rattle.md_base.specs.declared.event.Event.{Event}
 use Rattle.md_meaning.specs.Meaning.At.{Context}
-use Rattle.md_steps.specs.Run.{Noticed, passes, stepped, run}
+use Rattle.md_steps.specs.Run.{Noticed, run}
 use Rattle.md_steps.specs.State.{State}
 use Rattle.md_html.specs.Windows.{window}
 
-drop-got : {A : Type 0} (xs : List A) (i : ℕ) (x : A) → slice_get xs i ≡ Some x →
-    drop i xs ≡ x ∷ drop (suc i) xs
-drop-got [] zero x e = cc
-drop-got [] (suc i) x e = cc
-drop-got (y ∷ xs) zero x e = ap (λ z. z ∷ xs) (some e)
-  where
-    some : Some y ≡ Some x → y ≡ x
-    some f = cc
-drop-got (y ∷ xs) (suc i) x e = drop-got xs i x e
-
-pub window-first : {A : Type 0} (xs : List A) (i to : ℕ) (x : A) → i < to →
-    slice_get xs i ≡ Some x →
+window-first : {A : Type 0} (xs : List A) (i to : ℕ) (x : A) → i < to → slice_get xs i ≡ Some x →
     window i to xs ≡ x ∷ window (suc i) to xs
-window-first xs i to x lt e =
-    ap (λ ys. take (to - i) ys) (drop-got xs i x e)
-    ∙ ap (λ n. take n (x ∷ drop (suc i) xs)) (one_less lt)
-  where
-    one_less : i < to → to - i ≡ suc (to - suc i)
-    one_less f = omega (arith, f)
+window-first xs i to x lt got =
+    let inside : i < length (take to xs) =
+    omega (arith, length-take to xs, lt, slice_get_within xs i x got) in
+    drop_more (take to xs) i x inside
+    ∙ ap (λ y. y ∷ drop (i + 1) (take to xs))
+    (get_or-take to xs i x lt ∙ get_or_from_slice_get xs i x x got)
+    ∙ ap (λ n. x ∷ drop n (take to xs)) (add-one i)
 
-drop-take : {A : Type 0} (n m : ℕ) (xs : List A) → drop n (take m xs) ≡ take (m - n) (drop n xs)
-drop-take zero m xs = ap (λ k. take k xs) (all m)
-  where
-    all : (k : ℕ) → k ≡ k - 0
-    all k = omega arith
-drop-take (suc n) zero xs = ap (λ k. take k (drop (suc n) xs)) (none n)
-  where
-    none : (k : ℕ) → 0 ≡ 0 - suc k
-    none k = omega arith
-drop-take {A = A} (suc n) (suc m) [] = nil (suc m - suc n)
-  where
-    nil : (k : ℕ) → ◌≡◌ {A = List A} [] (take k [])
-    nil zero = refl
-    nil (suc k) = refl
-drop-take (suc n) (suc m) (x ∷ xs) = drop-take n m xs ∙ ap (λ k. take k (drop n xs)) (less m n)
-  where
-    less : (k l : ℕ) → k - l ≡ suc k - suc l
-    less k l = omega arith
+-- nothing is left
+window-none : {A : Type 0} (xs : List A) (i to : ℕ) → to ≤ i → window i to xs ≡ []
+window-none xs i to le = drop_all i (take to xs) (omega (arith, length-take to xs, le))
 
-pub window-drop : {A : Type 0} (xs : List A) (i to n next : ℕ) → next ≡ i + n →
-    drop n (window i to xs) ≡ window next to xs
-window-drop xs i to n next e =
-    drop-take n (to - i) (drop i xs)
-    ∙ ap (λ m. take m (drop n (drop i xs))) (less e)
-    ∙ ap (λ ys. take (to - next) ys) (drop-drop n i xs)
-    ∙ ap (λ m. take (to - next) (drop m xs)) (sym e)
-  where
-    less : next ≡ i + n → to - i - n ≡ to - next
-    less f = omega (arith, f)
+-- two lists from an index on: their first elements, and what is left after some are skipped
+module _ {A B C : Type 0} (f : List A → List B → C) (xs : List A) (ys : List B) (i to : ℕ) where
+  pub windows-first : (x : A) (y : B) → i < to → slice_get xs i ≡ Some x →
+      slice_get ys i ≡ Some y →
+      f (window i to xs) (window i to ys)
+      ≡ f (x ∷ window (suc i) to xs) (y ∷ window (suc i) to ys)
+  windows-first x y lt got there =
+      ap (λ zs. f zs (window i to ys)) (window-first xs i to x lt got)
+      ∙ ap (λ zs. f (x ∷ window (suc i) to xs) zs) (window-first ys i to y lt there)
+
+  pub windows-drop : (n next : ℕ) → next ≡ i + n →
+      f (drop n (window i to xs)) (drop n (window i to ys)) ≡ f (window next to xs) (window next to ys)
+  windows-drop n next e =
+      ap (λ zs. f zs (drop n (window i to ys))) (drop-drop n i (take to xs))
+      ∙ ap (λ zs. f (drop (i + n) (take to xs)) zs) (drop-drop n i (take to ys))
+      ∙ ap (λ m. f (window m to xs) (window m to ys)) (sym e)
+
+-- all that stands in two lists
+pub windows-all : {A B C : Type 0} (f : List A → List B → C) (xs : List A) (ys : List B) (n : ℕ) →
+    n ≡ length xs → n ≡ length ys → f (window 0 n xs) (window 0 n ys) ≡ f xs ys
+windows-all f xs ys n e g =
+    ap (λ zs. f zs (window 0 n ys)) (take_all n xs (omega (arith, e)))
+    ∙ ap (λ zs. f xs zs) (take_all n ys (omega (arith, g)))
 
 -- events that are skipped
 run-none : (context : Context) (left : ℕ) (events : List Event) (state : State) →
@@ -65,7 +55,7 @@ run-none : (context : Context) (left : ℕ) (events : List Event) (state : State
 run-none context left [] state = refl
 run-none context left (event ∷ events) state = refl
 
-run-passing :
+pub run-passing :
     (context : Context) (left : ℕ) (events : List Event) (seen : List Noticed) (state : State) →
     run context left events seen state ≡ run context 0 (drop left events) (drop left seen) state
 run-passing context zero events seen state = refl
@@ -75,33 +65,9 @@ run-passing context (suc left) (event ∷ events) [] state =
 run-passing context (suc left) (event ∷ events) (one ∷ seen) state =
     run-passing context left events seen state
 
--- one event further
-pub window-step :
-    (context : Context) (events : List Event) (seen : List Noticed) (i to next : ℕ) (event : Event)
-    (one : Noticed) (state : State) → i < to → slice_get events i ≡ Some event →
-    slice_get seen i ≡ Some one →
-    next ≡ suc i + passes event one.inside →
-    run context 0 (window next to events) (window next to seen)
-    (stepped context event one.facts state)
-    ≡ run context 0 (window i to events) (window i to seen) state
-window-step context events seen i to next event one state lt got there e =
-    let after : State = stepped context event one.facts state in
-    sym (ap (λ es. run context 0 es (window i to seen) state)
-    (window-first events i to event lt got)
-    ∙ ap (λ ts. run context 0 (event ∷ window (suc i) to events) ts state)
-    (window-first seen i to one lt there) ∙ run-passing context (passes event one.inside)
-    (window (suc i) to events) (window (suc i) to seen) after
-    ∙ ap (λ es. run context 0 es (drop (passes event one.inside) (window (suc i) to seen)) after)
-    (window-drop events (suc i) to (passes event one.inside) next e)
-    ∙ ap (λ ts. run context 0 (window next to events) ts after)
-    (window-drop seen (suc i) to (passes event one.inside) next e))
-
 -- no event is left
 pub window-end : (context : Context) (events : List Event) (seen : List Noticed) (i to : ℕ)
     (state : State) → to ≤ i →
     run context 0 (window i to events) (window i to seen) state ≡ state
 window-end context events seen i to state le =
-    ap (λ n. run context 0 (take n (drop i events)) (take n (drop i seen)) state) (none le)
-  where
-    none : to ≤ i → to - i ≡ 0
-    none f = omega (arith, f)
+    ap (λ es. run context 0 es (window i to seen) state) (window-none events i to le)

@@ -10,11 +10,12 @@ pub mod Reuse
 pub mod Lengths
 pub mod Within
 pub mod SafeWithin
--- The events between two indices, the steps at them, and the text of all: only contracts of private
--- functions cite these.
+-- The events between two indices, the steps at them, the text of all, and the counts of a document's
+-- reuse: only contracts of private functions cite these.
 pub mod Windows
 pub mod Fits
 pub mod Stepping
 pub mod Printed
+pub mod Reused
 -- Only the call for `md_markdown` cites this.
 pub mod MeasuredEvents

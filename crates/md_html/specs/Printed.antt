@@ -1,8 +1,9 @@
 -- The text of a document, given its definitions; and the results of printing checked events, and of
 -- printing definitions alone.
-use Rattle.std.specs.Prelude.{◌≡◌, ◌<◌, ℕ, true, List, length, map}
+use Rattle.std.specs.Prelude.{◌≡◌, ◌<◌, ◌≤◌, ℕ, true, List, length, map, Option, None, IfSome}
+use Rattle.std.specs.Prelude.{String, string_bytes}
+use Rattle.std.specs.declared.alloc.Global.{Global}
 use Rattle.md_base.specs.Tree.{Forest, flatten}
-use Rattle.md_base.specs.declared.event.Name.TheVariants.{Definition}
 use Rattle.md_text.specs.declared.options.CompileOptions.{CompileOptions}
 use Rattle.md_tree.specs.Grammar.{Handed}
 use Rattle.md_meaning.specs.Meaning.{meaning}
@@ -11,8 +12,8 @@ use Rattle.md_meaning.specs.Meaning.Footnotes.{section}
 use Rattle.md_meaning.specs.Meaning.Layout.{laid_after}
 use Rattle.md_steps.specs.Run.{Noticed, defined, noticed, run}
 use Rattle.md_steps.specs.State.{State}
-use Rattle.md_steps.specs.Steps.{beginning, entered}
-use Rattle.md_facts.specs.Definitions.{within, own_defined}
+use Rattle.md_steps.specs.Steps.{beginning}
+use Rattle.md_facts.specs.Definitions.{own_defined}
 use Rattle.md_facts.specs.NodeFacts.{IsNoticedAt}
 use Rattle.md_printer.specs.Supplies.{Supplies}
 use Rattle.md_printer.specs.declared.context.Context.{Context as Supplied}
@@ -29,16 +30,21 @@ IsMeant options given text =
     text ≡ meaning options given.names given.bytes document
 
 -- the text is that of all events and of the footnotes' section
-abbrev pub IsPrinted : Supplied → List ℕ → Type 0
-IsPrinted code text =
-    (at : Context) (document : Forest) → Supplies code at →
-    flatten document ≡ code.checked.now.events → text ≡ text_of at document
+pub record IsPrinted (code : Supplied) (text : List ℕ) : Type 0 where
+  pub is : (at : Context) (document : Forest) → Supplies code at →
+      flatten document ≡ code.checked.now.events → text ≡ text_of at document
 
 -- that text is longer than this
-abbrev pub IsPrintedOver : Supplied → ℕ → Type 0
-IsPrintedOver code limit =
-    (at : Context) (document : Forest) → Supplies code at →
-    flatten document ≡ code.checked.now.events → limit < length (text_of at document)
+pub record IsPrintedOver (code : Supplied) (limit : ℕ) : Type 0 where
+  pub is : (at : Context) (document : Forest) → Supplies code at →
+      flatten document ≡ code.checked.now.events → limit < length (text_of at document)
+
+-- a text within a limit of which this holds, or none: then something else holds
+pub record IsAnswer (claim : List ℕ → Type 0) (over : Type 0) (limit : ℕ)
+    (answer : Option (String Global)) : Type 0 where
+  pub text : IfSome answer (λ string. claim (string_bytes string))
+  pub within : IfSome answer (λ string. length (string_bytes string) ≤ limit)
+  pub too_long : answer ≡ None → over
 
 -- the state is that after all events
 abbrev pub IsRun : Supplied → State → Type 0
@@ -68,12 +74,3 @@ IsTargetAt code index target =
     flatten document ≡ code.checked.now.events → IsNoticedAt code.checked.now index one →
     target ≡ (own_defined at code.checked.now.events
     (noticed code.checked.now.bytes true document) index one).target
-
--- the state is that after the events of this definition, except its exit
-abbrev pub IsRunAt : Supplied → ℕ → State → Type 0
-IsRunAt code index after =
-    (at : Context) (document : Forest) (one : Noticed) → Supplies code at →
-    flatten document ≡ code.checked.now.events → IsNoticedAt code.checked.now index one →
-    after ≡ run at 0 (within index one.inside code.checked.now.events)
-    (within index one.inside (noticed code.checked.now.bytes true document))
-    (entered at one.facts Definition beginning)

@@ -1,32 +1,27 @@
 -- The step at one event, as the steps over the events do it, and the steps at several.
-use Rattle.std.specs.Prelude.{◌≡◌, ◌<◌, ◌≤◌, ℕ, suc, true, if◌then◌else◌, length}
+use Rattle.std.specs.Prelude.{◌≡◌, ◌<◌, ◌≤◌, ℕ, suc, Bool, true, false, List, length}
 use Rattle.md_base.specs.declared.event.Event.{Event}
 use Rattle.md_base.specs.declared.event.Kind.TheVariants.{Enter}
-use Rattle.md_base.specs.declared.event.Name.{Name}
 use Rattle.md_meaning.specs.Meaning.At.{Context}
 use Rattle.md_base.specs.Tree.{Forest, flatten}
 use Rattle.md_steps.specs.Run.{Noticed, noticed, run, stepped, passes}
 use Rattle.md_tree.specs.Texts.{ExitsAt}
 use Rattle.md_steps.specs.State.{State}
-use Rattle.md_steps.specs.Steps.{entered, passed, is_passed}
 use Rattle.md_facts.specs.NodeFacts.{IsNoticedAt}
 use Rattle.md_printer.specs.Supplies.{Supplies, Leaves, is_alone}
 use Rattle.md_printer.specs.declared.context.Context.{Context as Supplied}
 use Rattle.md_html.specs.Windows.{window}
 use Rattle.md_html.specs.Fits.{fits}
 
+-- the cells and the fences so far are no more than this
+abbrev pub Few : ℕ → State → Type 0
+Few most state = (state.cells ≤ most) × (state.fences ≤ most)
+
 -- the step at an event, after which so many events are skipped
 abbrev pub Steps : Supplied → ℕ → Event → ℕ → State → State → Type 0
 Steps code index event more before after =
     (at : Context) (one : Noticed) → Supplies code at → IsNoticedAt code.checked.now index one →
     (more ≡ passes event one.inside) × (after ≡ stepped at event one.facts before)
-
--- the same for an entry
-abbrev pub Opens : Supplied → ℕ → Name → ℕ → State → State → Type 0
-Opens code index name more before after =
-    (at : Context) (one : Noticed) → Supplies code at → IsNoticedAt code.checked.now index one →
-    (more ≡ (if is_passed name then one.inside else 0))
-    × (after ≡ (if is_passed name then passed before else entered at one.facts name before))
 
 -- the next event exits the node that an event enters, and its entry changes nothing
 pub record Leafs (code : Supplied) (index to : ℕ) (event : Event)
@@ -39,26 +34,25 @@ pub record Leafs (code : Supplied) (index to : ℕ) (event : Event)
       IsNoticedAt code.checked.now (suc index) one
   pub left : Leaves code index event.name before after
 
--- the steps at the events from one index up to another
-abbrev pub Runs : Supplied → ℕ → ℕ → State → State → Type 0
-Runs code from to before after =
-    (at : Context) (document : Forest) → Supplies code at →
-    flatten document ≡ code.checked.now.events →
-    after ≡ run at 0 (window from to code.checked.now.events)
-    (window from to (noticed code.checked.now.bytes true document)) before
+-- such a node is printed, or nothing
+pub record IsLeaf (code : Supplied) (index to : ℕ) (event : Event)
+    (before after : State) (done : Bool) : Type 0 where
+  pub left : done ≡ true → Leafs code index to event before after
+  pub same : done ≡ false → after ≡ before
 
--- up to any end at or after `to`, continuing from one event has the same result as continuing from
--- an earlier one; and if each captured text that ended there had begun, the same holds here
+-- up to an end, continuing from one event has the same result as continuing from an earlier one; if
+-- each captured text that ended there had begun, the same holds here; and counts that were few are
+pub record Follows (at : Context) (events : List Event) (seen : List Noticed)
+    (end from next : ℕ) (before after : State) : Type 0 where
+  pub runs : run at 0 (window next end events) (window next end seen) after
+      ≡ run at 0 (window from end events) (window from end seen) before
+  pub fits : fits 0 (length before.below) (window from end events) (window from end seen) ≡ true →
+      fits 0 (length after.below) (window next end events) (window next end seen) ≡ true
+  pub few : Few from before → Few next after
+
+-- the same up to any end at or after `to`
 pub record Goes (code : Supplied) (from next to : ℕ) (before after : State) : Type 0 where
-  pub runs : (at : Context) (document : Forest) (end : ℕ) → Supplies code at →
+  pub follows : (at : Context) (document : Forest) (end : ℕ) → Supplies code at →
       flatten document ≡ code.checked.now.events → to ≤ end →
-      run at 0 (window next end code.checked.now.events)
-      (window next end (noticed code.checked.now.bytes true document)) after
-      ≡ run at 0 (window from end code.checked.now.events)
-      (window from end (noticed code.checked.now.bytes true document)) before
-  pub fits : (at : Context) (document : Forest) (end : ℕ) → Supplies code at →
-      flatten document ≡ code.checked.now.events → to ≤ end →
-      fits 0 (length before.below) (window from end code.checked.now.events)
-      (window from end (noticed code.checked.now.bytes true document)) ≡ true →
-      fits 0 (length after.below) (window next end code.checked.now.events)
-      (window next end (noticed code.checked.now.bytes true document)) ≡ true
+      Follows at code.checked.now.events (noticed code.checked.now.bytes true document) end from
+      next before after

@@ -1,6 +1,6 @@
 //! Compiles events to HTML.
 
-ghost use Rattle.std.specs.Prelude.{◌≡◌, ◌≤◌, ◌<◌, ◌^◌, OnOk, IfOk, IfErr, false, string_bytes};
+ghost use Rattle.std.specs.Prelude.{◌≡◌, ◌≤◌, OnOk, IfOk, IfErr, false, string_bytes};
 ghost use Rattle.std.specs.Prelude.{length, ◌*◌};
 ghost use Rattle.md_base.specs.Reference.{name_table};
 ghost use Rattle.md_base.specs.Tree.{Forest, flatten};
@@ -174,16 +174,8 @@ fn count_checked(
     ensures exact { IfOk result (λ counted. counted.visits ≡ 2 * length checked.now.events) }
 {
     let text = render(alloc, checked, options)?;
-    let visits = visited(checked);
-    Ok(Counted { text, visits })
-}
-
-/// The number of visits of events: each is visited once by the check, and once for its text.
-fn visited(checked: &Checked) -> usize
-    ensures visits { result ≡ 2 * length checked.now.events }
-    ensures grammatical { IsChecked checked.now }
-    ensures fits { length checked.now.events < 2 ^ 63 }
-{
     let events = checked.events();
-    checked.visits() + events.len()
+    // Each event is visited once by the check, and once for its text.
+    let visits = checked.visits() + events.len();
+    Ok(Counted { text, visits })
 }

@@ -1,19 +1,16 @@
 //! The targets of definitions, each printed only from its own events.
 
-ghost use Rattle.std.specs.Prelude.{◌≡◌, OnOk, IfOk};
+ghost use Rattle.std.specs.Prelude.{IfOk};
 ghost use Rattle.md_base.specs.declared.event.Name.TheVariants as name;
 ghost use Rattle.md_meaning.specs.Meaning.At as At;
-ghost use Rattle.md_tree.specs.Grammar.{IsChecked};
 ghost use Rattle.md_tree.specs.Texts.{EntersAt};
-ghost use Rattle.md_steps.specs.Steps.{beginning};
 ghost use Rattle.md_printer.specs.Supplies.{Supplies};
-ghost use Rattle.md_html.specs.Printed.{AreTargets, IsTargetAt, IsRunAt};
+ghost use Rattle.md_html.specs.Printed.{AreTargets, IsTargetAt};
 
 use crate::running::run_events;
 use md_base::Name;
 use md_facts::inside_at;
 use md_printer::{Context, Printer, Target};
-use md_tree::Checked;
 use std::alloc::AllocError;
 
 /// Returns the targets of the document's definitions, in the order of their exits.
@@ -36,7 +33,7 @@ fn gathered<'a>(printer: &mut Printer<'a>, context: &Context<'a>) -> Result<Vec<
     requires supplied { (at : At.Context) × Supplies context.now at }
     ensures { IfOk result (λ targets. AreTargets context.now targets.items) }
 {
-    grammatical(context.checked);
+    let _events = context.checked.events();
     let mut targets = Vec::new(context.alloc);
     let entries = context.checked.definitions();
     for entry in entries {
@@ -46,7 +43,8 @@ fn gathered<'a>(printer: &mut Printer<'a>, context: &Context<'a>) -> Result<Vec<
     Ok(targets)
 }
 
-/// The target of the definition that is entered at an index.
+/// The target of the definition that is entered at an index: enters it, and prints its own events,
+/// except its exit.
 fn target_at<'a>(
     printer: &mut Printer<'a>,
     context: &Context<'a>,
@@ -56,33 +54,10 @@ fn target_at<'a>(
     requires enters { EntersAt context.now.checked.now.events index name.Definition }
     ensures { IfOk result (λ target. IsTargetAt context.now index target) }
 {
-    printer.restart(context.alloc);
-    run_definition(printer, context, index)?;
-    printer.target(context.alloc)
-}
-
-/// Enters the definition, and prints its own events, except its exit.
-fn run_definition<'a>(
-    printer: &mut Printer<'a>,
-    context: &Context<'a>,
-    index: usize,
-) -> Result<(), AllocError>
-    requires supplied { (at : At.Context) × Supplies context.now at }
-    requires enters { EntersAt context.now.checked.now.events index name.Definition }
-    requires new { printer.old ≡ beginning }
-    ensures { OnOk result (IsRunAt context.now index printer.new) }
-{
     let _events = context.checked.events();
+    printer.restart(context.alloc);
     printer.enter(context, index, Name::Definition)?;
     let inside = inside_at(context.checked, index);
     run_events(printer, context, index + 1, index + inside)?;
-    Ok(())
-}
-
-/// Does nothing: its contract says that the document matches the grammar.
-#[inline(always)]
-fn grammatical(checked: &Checked)
-    ensures { IsChecked checked.now }
-{
-    let _events = checked.events();
+    printer.target(context.alloc)
 }

@@ -1,11 +1,11 @@
 //! Compiles events to HTML, if it doesn't exceed a limit.
 
-ghost use Rattle.std.specs.Prelude.{◌≡◌, ◌≤◌, IfOk, IfSome, None, true, false, length};
-ghost use Rattle.std.specs.Prelude.{string_bytes};
+ghost use Rattle.std.specs.Prelude.{◌≡◌, IfOk, true, false};
 ghost use Rattle.md_meaning.specs.Meaning.At as At;
 ghost use Rattle.md_steps.specs.Steps.{beginning};
 ghost use Rattle.md_printer.specs.Supplies.{Supplies};
-ghost use Rattle.md_html.specs.Printed.{IsMeant, IsPrinted, IsPrintedOver, IsRun, IsRunOver};
+ghost use Rattle.md_html.specs.Printed.{IsAnswer, IsMeant, IsPrinted, IsPrintedOver};
+ghost use Rattle.md_html.specs.Printed.{IsRun, IsRunOver};
 ghost use Rattle.md_html.specs.Within.{IsLonger};
 
 use crate::definitions::targets;
@@ -42,12 +42,8 @@ pub fn render_within(
     options: &CompileOptions,
     limit: usize,
 ) -> Result<Option<String>, AllocError>
-    ensures meaning { IfOk result
-        (λ answer. IfSome answer (λ text. IsMeant options.now checked.now (string_bytes text))) }
-    ensures within { IfOk result
-        (λ answer. IfSome answer (λ text. length (string_bytes text) ≤ limit)) }
-    ensures too_long { IfOk result
-        (λ answer. answer ≡ None → IsLonger options.now checked.now limit) }
+    ensures { IfOk result (IsAnswer (IsMeant options.now checked.now)
+        (IsLonger options.now checked.now limit) limit) }
 {
     steps_print_what_is_meant();
     let ending = ending_of(checked, options);
@@ -75,11 +71,8 @@ pub fn render_within(
 /// The text of all events and of the footnotes' section, if it doesn't exceed a limit.
 fn print_within(context: &Context, limit: usize) -> Result<Option<String>, AllocError>
     requires supplied { (at : At.Context) × Supplies context.now at }
-    ensures text { IfOk result
-        (λ answer. IfSome answer (λ text. IsPrinted context.now (string_bytes text))) }
-    ensures within { IfOk result
-        (λ answer. IfSome answer (λ text. length (string_bytes text) ≤ limit)) }
-    ensures too_long { IfOk result (λ answer. answer ≡ None → IsPrintedOver context.now limit) }
+    ensures { IfOk result
+        (IsAnswer (IsPrinted context.now) (IsPrintedOver context.now limit) limit) }
 {
     let mut printer = Printer::new(context.alloc);
     printer.reserve(context.checked.bytes().len());

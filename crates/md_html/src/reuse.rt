@@ -1,7 +1,7 @@
 //! The reuse of a document: definitions for the links and images that refer to them, and for
 //! footnote calls their labels and the texts of options.
 
-ghost use Rattle.std.specs.Prelude.{◌≡◌, ◌<◌, ◌^◌, ◌-◌, IfOk, map, min, nat_lt, length};
+ghost use Rattle.std.specs.Prelude.{◌≡◌, ◌<◌, ◌^◌, ◌-◌, IfOk, min, nat_lt, length};
 ghost use Rattle.std.specs.Prelude.{slice_get, Some, if◌then◌else◌, ◌+◌};
 ghost use Rattle.md_base.specs.Tree.{Forest, flatten};
 ghost use Rattle.md_tree.specs.declared.mention.Mention.{Mention};
@@ -11,6 +11,7 @@ ghost use Rattle.md_html.specs.Work.{before_definition, read_length, covered, en
 ghost use Rattle.md_html.specs.Reuse.{reuse, definition_length, definition_lengths, length_at};
 ghost use Rattle.md_html.specs.Reuse.{referred, is_media, is_call, entries, call_texts};
 ghost use Rattle.md_html.specs.Reuse.{option_length};
+ghost use Rattle.md_html.specs.Reused.{IsCounted, AreLengths};
 ghost use Rattle.md_measure.specs.Counting.{capped};
 
 use crate::work::measure;
@@ -80,8 +81,7 @@ fn count_reuse(
     calls: usize,
 ) -> Result<u128, AllocError>
     requires { calls ≡ entries is_call checked.now.events }
-    ensures { IfOk result (λ used. (document : Forest) → flatten document ≡ checked.now.events
-        → used ≡ capped (reuse options.now checked.now.bytes document)) }
+    ensures { IfOk result (IsCounted (reuse options.now checked.now.bytes) checked.now) }
 {
     let referred = count_referred(alloc, checked)?;
     if calls == 0 {
@@ -98,8 +98,7 @@ fn count_reuse(
 
 /// For each link and image the length of what is read in the definition that it refers to.
 fn count_referred(alloc: Global, checked: &Checked) -> Result<u128, AllocError>
-    ensures { IfOk result (λ length. (document : Forest) → flatten document ≡ checked.now.events
-        → length ≡ capped (referred checked.now.bytes document)) }
+    ensures { IfOk result (IsCounted (referred checked.now.bytes) checked.now) }
 {
     if checked.definitions().is_empty() {
         return Ok(0);
@@ -111,8 +110,7 @@ fn count_referred(alloc: Global, checked: &Checked) -> Result<u128, AllocError>
 /// The length of what is read in each definition, plus the number of its events, in the order of
 /// their exits.
 fn lengths_of(alloc: Global, checked: &Checked) -> Result<Vec<u128>, AllocError>
-    ensures { IfOk result (λ lengths. (document : Forest) → flatten document ≡ checked.now.events
-        → lengths.items ≡ map capped (definition_lengths document)) }
+    ensures { IfOk result (λ lengths. AreLengths checked.now lengths.items) }
 {
     let events = checked.events();
     let mut lengths = Vec::new(alloc);
@@ -175,10 +173,8 @@ fn events_before_definition(events: &[Event]) -> usize
 
 /// The same, given the lengths of the definitions.
 fn referred_length(checked: &Checked, lengths: &[u128]) -> u128
-    requires { (document : Forest) → flatten document ≡ checked.now.events
-        → lengths.now ≡ map capped (definition_lengths document) }
-    ensures { (document : Forest) → flatten document ≡ checked.now.events
-        → result ≡ capped (referred checked.now.bytes document) }
+    requires { AreLengths checked.now lengths.now }
+    ensures { IsCounted (referred checked.now.bytes) checked.now result }
 {
     let mut referred: u128 = 0;
     let mut index = 0;
@@ -209,8 +205,7 @@ fn call_lengths(events: &[Event]) -> u128
 #[inline(always)]
 fn referred_at(checked: &Checked, lengths: &[u128], index: usize, event: &Event) -> u128
     requires there { slice_get checked.now.events index ≡ Some event.now }
-    requires lengths { (document : Forest) → flatten document ≡ checked.now.events
-        → lengths.now ≡ map capped (definition_lengths document) }
+    requires lengths { AreLengths checked.now lengths.now }
     ensures { (document : Forest) (mention : Mention) → flatten document ≡ checked.now.events
         → slice_get (mentions_of document) index ≡ Some mention
         → result ≡ capped (length_at (definition_lengths document)

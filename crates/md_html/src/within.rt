@@ -1,17 +1,11 @@
 //! Texts within limits: on their length, on their work, and on how deep their events nest.
 
-ghost use Rattle.std.specs.Prelude.{◌≡◌, ◌+◌, ◌*◌, ◌≤◌, OnOk, IfOk, IfErr, length, string_bytes};
-ghost use Rattle.md_base.specs.Reference.{name_table};
-ghost use Rattle.md_tree.specs.Grammar.{IsChecked, handed};
-ghost use Rattle.md_tree.specs.Refusal.{IsRefusal};
-ghost use Rattle.md_safe.specs.Options.{KeepsGrammar, KeepsImages};
-ghost use Rattle.md_length.specs.Bound.{text_bound};
-ghost use Rattle.md_depth.specs.Depth.{depth};
+ghost use Rattle.std.specs.Prelude.{◌≡◌, ◌+◌, ◌*◌, IfOk, IfErr, string_bytes};
+ghost use Rattle.md_tree.specs.Grammar.{handed};
+ghost use Rattle.md_safe.specs.Options.{KeepsImages};
 ghost use Rattle.md_depth.specs.Levels.{NestsWithin};
-ghost use Rattle.md_html.specs.Promises.{Promises, SafePromises};
-ghost use Rattle.md_html.specs.Work.{work};
-ghost use Rattle.md_html.specs.Within.{IsLonger, IsReuseWithin, OfTooLong, IsTooMuchFor, OfWithin};
-ghost use Rattle.md_html.specs.Within.{IsTooDeepFor, WithinPromises, WithinRefusal};
+ghost use Rattle.md_html.specs.Promises.{SafePromises};
+ghost use Rattle.md_html.specs.Within.{WithinPromises, WithinRefusal};
 ghost use Rattle.md_html.specs.MeasuredEvents.{handed_by};
 ghost use Rattle.md_html.specs.SafeWithin.{IsUnsafeFor, OfLimits};
 
@@ -124,26 +118,10 @@ pub fn compile_within(
     names: &[(&str, &str)],
     limits: Limits,
 ) -> Result<String, WithinError>
-    ensures within { IfOk result (λ text. length (string_bytes text) ≤ limits.text) }
-    ensures work { OnOk result (work events.now ≤ limits.work) }
-    ensures depth { OnOk result (depth events.now ≤ limits.depth) }
-    ensures nesting { IfOk result (λ text. KeepsGrammar options.now
-        → NestsWithin (2 * limits.depth + 5) (string_bytes text)) }
-    ensures reuse { OnOk result (IsReuseWithin options.now
-        (handed events.now bytes.now names.now) limits.work) }
-    ensures bounded { IfOk result (λ text. length (string_bytes text) ≤ text_bound options.now
-        (name_table names.now) (length events.now) (2 * limits.work)) }
-    ensures promises { IfOk result (λ text.
-        Promises options.now (handed events.now bytes.now names.now) (string_bytes text)) }
-
-    ensures too_deep { IfErr result (IsTooDeepFor events.now limits.depth) }
-    ensures too_much { IfErr result (IsTooMuchFor options.now
-        (handed events.now bytes.now names.now) limits.work) }
-    ensures too_long { IfErr result
-        (OfTooLong (IsLonger options.now (handed events.now bytes.now names.now) limits.text)) }
-    ensures long_grammatical { IfErr result
-        (OfTooLong (IsChecked (handed events.now bytes.now names.now))) }
-    ensures refused { IfErr result (OfWithin (IsRefusal (handed events.now bytes.now names.now))) }
+    ensures within { IfOk result (λ text. WithinPromises options.now
+        (handed events.now bytes.now names.now) limits (string_bytes text)) }
+    ensures refused { IfErr result
+        (WithinRefusal options.now (handed events.now bytes.now names.now) limits) }
 {
     let measured = MeasuredEvents::new(events, bytes, names);
     compile_measured(alloc, &measured, options, limits)
@@ -260,27 +238,15 @@ pub fn compile_safe_within(
     names: &[(&str, &str)],
     limits: Limits,
 ) -> Result<SafeHtml, SafeWithinError>
-    ensures within { IfOk result (λ html. length html ≤ limits.text) }
-    ensures work { OnOk result (work events.now ≤ limits.work) }
-    ensures depth { OnOk result (depth events.now ≤ limits.depth) }
+    ensures within { IfOk result
+        (WithinPromises options.now (handed events.now bytes.now names.now) limits) }
     ensures nesting { IfOk result (λ html. NestsWithin (2 * limits.depth + 5) html) }
-    ensures reuse { OnOk result (IsReuseWithin options.now
-        (handed events.now bytes.now names.now) limits.work) }
-    ensures bounded { IfOk result (λ html. length html ≤ text_bound options.now
-        (name_table names.now) (length events.now) (2 * limits.work)) }
-    ensures promises { IfOk result (λ html.
-        SafePromises options.now (handed events.now bytes.now names.now) html) }
+    ensures promises { IfOk result
+        (SafePromises options.now (handed events.now bytes.now names.now)) }
 
     ensures options { IfErr result (IsUnsafeFor options.now) }
-    ensures too_deep { IfErr result (OfLimits (IsTooDeepFor events.now limits.depth)) }
-    ensures too_much { IfErr result (OfLimits (IsTooMuchFor options.now
-        (handed events.now bytes.now names.now) limits.work)) }
-    ensures too_long { IfErr result (OfLimits (OfTooLong (IsLonger options.now
-        (handed events.now bytes.now names.now) limits.text))) }
-    ensures long_grammatical { IfErr result (OfLimits (OfTooLong (IsChecked
-        (handed events.now bytes.now names.now)))) }
-    ensures refused { IfErr result
-        (OfLimits (OfWithin (IsRefusal (handed events.now bytes.now names.now)))) }
+    ensures refused { IfErr result (OfLimits
+        (WithinRefusal options.now (handed events.now bytes.now names.now) limits)) }
 {
     if !are_safe(options) {
         return Err(SafeWithinError::Options);

@@ -1,15 +1,13 @@
 -- Names and numbers at the front of a text, where sixteen bytes are compared at once.
 use Rattle.std.proofs.Common.{◌≡◌, ℕ, zero, suc, ◌+◌, ◌-◌, ◌<◌, ◌≤◌, Bool, true, false, not, cond}
-use Rattle.std.proofs.Common.{◌&&◌, ◌||◌, leb, List, [], ◌∷◌, ◌++◌, map, length, take, drop, get_or}
+use Rattle.std.proofs.Common.{List, [], ◌∷◌, ◌++◌, map, length, take, drop, get_or}
 use Rattle.std.proofs.Common.{Option, Some, None, refl, sym, ap, ◌∙◌, arith, subst, codes, bytes_eq}
 use Rattle.std.specs.Prelude.{nat_le, option_map, find}
 use Rattle.std.specs.List.{before_first, list_all, list_any, slice_get}
-use Rattle.std.specs.Char.{is_ascii_digit}
-use Rattle.std.specs.Str.{all_ascii_digits}
-use Rattle.std.specs.Str.Parse.{digits_value}
-use Rattle.std.proofs.lemmas.Bool.{and_parts, leb-true, le-leb, eqb-true, ne_eqb, not-true}
-use Rattle.std.proofs.lemmas.List.{take-append-drop, length-take-le, take_rest}
+use Rattle.std.proofs.lemmas.Bool.{and_parts, eqb-true, not-true}
+use Rattle.std.proofs.lemmas.List.{take-append-drop, take_rest}
 use Rattle.std.proofs.lemmas.List.Folds.{list_any-append}
+use Rattle.std.proofs.lemmas.Option.{slice_get-map}
 use Rattle.std.proofs.lemmas.Slice.Eq.{bytes_eq-Decides}
 use Rattle.md_base.specs.declared.event.Kind.{Kind}
 use Rattle.md_base.specs.declared.event.Name.{Name}
@@ -17,37 +15,15 @@ use Rattle.md_base.specs.declared.event.Point.{Point}
 use Rattle.md_base.specs.declared.event.Name.TheVariants.{Other}
 use Rattle.md_base.specs.EventNames.{event_names}
 use Rattle.md_base.specs.Table.{listed}
-use Rattle.md_script.specs.Line.{◌>>=◌, is_space, is_line_feed, kind_of, otherwise, other_name}
+use Rattle.md_script.specs.Line.{◌>>=◌, is_space, kind_of, otherwise, other_name}
 use Rattle.md_script.specs.Line.{name_of}
 use Rattle.md_script.specs.Number.{number_of}
 use Rattle.md_script.specs.CommonName.{IsFirstSpace, spelled, named, is_full, AreRows}
 use Rattle.md_script.specs.PlainLine.{is_break, BeginsWithEvent, BeginsWithNumber, BeginsWithName}
 use Rattle.md_script.specs.PlainLine.{BeginsWithPlace}
-use Rattle.md_script.proofs.PlainLemmas.{before_cut, cut_at, number_is_digits, line_placed}
-use Rattle.md_script.proofs.PlainLemmas.{line_plain}
+use Rattle.md_script.proofs.PlainLemmas.{before_cut, cut_at, none_below, number_is_digits}
+use Rattle.md_script.proofs.PlainLemmas.{digits_unbroken, line_placed, line_plain}
 use Rattle.md_script.proofs.SixteenBytes.{take_same}
-
--- ---- digits up to a byte
-pub number_read : (bytes : List ℕ) (i most end number : ℕ) → i < length bytes →
-    get_or bytes i 0 ≡ end → 0 < i →
-    i ≤ most → number ≡ digits_value 10 (take i bytes) → all_ascii_digits (take i bytes) ≡ true →
-    BeginsWithNumber most end bytes number (take (length bytes - (i + 1)) (drop (i + 1) bytes))
-number_read bytes i most end number inside ends some few value all =
-    let size = length-take-le i bytes (omega (arith, inside)) in
-    record {
-      digits = take i bytes;
-      whole = cut_at bytes i end inside ends
-          ∙ ap (λ rest. take i bytes ++ end ∷ rest) (sym (take_rest bytes (i + 1)));
-      value =
-          ap (λ t. cond (t && leb (length (take i bytes)) most
-          && all_ascii_digits (take i bytes)) (Some (digits_value 10 (take i bytes))) None)
-          (le-leb 1 (length (take i bytes)) (omega (arith, size, some)))
-          ∙ ap (λ t. cond (true && t && all_ascii_digits (take i bytes))
-          (Some (digits_value 10 (take i bytes))) None)
-          (le-leb (length (take i bytes)) most (omega (arith, size, few)))
-          ∙ ap (λ t. cond (true && true && t) (Some (digits_value 10 (take i bytes))) None) all
-          ∙ ap Some (sym value);
-    }
 
 -- ---- rows
 abbrev Row : Type 0
@@ -56,12 +32,12 @@ Row = List ℕ × Name
 row_named : (rows : List Row) (i : ℕ) (row : Row) → map spelled rows ≡ map named rows →
     slice_get rows i ≡ Some row →
     spelled row ≡ named row
-row_named [] i row same at = cc
-row_named (first ∷ rows) zero row same at =
-    let is : first ≡ row = cc in
-    let heads : spelled first ≡ named first = cc in
-    subst (λ r. spelled r ≡ named r) is heads
-row_named (first ∷ rows) (suc i) row same at = row_named rows i row (cc) at
+row_named rows i row same at =
+    let spelling : Some (spelled row) ≡ Some (named row) =
+    ap (option_map spelled) (sym at) ∙ sym (slice_get-map spelled rows i)
+    ∙ ap (λ names. slice_get names i) same ∙ slice_get-map named rows i
+    ∙ ap (option_map named) at in
+    cc
 
 row_full : (rows : List Row) (i : ℕ) (row : Row) → list_all is_full rows ≡ true →
     slice_get rows i ≡ Some row →
@@ -72,15 +48,6 @@ row_full (first ∷ rows) zero row all at =
     subst (λ r. is_full r ≡ true) is (and_parts (is_full first) (list_all is_full rows) all).0
 row_full (first ∷ rows) (suc i) row all at =
     row_full rows i row (and_parts (is_full first) (list_all is_full rows) all).1 at
-
-none_below : (xs : List ℕ) (n : ℕ) → n ≤ length xs →
-    ((k : ℕ) → k < n → is_space (get_or xs k 0) ≡ false) →
-    list_any is_space (take n xs) ≡ false
-none_below xs zero some none = refl
-none_below [] (suc n) some none = absurd (omega (arith, some))
-none_below (x ∷ xs) (suc n) some none =
-    ap (λ t. t || list_any is_space (take n xs)) (none 0 (omega arith))
-    ∙ none_below xs n (omega (arith, some)) (λ k low. none (suc k) (omega (arith, low)))
 
 pub row_read : (rows : List Row) (i : ℕ) (row : Row) (bytes : List ℕ) (size same : ℕ) →
     AreRows rows →
@@ -93,7 +60,7 @@ row_read rows i row bytes size same are at long few space equal past =
     let inside : size < length text = omega (arith, exact, few) in
     let same_front = take_same bytes text size (omega (arith, few, long)) (omega (arith, inside))
     (λ k low. equal k (omega (arith, low, past)) (omega (arith, low, few))) in
-    let none = none_below text size (omega (arith, inside))
+    let none = none_below is_space text size
     (λ k low. ap is_space (sym (equal k (omega (arith, low, past)) (omega (arith, low, few))))
     ∙ space.none k low) in
     let cut = cut_at text size 32 inside (sym (equal size past few) ∙ space.there) in
@@ -133,21 +100,6 @@ other_read bytes digits following number name other rest read is =
     }
 
 -- ---- a name has no space and no line feed
-digit_unbroken : (c : ℕ) → is_ascii_digit c ≡ true → is_break c ≡ false
-digit_unbroken c h =
-    let parts = and_parts (leb 48 c) (leb c 57) h in
-    let least = leb-true 48 c parts.0 in
-    ap (λ t. t || is_line_feed c) (ne_eqb c 32 (λ e. omega (arith, least, e)))
-    ∙ ne_eqb c 10 (λ e. omega (arith, least, e))
-
-digits_unbroken : (digits : List ℕ) → all_ascii_digits digits ≡ true →
-    list_any is_break digits ≡ false
-digits_unbroken [] all = refl
-digits_unbroken (d ∷ digits) all =
-    let parts = and_parts (is_ascii_digit d) (all_ascii_digits digits) all in
-    ap (λ t. t || list_any is_break digits) (digit_unbroken d parts.0)
-    ∙ digits_unbroken digits parts.1
-
 abbrev is_whole : List ℕ × Name → Bool
 is_whole entry = not (list_any is_break entry.0)
 

@@ -19,15 +19,7 @@ IsDigits digits = all_ascii_digits digits ≡ true
 model : IsNumeralModel IsDigits (digits_value 10)
 model = numerals_by_value IsDigits tells_all_ascii_digits
 
--- a small number of digits encodes a small number
-pub value_small : (digits : List ℕ) (i most : ℕ) → all_ascii_digits (take i digits) ≡ true →
-    i ≤ length digits →
-    length digits ≤ most → most ≤ 9 → digits_value 10 (take i digits) < 1000000000
-value_small digits i most all inside short nine =
-    let e = length-take-le i digits inside in
-    digits_value_short model (take i digits) 9 all (omega (arith, e))
-
--- so do few digits of many bytes
+-- few digits encode a small number
 pub value_few : (bytes : List ℕ) (i : ℕ) → all_ascii_digits (take i bytes) ≡ true →
     i ≤ length bytes → i ≤ 9 →
     digits_value 10 (take i bytes) < 1000000000

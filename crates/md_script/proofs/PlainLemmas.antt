@@ -1,7 +1,7 @@
 -- Plain lines, read in one go.
-use Rattle.std.proofs.Common.{◌≡◌, ℕ, suc, ◌+◌, Bool, true, false, not, cond, ◌&&◌, ◌||◌, List, []}
+use Rattle.std.proofs.Common.{◌≡◌, ℕ, zero, suc, ◌+◌, Bool, true, false, not, cond, ◌&&◌, ◌||◌, List, []}
 use Rattle.std.proofs.Common.{◌∷◌, ◌++◌, length, take, drop, get_or, ◌<◌, ◌≤◌, Option, Some, None}
-use Rattle.std.proofs.Common.{refl, sym, ap, ◌∙◌, arith, leb, eqb, inl, inr, subst, ◌-◌}
+use Rattle.std.proofs.Common.{refl, sym, ap, ◌∙◌, arith, leb, eqb, inl, inr, ◌-◌}
 use Rattle.std.specs.Prelude.{position}
 use Rattle.std.specs.List.{before_first, after_first, list_any, onto_first, position_or_len}
 use Rattle.std.specs.List.{slice_split}
@@ -9,9 +9,10 @@ use Rattle.std.specs.Char.{is_ascii_digit}
 use Rattle.std.specs.Str.{all_ascii_digits}
 use Rattle.std.specs.Str.Parse.{digits_value}
 use Rattle.std.proofs.lemmas.Bool.{cases_Bool, and_parts, or_parts, leb-true, le-leb, eqb-true}
-use Rattle.std.proofs.lemmas.Bool.{ne_eqb}
+use Rattle.std.proofs.lemmas.Bool.{ne_eqb, ltb-false}
 use Rattle.std.proofs.lemmas.List.{append_assoc, length-append, take-append-drop, drop_more}
-use Rattle.std.proofs.lemmas.List.{length-take-le, length-drop, take_all}
+use Rattle.std.proofs.lemmas.List.{length-take-le, take_all, take_at, take_rest}
+use Rattle.std.proofs.lemmas.List.Sums.{fails_before_first}
 use Rattle.std.proofs.lemmas.List.Folds.{list_any-append}
 use Rattle.std.proofs.lemmas.List.Splits.{slice_split-cons_no, slice_split-cons_yes}
 use Rattle.md_base.specs.declared.event.Kind.{Kind}
@@ -23,6 +24,7 @@ use Rattle.md_script.specs.Number.{number_of}
 use Rattle.md_script.specs.PlainLine.{is_break, BeginsWithEvent, BeginsWithIndex, BeginsWithNumber}
 use Rattle.md_script.specs.PlainLine.{BeginsWithPlace}
 use Rattle.md_script.proofs.LineLemmas.{built}
+use Rattle.md_script.proofs.SplitLemmas.{any_by_place}
 
 -- ---- a list that is cut at its first byte of a kind
 
@@ -36,10 +38,6 @@ module _ (p : ℕ → Bool) where
       let there = place_of xs c ys parts.1 hit in
       omega (arith, here, there)
 
-  front : (xs ys : List ℕ) → take (length xs) (xs ++ ys) ≡ xs
-  front [] ys = refl
-  front (x ∷ xs) ys = ap (λ l. x ∷ l) (front xs ys)
-
   back : (xs : List ℕ) (c : ℕ) (ys : List ℕ) → drop (suc (length xs)) (xs ++ c ∷ ys) ≡ ys
   back [] c ys = refl
   back (x ∷ xs) c ys = back xs c ys
@@ -47,7 +45,8 @@ module _ (p : ℕ → Bool) where
   pub before_cut : (xs : List ℕ) (c : ℕ) (ys : List ℕ) → list_any p xs ≡ false → p c ≡ true →
       before_first p (xs ++ c ∷ ys) ≡ xs
   before_cut xs c ys none hit =
-      ap (λ n. take n (xs ++ c ∷ ys)) (place_of xs c ys none hit) ∙ front xs (c ∷ ys)
+      ap (λ n. take n (xs ++ c ∷ ys)) (place_of xs c ys none hit)
+      ∙ take_at xs (c ∷ ys) (length xs) refl
 
   pub after_cut : (xs : List ℕ) (c : ℕ) (ys : List ℕ) → list_any p xs ≡ false → p c ≡ true →
       after_first p (xs ++ c ∷ ys) ≡ ys
@@ -57,12 +56,9 @@ module _ (p : ℕ → Bool) where
       ap (λ n. drop n (xs ++ c ∷ ys)) next ∙ back xs c ys
 
   pub before_none : (xs : List ℕ) → list_any p xs ≡ false → before_first p xs ≡ xs
-  before_none [] none = refl
-  before_none (x ∷ xs) none =
-      let parts = or_parts (p x) (list_any p xs) none in
-      let here : position_or_len p (x ∷ xs) ≡ suc (position_or_len p xs) =
-      ap (λ t. cond (not t) (1 + position_or_len p xs) 0) parts.0 ∙ omega arith in
-      ap (λ n. take n (x ∷ xs)) here ∙ ap (λ l. x ∷ l) (before_none xs parts.1)
+  before_none xs none =
+      take_all (position_or_len p xs) xs (ltb-false (position_or_len p xs) (length xs)
+      (sym (any_by_place p xs) ∙ none))
 
   pub split_cut : (xs : List ℕ) (c : ℕ) (ys : List ℕ) → list_any p xs ≡ false → p c ≡ true →
       slice_split p (xs ++ c ∷ ys) ≡ xs ∷ slice_split p ys
@@ -72,18 +68,13 @@ module _ (p : ℕ → Bool) where
       slice_split-cons_no p x (xs ++ c ∷ ys) parts.0
       ∙ ap (onto_first x) (split_cut xs c ys parts.1 hit)
 
-  none_step : (x : ℕ) (xs : List ℕ) (here : Bool) → p x ≡ here →
-      list_any p (before_first p xs) ≡ false →
-      list_any p (take (cond (not here) (1 + position_or_len p xs) 0) (x ∷ xs)) ≡ false
-  none_step x xs true e rest = refl
-  none_step x xs false e rest =
-      let next : 1 + position_or_len p xs ≡ suc (position_or_len p xs) = omega arith in
-      ap (λ n. list_any p (take n (x ∷ xs))) next
-      ∙ ap (λ t. t || list_any p (before_first p xs)) e ∙ rest
-
-  none_before : (xs : List ℕ) → list_any p (before_first p xs) ≡ false
-  none_before [] = refl
-  none_before (x ∷ xs) = none_step x xs (p x) refl (none_before xs)
+  pub none_below : (xs : List ℕ) (n : ℕ) → ((k : ℕ) → k < n → p (get_or xs k 0) ≡ false) →
+      list_any p (take n xs) ≡ false
+  none_below xs zero none = refl
+  none_below [] (suc n) none = refl
+  none_below (x ∷ xs) (suc n) none =
+      ap (λ t. t || list_any p (take n xs)) (none 0 (omega arith))
+      ∙ none_below xs n (λ k low. none (suc k) (omega (arith, low)))
 
   place_found : (n i : ℕ) (test : Bool) → Some i ≡ cond test (Some n) None → i ≡ n
   place_found n i true e = cc
@@ -91,7 +82,8 @@ module _ (p : ℕ → Bool) where
 
   pub none_until : (xs : List ℕ) (i : ℕ) → Some i ≡ position p xs → list_any p (take i xs) ≡ false
   none_until xs i e =
-      ap (λ n. list_any p (take n xs)) (place_found (position_or_len p xs) i _ e) ∙ none_before xs
+      none_below xs i (λ k low. fails_before_first p xs k 0
+      (omega (arith, low, place_found (position_or_len p xs) i _ e)))
 
 pub cut_at : (xs : List ℕ) (i c : ℕ) → i < length xs → get_or xs i 0 ≡ c →
     xs ≡ take i xs ++ c ∷ drop (i + 1) xs
@@ -101,23 +93,30 @@ cut_at xs i c inside is =
 
 -- ---- digits
 
-digit_is_none : (c : ℕ) → is_ascii_digit c ≡ true → (is_dot c ≡ false) × (is_line_feed c ≡ false)
-digit_is_none c h =
-    let parts = and_parts (leb 48 c) (leb c 57) h in
-    let least = leb-true 48 c parts.0 in
-    (ne_eqb c 46 (λ e. omega (arith, least, e)), ne_eqb c 10 (λ e. omega (arith, least, e)))
+digit_is_not : (c other : ℕ) → other < 48 → is_ascii_digit c ≡ true → eqb c other ≡ false
+digit_is_not c other low h =
+    let least = leb-true 48 c (and_parts (leb 48 c) (leb c 57) h).0 in
+    ne_eqb c other (λ e. omega (arith, least, low, e))
+
+digits_without : (p : ℕ → Bool) → ((c : ℕ) → is_ascii_digit c ≡ true → p c ≡ false) →
+    (digits : List ℕ) → all_ascii_digits digits ≡ true → list_any p digits ≡ false
+digits_without p none [] all = refl
+digits_without p none (d ∷ digits) all =
+    let parts = and_parts (is_ascii_digit d) (all_ascii_digits digits) all in
+    ap (λ t. t || list_any p digits) (none d parts.0) ∙ digits_without p none digits parts.1
 
 digits_are_none : (digits : List ℕ) → all_ascii_digits digits ≡ true →
     (list_any is_dot digits ≡ false) × (list_any is_line_feed digits ≡ false)
-digits_are_none [] all = (refl, refl)
-digits_are_none (d ∷ digits) all =
-    let parts = and_parts (is_ascii_digit d) (all_ascii_digits digits) all in
-    let here = digit_is_none d parts.0 in
-    let there = digits_are_none digits parts.1 in (
-      ap (λ t. t || list_any is_dot digits) here.0 ∙ there.0,
-      ap (λ t. t || list_any is_line_feed digits) here.1
-          ∙ there.1,
-    )
+digits_are_none digits all = (
+  digits_without is_dot (λ c h. digit_is_not c 46 (omega arith) h) digits all,
+  digits_without is_line_feed (λ c h. digit_is_not c 10 (omega arith) h) digits all,
+)
+
+pub digits_unbroken : (digits : List ℕ) → all_ascii_digits digits ≡ true →
+    list_any is_break digits ≡ false
+digits_unbroken digits all =
+    digits_without is_break (λ c h. ap (λ t. t || is_line_feed c)
+    (digit_is_not c 32 (omega arith) h) ∙ digit_is_not c 10 (omega arith) h) digits all
 
 pub number_is_digits : (most : ℕ) (digits : List ℕ) (n : ℕ) (a b : Bool) →
     a ≡ (leb 1 (length digits) && leb (length digits) most) → b ≡ all_ascii_digits digits →
@@ -130,22 +129,24 @@ number_digits : (digits : List ℕ) (n : ℕ) → number_of 9 digits ≡ Some n 
     all_ascii_digits digits ≡ true
 number_digits digits n e = number_is_digits 9 digits n _ _ refl refl e
 
-pub index_read : (bytes : List ℕ) (i index : ℕ) → i < length bytes →
-    get_or bytes i 0 ≡ 10 → 0 < i → i ≤ 9 →
-    index ≡ digits_value 10 (take i bytes) → all_ascii_digits (take i bytes) ≡ true →
-    BeginsWithIndex bytes index (drop (i + 1) bytes)
-index_read bytes i index inside feed some few value all =
+-- digits up to a byte
+pub number_read : (bytes : List ℕ) (i most end number : ℕ) → i < length bytes →
+    get_or bytes i 0 ≡ end → 0 < i →
+    i ≤ most → number ≡ digits_value 10 (take i bytes) → all_ascii_digits (take i bytes) ≡ true →
+    BeginsWithNumber most end bytes number (take (length bytes - (i + 1)) (drop (i + 1) bytes))
+number_read bytes i most end number inside ends some few value all =
     let size = length-take-le i bytes (omega (arith, inside)) in
     record {
       digits = take i bytes;
-      whole = cut_at bytes i 10 inside feed;
+      whole = cut_at bytes i end inside ends
+          ∙ ap (λ rest. take i bytes ++ end ∷ rest) (sym (take_rest bytes (i + 1)));
       value =
-          ap (λ t. cond (t && leb (length (take i bytes)) 9
+          ap (λ t. cond (t && leb (length (take i bytes)) most
           && all_ascii_digits (take i bytes)) (Some (digits_value 10 (take i bytes))) None)
           (le-leb 1 (length (take i bytes)) (omega (arith, size, some)))
           ∙ ap (λ t. cond (true && t && all_ascii_digits (take i bytes))
           (Some (digits_value 10 (take i bytes))) None)
-          (le-leb (length (take i bytes)) 9 (omega (arith, size, few)))
+          (le-leb (length (take i bytes)) most (omega (arith, size, few)))
           ∙ ap (λ t. cond (true && true && t) (Some (digits_value 10 (take i bytes))) None) all
           ∙ ap Some (sym value);
     }
@@ -156,12 +157,9 @@ pub index_read_at : (bytes : List ℕ) (i size index : ℕ) → size ≡ i → i
     all_ascii_digits (take i bytes) ≡ true →
     BeginsWithIndex bytes index (take (length bytes - (size + 1)) (drop (size + 1) bytes))
 index_read_at bytes i size index place inside feed some few value all =
-    let after : drop (i + 1) bytes ≡ take (length bytes - (size + 1)) (drop (size + 1) bytes) =
-    ap (λ n. drop (n + 1) bytes) (sym place) ∙ sym (take_all (length bytes - (size + 1))
-    (drop (size + 1) bytes) (omega (arith, length-drop (size + 1) bytes))) in
-    subst (λ following. BeginsWithIndex bytes index following) after
-    (index_read bytes i index inside feed (omega (arith, place, some))
-    (omega (arith, place, few)) value all)
+    let read = number_read bytes i 9 10 index inside feed (omega (arith, place, some))
+    (omega (arith, place, few)) value all in
+    rw place (record { digits = read.digits; whole = read.whole; value = read.value })
 
 -- ---- the event of a plain line
 

@@ -7,6 +7,7 @@ use Rattle.std.proofs.Common.{subst, is_some, bytes_eq}
 use Rattle.std.specs.Prelude.{filter_map, filter, option_to_list, MatchOption, unwrap_or}
 use Rattle.std.specs.Borrow.{Bor}
 use Rattle.std.specs.List.{join_with_byte, cons_option}
+use Rattle.std.proofs.lemmas.List.Elements.{filter_map-append, filter-append}
 use Rattle.std.proofs.lemmas.Bool.{true≢false, and_parts}
 use Rattle.std.proofs.lemmas.List.{append_assoc, append-nil, length-append, length_push}
 use Rattle.std.proofs.lemmas.List.Splits.{join_with_byte-slice_split}
@@ -24,15 +25,15 @@ use Rattle.md_script.proofs.SettingLemmas.{is_marked, setting_is_marked, event_i
 use Rattle.md_script.proofs.SettingLemmas.{new_by_marked, options_by_marked}
 
 -- what is known while lines are read: those seen, and what the reader holds
-pub record Progress (input : List ℕ) (number : ℕ) (events : List Event) (settings : List (List ℕ))
+pub record Progress (input : List ℕ) (events : List Event) (settings : List (List ℕ))
     (rest : List ℕ) : Type 0 where
   pub seen : List (List ℕ)
   pub whole : lines_of input ≡ seen ++ lines_of rest
   pub reads : ReadsAfter [] seen
   pub says : events ≡ filter_map event_of seen
   pub sets : settings ≡ filter is_marked seen
-  pub counted : number ≡ length seen
-  pub short : 2 * number + length rest ≤ length input
+  pub counted : length events + length settings ≡ length seen
+  pub short : 2 * (length events + length settings) + length rest ≤ length input
 
 reads_push : (earlier seen : List (List ℕ)) (line : List ℕ) → ReadsAfter earlier seen →
     is_readable_after (earlier ++ seen) line ≡ true → ReadsAfter earlier (seen ++ line ∷ [])
@@ -48,11 +49,6 @@ reads_push earlier (first ∷ seen) line reads readable = (
       (sym (append_assoc earlier (first ∷ []) seen)) readable),
 )
 
-cons_append : (first : Option Event) (xs ys : List Event) →
-    cons_option first (xs ++ ys) ≡ cons_option first xs ++ ys
-cons_append None xs ys = refl
-cons_append (Some x) xs ys = refl
-
 cons_alone : (said : Option Event) → option_to_list said ≡ cons_option said []
 cons_alone None = refl
 cons_alone (Some event) = refl
@@ -60,21 +56,9 @@ cons_alone (Some event) = refl
 says_push : (seen : List (List ℕ)) (line : List ℕ) →
     filter_map event_of seen ++ option_to_list (event_of line)
     ≡ filter_map event_of (seen ++ line ∷ [])
-says_push [] line = cons_alone (event_of line)
-says_push (first ∷ seen) line =
-    sym (cons_append (event_of first) (filter_map event_of seen) (option_to_list (event_of line)))
-    ∙ ap (cons_option (event_of first)) (says_push seen line)
-
-cond_append : (test : Bool) (x : List ℕ) (xs ys : List (List ℕ)) →
-    cond test (x ∷ (xs ++ ys)) (xs ++ ys) ≡ cond test (x ∷ xs) xs ++ ys
-cond_append true x xs ys = refl
-cond_append false x xs ys = refl
-
-filter-append : (q : List ℕ → Bool) (xs ys : List (List ℕ)) →
-    filter q (xs ++ ys) ≡ filter q xs ++ filter q ys
-filter-append q [] ys = refl
-filter-append q (x ∷ xs) ys = ap (λ rest. cond (q x) (x ∷ rest) rest) (filter-append q xs ys)
-    ∙ cond_append (q x) x (filter q xs) (filter q ys)
+says_push seen line =
+    ap (λ said. filter_map event_of seen ++ said) (cons_alone (event_of line))
+    ∙ sym (filter_map-append event_of seen (line ∷ []))
 
 -- ---- one line more
 
@@ -105,34 +89,8 @@ read_line_has_bytes : (settings : List (List ℕ)) (line : List ℕ) →
 read_line_has_bytes settings [] taken = cc
 read_line_has_bytes settings (b ∷ line) taken = omega arith
 
-pub line_more :
-    {input rest : List ℕ} {number : ℕ} {events : List Event} {settings : List (List ℕ)} →
-    Progress input number events settings rest → (line following : List ℕ) →
-    lines_of rest ≡ line ∷ lines_of following → length line + length following + 1 ≡ length rest →
-    takes settings line ≡ true →
-    Progress input (number + 1) (events ++ option_to_list (event_of line)) (settings
-    ++ cond (is_some (event_of line)) [] (line ∷ [])) following
-line_more {input} {rest} {number} {events} {settings} known line following cut size taken =
-    let readable : is_readable_after known.seen line ≡ true =
-    sym (readable_by_marked known.seen line)
-    ∙ ap (λ kept. takes kept line) (sym known.sets) ∙ taken in
-    record {
-      seen = known.seen ++ line ∷ [];
-      whole = known.whole ∙ ap (λ lines. known.seen ++ lines) cut
-          ∙ sym (append_assoc known.seen (line ∷ []) (lines_of following));
-      reads = reads_push [] known.seen line known.reads readable;
-      says = ap (λ said. said ++ option_to_list (event_of line)) known.says
-          ∙ says_push known.seen line;
-      sets =
-          ap (λ kept. settings ++ kept) (kept_line settings line (event_of line) refl taken)
-          ∙ ap (λ kept. kept ++ filter is_marked (line ∷ [])) known.sets
-          ∙ sym (filter-append is_marked known.seen (line ∷ []));
-      counted = omega (arith, known.counted, length_push known.seen line);
-      short = omega (arith, known.short, size, read_line_has_bytes settings line taken);
-    }
-
 -- each line more is an event or a setting more
-pub counted_more :
+counted_more :
     (events : List Event) (settings : List (List ℕ)) (line : List ℕ) (said : Option Event) →
     length events + length settings + 1 ≡ length (events ++ option_to_list said)
     + length (settings ++ cond (is_some said) [] (line ∷ []))
@@ -141,60 +99,10 @@ counted_more events settings line (Some event) =
 counted_more events settings line None =
     omega (arith, length-append events [], length-append settings (line ∷ []))
 
--- a plain line more
-pub plain_more :
-    {input rest : List ℕ} {number : ℕ} {events : List Event} {settings : List (List ℕ)} →
-    Progress input number events settings rest → (event : Event) (following : List ℕ) →
-    BeginsWithEvent rest event following →
-    Progress input (number + 1) (events ++ event ∷ []) settings following
-plain_more {input} {rest} {number} {events} {settings} known event following read =
-    let line = read.line in
-    let taken : takes settings line ≡ true = ap (λ said. is_some said || is_setting line
-    && is_new settings (option_name line)) read.says in
-    let more = line_more known line following read.cut read.size taken in
-    let said = subst (λ said. Progress input (number + 1) (events ++ option_to_list said) (settings
-    ++ cond (is_some said) [] (line ∷ [])) following) read.says more in
-    subst (λ kept. Progress input (number + 1) (events ++ event ∷ []) kept following)
-    (append-nil settings) said
-
 -- ---- the line that ends the script
 
 is_end : (line : List ℕ) → bytes_eq line end_line ≡ true → line ≡ end_line
 is_end line h = (bytes_eq-Decides line end_line).0 h
-
-pub script_ends :
-    {input rest : List ℕ} {number : ℕ} {events : List Event} {settings : List (List ℕ)} →
-    Progress input number events settings rest → (line bytes : List ℕ) (document : List (List ℕ))
-    (options : CompileOptions) → lines_of rest ≡ line ∷ document → bytes_eq line end_line ≡ true →
-    bytes ≡ join_with_byte 10 document → HasOptions settings options →
-    StandsFor input events bytes options
-script_ends {settings} known line bytes document options cut ends joined has = record {
-  body = known.seen;
-  document = document;
-  script = record {
-    whole = known.whole
-        ∙ ap (λ lines. known.seen ++ lines) (cut ∙ ap (λ l. l ∷ document) (is_end line ends));
-    reads = known.reads;
-  };
-  says = known.says;
-  sets =
-      options_by_marked known.seen options (subst (λ kept. HasOptions kept options) known.sets has);
-  rest = joined;
-}
-
--- the document after the line, or none
-pub script_ends_at :
-    {input rest : List ℕ} {number : ℕ} {events : List Event} {settings : List (List ℕ)} →
-    Progress input number events settings rest → (line : List ℕ) (following : Option (Bor (List ℕ)))
-    (document empty : Bor (List ℕ)) (options : CompileOptions) →
-    MatchOption following (lines_of rest ≡ line ∷ []) (λ f. lines_of rest ≡ line ∷ lines_of f.now) →
-    bytes_eq line end_line ≡ true → document ≡ unwrap_or following empty → empty.now ≡ [] →
-    HasOptions settings options → StandsFor input events document.now options
-script_ends_at known line None document empty options cut ends is nothing has =
-    script_ends known line document.now [] options cut ends (ap (λ d. d.now) is ∙ nothing) has
-script_ends_at known line (Some f) document empty options cut ends is nothing has =
-    script_ends known line document.now (lines_of f.now) options cut ends (ap (λ d. d.now) is
-    ∙ sym (join_with_byte-slice_split 10 f.now)) has
 
 -- ---- a line that can't be read, and no line
 
@@ -232,49 +140,113 @@ explained why = (
   why,
 )
 
-pub line_stops :
-    {input rest : List ℕ} {number : ℕ} {events : List Event} {settings : List (List ℕ)} →
-    Progress input number events settings rest →
-    (line : List ℕ) (following : Option (Bor (List ℕ))) →
-    MatchOption following (lines_of rest ≡ line ∷ []) (λ f. lines_of rest ≡ line ∷ lines_of f.now) →
-    bytes_eq line end_line ≡ false → takes settings line ≡ false →
-    Explains input (Line (number + 1))
-line_stops {settings} known line None cut other nothing = explained (record {
-  earlier = known.seen;
-  others = line ∷ [];
-  whole = known.whole ∙ ap (λ lines. known.seen ++ lines) cut;
-  reads = known.reads;
-  stops = (
-    other,
-    sym (readable_by_marked known.seen line)
-        ∙ ap (λ kept. takes kept line) (sym known.sets) ∙ nothing,
-  );
-  counted = ap (λ n. n + 1) known.counted;
-})
-line_stops {settings} known line (Some f) cut other nothing = explained (record {
-  earlier = known.seen;
-  others = line ∷ lines_of f.now;
-  whole = known.whole ∙ ap (λ lines. known.seen ++ lines) cut;
-  reads = known.reads;
-  stops = (
-    other,
-    sym (readable_by_marked known.seen line)
-        ∙ ap (λ kept. takes kept line) (sym known.sets) ∙ nothing,
-  );
-  counted = ap (λ n. n + 1) known.counted;
-})
+-- ---- a line more, the end, or a line that can't be read
 
-pub input_stops :
-    {input rest : List ℕ} {number : ℕ} {events : List Event} {settings : List (List ℕ)} →
-    Progress input number events settings rest → (line : List ℕ) → lines_of rest ≡ line ∷ [] →
-    takes settings line ≡ true → Explains input (Line (number + 1 + 1))
-input_stops {settings} known line cut taken = explained (record {
-  earlier = known.seen ++ line ∷ [];
-  others = [];
-  whole = known.whole ∙ ap (λ lines. known.seen ++ lines) cut
-      ∙ sym (append-nil (known.seen ++ line ∷ []));
-  reads = reads_push [] known.seen line known.reads (sym (readable_by_marked known.seen line)
-      ∙ ap (λ kept. takes kept line) (sym known.sets) ∙ taken);
-  stops = tt;
-  counted = omega (arith, known.counted, length_push known.seen line);
-})
+-- the lines after one
+abbrev lines_after : Option (Bor (List ℕ)) → List (List ℕ)
+lines_after None = []
+lines_after (Some f) = lines_of f.now
+
+module _ {input rest : List ℕ} {events : List Event} {settings : List (List ℕ)}
+    (known : Progress input events settings rest) where
+  pub line_more : (line following : List ℕ) →
+      lines_of rest ≡ line ∷ lines_of following → length line + length following + 1 ≡ length rest →
+      takes settings line ≡ true →
+      Progress input (events ++ option_to_list (event_of line))
+      (settings ++ cond (is_some (event_of line)) [] (line ∷ [])) following
+  line_more line following cut size taken =
+      let readable : is_readable_after known.seen line ≡ true =
+      sym (readable_by_marked known.seen line)
+      ∙ ap (λ kept. takes kept line) (sym known.sets) ∙ taken in
+      let more = counted_more events settings line (event_of line) in
+      record {
+        seen = known.seen ++ line ∷ [];
+        whole = known.whole ∙ ap (λ lines. known.seen ++ lines) cut
+            ∙ sym (append_assoc known.seen (line ∷ []) (lines_of following));
+        reads = reads_push [] known.seen line known.reads readable;
+        says = ap (λ said. said ++ option_to_list (event_of line)) known.says
+            ∙ says_push known.seen line;
+        sets =
+            ap (λ kept. settings ++ kept) (kept_line settings line (event_of line) refl taken)
+            ∙ ap (λ kept. kept ++ filter is_marked (line ∷ [])) known.sets
+            ∙ sym (filter-append is_marked known.seen (line ∷ []));
+        counted = omega (arith, known.counted, length_push known.seen line, more);
+        short = omega (arith, known.short, size, read_line_has_bytes settings line taken, more);
+      }
+
+  -- a plain line more
+  pub plain_more : (event : Event) (following : List ℕ) →
+      BeginsWithEvent rest event following →
+      Progress input (events ++ event ∷ []) settings following
+  plain_more event following read =
+      let line = read.line in
+      let taken : takes settings line ≡ true = ap (λ said. is_some said || is_setting line
+      && is_new settings (option_name line)) read.says in
+      rw (read.says, append-nil) at (line_more line following read.cut read.size taken)
+
+  script_ends : (line bytes : List ℕ) (document : List (List ℕ))
+      (options : CompileOptions) → lines_of rest ≡ line ∷ document → bytes_eq line end_line ≡ true →
+      bytes ≡ join_with_byte 10 document → HasOptions settings options →
+      StandsFor input events bytes options
+  script_ends line bytes document options cut ends joined has = record {
+    body = known.seen;
+    document = document;
+    script = record {
+      whole = known.whole
+          ∙ ap (λ lines. known.seen ++ lines) (cut ∙ ap (λ l. l ∷ document) (is_end line ends));
+      reads = known.reads;
+    };
+    says = known.says;
+    sets =
+        options_by_marked known.seen options (subst (λ kept. HasOptions kept options) known.sets has);
+    rest = joined;
+  }
+
+  -- the document after the line, or none
+  pub script_ends_at : (line : List ℕ) (following : Option (Bor (List ℕ)))
+      (document empty : Bor (List ℕ)) (options : CompileOptions) →
+      MatchOption following (lines_of rest ≡ line ∷ []) (λ f. lines_of rest ≡ line ∷ lines_of f.now) →
+      bytes_eq line end_line ≡ true → document ≡ unwrap_or following empty → empty.now ≡ [] →
+      HasOptions settings options → StandsFor input events document.now options
+  script_ends_at line None document empty options cut ends is nothing has =
+      script_ends line document.now [] options cut ends (ap (λ d. d.now) is ∙ nothing) has
+  script_ends_at line (Some f) document empty options cut ends is nothing has =
+      script_ends line document.now (lines_of f.now) options cut ends (ap (λ d. d.now) is
+      ∙ sym (join_with_byte-slice_split 10 f.now)) has
+
+  pub line_stops : (line : List ℕ) (following : Option (Bor (List ℕ))) →
+      MatchOption following (lines_of rest ≡ line ∷ []) (λ f. lines_of rest ≡ line ∷ lines_of f.now) →
+      bytes_eq line end_line ≡ false → takes settings line ≡ false →
+      Explains input (Line (length events + length settings + 1))
+  line_stops line following cut other nothing = explained (record {
+    earlier = known.seen;
+    others = line ∷ lines_after following;
+    whole = known.whole ∙ ap (λ lines. known.seen ++ lines) (cut_after following cut);
+    reads = known.reads;
+    stops = (
+      other,
+      sym (readable_by_marked known.seen line)
+          ∙ ap (λ kept. takes kept line) (sym known.sets) ∙ nothing,
+    );
+    counted = ap (λ n. n + 1) known.counted;
+  })
+    where
+      cut_after : (following : Option (Bor (List ℕ))) →
+          MatchOption following (lines_of rest ≡ line ∷ [])
+          (λ f. lines_of rest ≡ line ∷ lines_of f.now) →
+          lines_of rest ≡ line ∷ lines_after following
+      cut_after None cut = cut
+      cut_after (Some f) cut = cut
+
+  pub input_stops : (line : List ℕ) → lines_of rest ≡ line ∷ [] →
+      takes settings line ≡ true → Explains input (Line (length events + length settings + 1 + 1))
+  input_stops line cut taken = explained (record {
+    earlier = known.seen ++ line ∷ [];
+    others = [];
+    whole = known.whole ∙ ap (λ lines. known.seen ++ lines) cut
+        ∙ sym (append-nil (known.seen ++ line ∷ []));
+    reads = reads_push [] known.seen line known.reads (sym (readable_by_marked known.seen line)
+        ∙ ap (λ kept. takes kept line) (sym known.sets) ∙ taken);
+    stops = tt;
+    counted = omega (arith, known.counted, length_push known.seen line);
+  })

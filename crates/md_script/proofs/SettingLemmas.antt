@@ -22,17 +22,6 @@ use Rattle.md_script.specs.Setting.{HasOptions}
 
 -- ---- bytes as a text
 
-pub read_text : {E : Type 0} (bytes : List ℕ) (Fault : E → Type 0) (r : Result (Bor (List ℕ)) E) →
-    MatchResult r (λ s. (s.now ≡ bytes) × IsUtf8 bytes) (λ e. (¬ IsUtf8 bytes) × Fault e) →
-    option_copied (result_ok r) ≡ text_when true bytes
-read_text bytes Fault (Ok s) h =
-    ap Some h.0 ∙ sym (ap (chosen bytes) (is_utf8-from_IsUtf8 bytes h.1))
-read_text bytes Fault (Err e) h =
-    elim (cases_Bool (is_utf8 bytes)) [
-      | inl good ↦ absurd (h.0 (IsUtf8-from_is_utf8 bytes good))
-      | inr bad ↦ sym (ap (chosen bytes) bad)
-    ]
-
 pub reads_as_text :
     {E : Type 0} (bytes : List ℕ) (Fault : E → Type 0) (r : Result (Bor (List ℕ)) E) →
     MatchResult r (λ s. (s.now ≡ bytes) × IsUtf8 bytes) (λ e. (¬ IsUtf8 bytes) × Fault e) →
@@ -43,6 +32,13 @@ reads_as_text bytes Fault (Err e) h =
       | inl good ↦ absurd (h.0 (IsUtf8-from_is_utf8 bytes good))
       | inr bad ↦ sym bad
     ]
+
+pub read_text : {E : Type 0} (bytes : List ℕ) (Fault : E → Type 0) (r : Result (Bor (List ℕ)) E) →
+    MatchResult r (λ s. (s.now ≡ bytes) × IsUtf8 bytes) (λ e. (¬ IsUtf8 bytes) × Fault e) →
+    option_copied (result_ok r) ≡ text_when true bytes
+read_text bytes Fault (Ok s) h =
+    ap Some h.0 ∙ sym (ap (chosen bytes) (is_utf8-from_IsUtf8 bytes h.1))
+read_text bytes Fault (Err e) h = ap (chosen bytes) (reads_as_text bytes Fault (Err e) h)
 
 -- ---- lines that begin with `!`; only these can set an option
 

@@ -1,6 +1,8 @@
 -- What is promised of a safe text, and of why there is none.
 use Rattle.md_tree.specs.Grammar.{handed}
-use Rattle.md_abi.proofs.AttributedLemmas.{reads_once, safe_reported}
+use Rattle.md_abi.specs.Refusals.{refusal_of, IsRefusalFor}
+use Rattle.md_abi.proofs.AttributedLemmas.{reads_once, safe_fault_of}
+use Rattle.md_abi.proofs.GivenLemmas.{reported}
 use Rattle.md_abi.proofs.attributed.compile_read_safely.Goals as goal
 
 pub returns-clause-ok : goal.returns-clause-ok
@@ -23,5 +25,7 @@ returns-clause-ok c =
 pub returns-in_err-html-clause-err : goal.returns-in_err-html-clause-err
 returns-in_err-html-clause-err c =
     let why = c.in_err-html.ensures in
-    safe_reported (handed c.args.events.now c.args.bytes.now c.args.names.now) c.args.options.now
-    c.in_err-html.field-0.0 c.from_residual.result c.from_residual.ensures.1 why.options why.refused
+    let given = handed c.args.events.now c.args.bytes.now c.args.names.now in
+    reported (IsRefusalFor given c.args.options.now) refusal_of c.in_err-html.field-0.0
+    c.from_residual.result (safe_fault_of given c.args.options.now c.in_err-html.field-0.0
+    why.options why.refused) c.from_residual.ensures.1

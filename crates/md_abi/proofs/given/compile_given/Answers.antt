@@ -6,19 +6,13 @@ use Rattle.md_abi.proofs.given.compile_given.Goals as goal
 
 pub returns-clause-ok : goal.returns-clause-ok
 returns-clause-ok c =
-    let given = c.args.given in
-    let read = read_as given.events.now given.options.now given.names.now c.as_slice.result.now _
-    c.in_ok-options.options c.as_slice-2.result.now _
-    c.as_slice.ensures.value c.as_slice-2.ensures.value c.in_ok-events.ensures.ok
-    c.in_ok-options.ensures.ok c.in_ok-names.ensures.ok in
-    text_given _ given.bytes.now _ _ _ _ _ read string_bytes c.compile_read.result
+    let read = read_as _ _ _ _ _ _ _ _ c.as_slice.ensures.value c.as_slice-2.ensures.value
+    c.in_ok-events.ensures.ok c.in_ok-options.ensures.ok c.in_ok-names.ensures.ok in
+    text_given _ c.args.given.bytes.now _ _ _ _ _ read string_bytes c.compile_read.result
     c.compile_read.ensures.ok
 
 pub returns-clause-err : goal.returns-clause-err
 returns-clause-err c =
-    let given = c.args.given in
-    let read = read_as given.events.now given.options.now given.names.now c.as_slice.result.now _
-    c.in_ok-options.options c.as_slice-2.result.now _
-    c.as_slice.ensures.value c.as_slice-2.ensures.value c.in_ok-events.ensures.ok
-    c.in_ok-options.ensures.ok c.in_ok-names.ensures.ok in
-    refusal_given _ given.bytes.now _ _ _ _ _ read c.compile_read.result c.compile_read.ensures.err
+    let read = read_as _ _ _ _ _ _ _ _ c.as_slice.ensures.value c.as_slice-2.ensures.value
+    c.in_ok-events.ensures.ok c.in_ok-options.ensures.ok c.in_ok-names.ensures.ok in
+    refusal_given _ c.args.given.bytes.now _ _ _ _ _ read c.compile_read.result c.compile_read.ensures.err

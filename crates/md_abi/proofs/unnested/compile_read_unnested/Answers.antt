@@ -1,7 +1,9 @@
 -- What is promised of a text without a link in a link, and of why there is none.
 use Rattle.md_tree.specs.Grammar.{handed}
 use Rattle.md_abi.proofs.AttributedLemmas.{reads_once}
-use Rattle.md_abi.proofs.UnnestedLemmas.{unnested_reported}
+use Rattle.md_abi.specs.UnnestedFailures.{IsUnnestedFault, unnested_failure_of}
+use Rattle.md_abi.proofs.GivenLemmas.{reported}
+use Rattle.md_abi.proofs.UnnestedLemmas.{fault_of}
 use Rattle.md_abi.proofs.unnested.compile_read_unnested.Goals as goal
 
 pub returns-clause-ok : goal.returns-clause-ok
@@ -28,6 +30,8 @@ returns-clause-ok c =
 pub returns-in_err-html-clause-err : goal.returns-in_err-html-clause-err
 returns-in_err-html-clause-err c =
     let why = c.in_err-html.ensures in
-    unnested_reported (handed c.args.events.now c.args.bytes.now c.args.names.now)
-    c.args.options.now c.in_err-html.field-0.0 c.from_residual.result c.from_residual.ensures.1
-    why.nested why.nested_grammatical why.options why.refused
+    let given = handed c.args.events.now c.args.bytes.now c.args.names.now in
+    reported (IsUnnestedFault given c.args.options.now) unnested_failure_of
+    c.in_err-html.field-0.0 c.from_residual.result (fault_of given c.args.options.now
+    c.in_err-html.field-0.0 why.nested why.nested_grammatical why.options why.refused)
+    c.from_residual.ensures.1

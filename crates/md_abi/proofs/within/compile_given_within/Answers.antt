@@ -10,40 +10,28 @@ use Rattle.md_abi.proofs.within.compile_given_within.Goals as goal
 
 pub returns-clause-ok : goal.returns-clause-ok
 returns-clause-ok c =
-    let given = c.args.given in
-    let read = read_as given.events.now given.options.now given.names.now c.as_slice.result.now _
-    c.in_ok-options.options c.as_slice-2.result.now _
-    c.as_slice.ensures.value c.as_slice-2.ensures.value c.in_ok-events.ensures.ok
-    c.in_ok-options.ensures.ok c.in_ok-names.ensures.ok in
-    text_within _ given.bytes.now _ _ _ _ _ c.args.limits.now _ read string_bytes
+    let read = read_as _ _ _ _ _ _ _ _ c.as_slice.ensures.value c.as_slice-2.ensures.value
+    c.in_ok-events.ensures.ok c.in_ok-options.ensures.ok c.in_ok-names.ensures.ok in
+    text_within _ c.args.given.bytes.now _ _ _ _ _ c.args.limits.now _ read string_bytes
     c.compile_read_within.result refl refl c.depth_limit.ensures c.compile_read_within.ensures.ok
 
 pub returns-clause-bounded : goal.returns-clause-bounded
 returns-clause-bounded c =
-    let given = c.args.given in
-    let read = read_as given.events.now given.options.now given.names.now c.as_slice.result.now _
-    c.in_ok-options.options c.as_slice-2.result.now _
-    c.as_slice.ensures.value c.as_slice-2.ensures.value c.in_ok-events.ensures.ok
-    c.in_ok-options.ensures.ok c.in_ok-names.ensures.ok in
-    bounded_within _ given.bytes.now _ _ _ _ _ c.args.limits.now _ read string_bytes
+    let read = read_as _ _ _ _ _ _ _ _ c.as_slice.ensures.value c.as_slice-2.ensures.value
+    c.in_ok-events.ensures.ok c.in_ok-options.ensures.ok c.in_ok-names.ensures.ok in
+    bounded_within _ c.args.given.bytes.now _ _ _ _ _ c.args.limits.now _ read string_bytes
     c.compile_read_within.result refl c.compile_read_within.ensures.ok
 
 pub returns-clause-shallow : goal.returns-clause-shallow
 returns-clause-shallow c =
-    let given = c.args.given in
-    let read = read_as given.events.now given.options.now given.names.now c.as_slice.result.now _
-    c.in_ok-options.options c.as_slice-2.result.now _
-    c.as_slice.ensures.value c.as_slice-2.ensures.value c.in_ok-events.ensures.ok
-    c.in_ok-options.ensures.ok c.in_ok-names.ensures.ok in
-    shallow_within _ given.bytes.now _ _ _ _ _ c.args.limits.now _ read string_bytes
+    let read = read_as _ _ _ _ _ _ _ _ c.as_slice.ensures.value c.as_slice-2.ensures.value
+    c.in_ok-events.ensures.ok c.in_ok-options.ensures.ok c.in_ok-names.ensures.ok in
+    shallow_within _ c.args.given.bytes.now _ _ _ _ _ c.args.limits.now _ read string_bytes
     c.compile_read_within.result c.depth_limit.ensures c.compile_read_within.ensures.ok
 
 pub returns-clause-err : goal.returns-clause-err
 returns-clause-err c =
-    let given = c.args.given in
-    let read = read_as given.events.now given.options.now given.names.now c.as_slice.result.now _
-    c.in_ok-options.options c.as_slice-2.result.now _
-    c.as_slice.ensures.value c.as_slice-2.ensures.value c.in_ok-events.ensures.ok
-    c.in_ok-options.ensures.ok c.in_ok-names.ensures.ok in
-    failure_given _ given.bytes.now _ _ _ _ _ c.args.limits.now _ read c.compile_read_within.result
+    let read = read_as _ _ _ _ _ _ _ _ c.as_slice.ensures.value c.as_slice-2.ensures.value
+    c.in_ok-events.ensures.ok c.in_ok-options.ensures.ok c.in_ok-names.ensures.ok in
+    failure_given _ c.args.given.bytes.now _ _ _ _ _ c.args.limits.now _ read c.compile_read_within.result
     refl refl c.depth_limit.ensures c.compile_read_within.ensures.err

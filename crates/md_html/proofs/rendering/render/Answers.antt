@@ -1,73 +1,28 @@
--- The text of the events, with where the document's definitions lead, is the meaning
--- of the document.
-use Rattle.std.proofs.Common.{◌≡◌, ℕ, List, refl, sym, ap, ◌∙◌}
-use Rattle.md_base.specs.Tree.{Forest, flatten}
-use Rattle.md_meaning.specs.Meaning.{meaning}
-use Rattle.md_meaning.specs.Meaning.At.{Context}
-use Rattle.md_tree.specs.Grammar.{IsReadAs}
-use Rattle.md_steps.specs.Run.{defined, context_alone}
-use Rattle.md_facts.proofs.FoundLemmas.{grammatical-there}
-use Rattle.md_html.specs.Printed.{text_of}
+-- The text of the events, with the targets of the document's definitions, is the meaning of the
+-- document.
+use Rattle.std.proofs.Common.{string_bytes, refl, ◌∙◌}
 use Rattle.std.proofs.lemmas.Result.{IfOk-weaker}
-use Rattle.md_html.proofs.Supplying.{alone-supplied, all-supplied}
+use Rattle.md_html.proofs.Supplying.{alone-supplied, supplied, printed-meant}
 use Rattle.md_html.proofs.rendering.render.Goals as goal
 
 pub targets-requires : goal.targets-requires
 targets-requires c =
-    let checked = c.args.checked.now in
-    let ending = c.ending_of-ending.result.now in
-    record {
-      supplied = (
-        context_alone c.args.options.now checked.names checked.bytes ending,
-        alone-supplied _ c.args.options.now checked.names checked.bytes ending refl
-            (sym c.names-names.ensures) refl
-            refl refl,
-      );
-    }
+    record { supplied = (_, alone-supplied _ c.names-names.ensures refl) }
 
 pub print-requires : goal.print-requires
 print-requires c =
-    let checked = c.args.checked.now in
-    let options = c.args.options.now in
-    let ending = c.ending_of-ending.result.now in
-    let read = c.ending_of-ending.ensures.grammatical in
-    let document : Forest = read.0 in
-    let flat : flatten document ≡ checked.events = IsReadAs.flattened read.1 in
-    let alone : Context = context_alone options checked.names checked.bytes ending in
-    let none = alone-supplied _ options checked.names checked.bytes ending refl
-    (sym c.names-names.ensures) refl refl refl in
     record {
-      supplied = (
-        record alone { definitions = defined alone document },
-        all-supplied _ options checked.names checked.bytes ending refl
-            (sym c.names-names.ensures) refl refl document
-            flat (c.as_slice.ensures.value ∙ c.in_ok-definitions.ensures alone document none flat),
-      );
+      supplied = supplied _ c.names-names.ensures (λ document flat.
+          c.as_slice.ensures.value ∙ c.in_ok-definitions.ensures _ document
+          (alone-supplied _ c.names-names.ensures refl) flat) c.ending_of-ending.ensures.grammatical;
     }
 
 pub returns : goal.returns
 returns c =
-    let checked = c.args.checked.now in
-    let options = c.args.options.now in
-    let ending = c.ending_of-ending.result.now in
-    let context : List ℕ → Forest → Context = λ ending document.
-    record (context_alone options checked.names checked.bytes ending) {
-      definitions = defined (context_alone options checked.names checked.bytes ending) document;
-    } in
-    let alone : Context = context_alone options checked.names checked.bytes ending in
-    let none = alone-supplied _ options checked.names checked.bytes ending refl
-    (sym c.names-names.ensures) refl refl refl in
-    let means : (document : Forest) → flatten document ≡ checked.events →
-    text_of (context ending document) document
-    ≡ meaning options checked.names checked.bytes document =
-    λ document flat. ap (λ ending. text_of (context ending document) document)
-    (c.ending_of-ending.ensures.ending document flat)
-    ∙ c.steps_print_what_is_meant.ensures options checked.names checked.bytes document
-    (grammatical-there checked document c.ending_of-ending.ensures.grammatical flat) in
     record {
-      meaning = IfOk-weaker c.print.result _ _ (λ text is document flat.
-          is (context ending document) document (all-supplied _ options checked.names checked.bytes
-          ending refl (sym c.names-names.ensures) refl refl document
-          flat (c.as_slice.ensures.value ∙ c.in_ok-definitions.ensures alone document none flat))
-          flat ∙ means document flat) c.print.ensures;
+      meaning = IfOk-weaker c.print.result _ _ (λ text printed. printed-meant _
+          c.names-names.ensures (λ document flat. c.as_slice.ensures.value
+          ∙ c.in_ok-definitions.ensures _ document (alone-supplied _ c.names-names.ensures refl) flat)
+          c.ending_of-ending.ensures.grammatical c.ending_of-ending.ensures.ending
+          c.steps_print_what_is_meant.ensures (string_bytes text) printed) c.print.ensures;
     }

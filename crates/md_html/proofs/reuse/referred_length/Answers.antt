@@ -7,31 +7,30 @@ use Rattle.md_tree.specs.Numbers.{definition_for}
 use Rattle.md_html.specs.Reuse.{definition_lengths, resolved_lengths, length_at, referred}
 use Rattle.md_measure.specs.Counting.{capped}
 use Rattle.md_html.proofs.Counting.{all-added}
-use Rattle.md_html.proofs.Reusing.{first-there, others-there, mention-at, led-step, capped-more}
+use Rattle.md_html.proofs.Reusing.{split-there, mention-at, led-step, capped-more}
 use Rattle.md_html.proofs.Reusing.{led-all}
 use Rattle.md_html.proofs.reuse.referred_length.Goals as goal
 
 pub referred_at-requires-clause-there : goal.referred_at-requires-clause-there
 referred_at-requires-clause-there c =
-    first-there c.args.checked.now.events c.loop-event.index c.in-Some.event.now
-    c.in-Some.following.now (c.loop-event.invariant.left ∙ c.in-Some.ensures.cases.0)
+    (split-there c.args.checked.now.events c.loop-event.index c.in-Some.event.now
+    c.in-Some.following.now (c.loop-event.invariant.left ∙ c.in-Some.ensures.cases.0)).0
 
 pub loop-event-preserved : goal.loop-event-preserved
 loop-event-preserved c =
     let at = c.loop-event in
     let given = c.args.checked.now in
     let event = c.in-Some.event.now in
-    let following = c.in-Some.following.now in
-    let split = at.invariant.left ∙ c.in-Some.ensures.cases.0 in
+    let (there, others) = split-there given.events at.index event c.in-Some.following.now
+    (at.invariant.left ∙ c.in-Some.ensures.cases.0) in
     let next = add-one at.index in
     record {
       left = ap (λ n. drop n given.events) next
-          ∙ sym (others-there given.events at.index event following split);
+          ∙ sym others;
       referred = λ document flat.
           let mentions = mentions_of document in
           let lengths = definition_lengths document in
           let leads = definition_for given.bytes mentions in
-          let there = first-there given.events at.index event following split in
           let (mention, here) = mention-at document given.events at.index event flat there in
           let more = length_at lengths (leads mention) in
           let later = resolved_lengths lengths leads (drop (at.index + 1) mentions) in

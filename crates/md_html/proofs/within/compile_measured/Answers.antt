@@ -1,57 +1,52 @@
 -- The checked events are those of the arguments, so a text is the meaning of their document, and
 -- facts about each meaning hold for it.
-use Rattle.std.proofs.Common.{rules, ◌≡◌, ◌≤◌, ◌<◌, ◌^◌, inr, length, string_bytes, subst, arith}
-use Rattle.std.proofs.Common.{sym, ◌∙◌}
+use Rattle.std.proofs.Common.{rules, ◌≡◌, ◌≤◌, ◌<◌, ◌^◌, inr, length, string_bytes, arith, Result}
+use Rattle.std.proofs.Common.{Ok, Err, sym, ◌∙◌, subst, ℕ, Bool, false, nat_lt}
 use Rattle.std.proofs.lemmas.Bool.{ltb-true, ltb-false}
-use Rattle.std.specs.Prelude.{Option, Some, IfSome}
+use Rattle.std.specs.Prelude.{IfErr}
+use Rattle.std.specs.Result.{IsErrAnd}
 use Rattle.md_base.specs.Tree.{Forest, flatten}
 use Rattle.md_tree.specs.Grammar.{Handed, IsChecked}
-use Rattle.md_meaning.specs.Meaning.{meaning}
 use Rattle.md_depth.specs.Depth.{depth}
+use Rattle.md_measure.specs.Counting.{capped}
 use Rattle.md_html.specs.Work.{work}
 use Rattle.md_html.specs.Reuse.{reuse}
 use Rattle.md_html.specs.MeasuredEvents.{handed_by}
-use Rattle.std.proofs.Common.{Result, Ok, Err}
-use Rattle.std.specs.Prelude.{IfErr}
-use Rattle.std.specs.Result.{IsErrAnd}
 use Rattle.md_tree.specs.declared.rule.CompileError.TheVariants as refusal
 use Rattle.md_html.specs.declared.within.WithinError.TheVariants as within
-use Rattle.md_html.specs.Within.{IsLonger, IsReuseWithin, WithinRefusal}
+use Rattle.md_html.specs.Printed.{IsMeant}
+use Rattle.md_html.specs.Within.{IsLonger, IsReuseWithin}
 use Rattle.md_html.proofs.Promises.{promises, bounded, nested}
 use Rattle.md_html.proofs.within.compile_measured.Goals as goal
-
-some-at : {X : Type 0} (P : X → Type 0) (o : Option X) (x : X) → o ≡ Some x → IfSome o P → P x
-some-at P o x is held = subst (λ answer. IfSome answer P) is held
 
 err-and : {A E : Type 0} (P Q : E → Type 0) (result : Result A E) →
     ((why : E) → P why → Q why) → IsErrAnd result P → IfErr result Q
 err-and P Q (Ok a) says held = tt
 err-and P Q (Err why) says held = says why held
 
+at_most : (limit given counted : ℕ) (over : Bool) →
+    ((n : ℕ) → counted ≡ capped n → over ≡ nat_lt limit n) → counted ≡ capped given →
+    over ≡ false → given ≤ limit
+at_most limit given counted over says is none = ltb-false limit given (sym (says given is) ∙ none)
+
 pub returns-in-Some-clause-text : goal.returns-in-Some-clause-text
 returns-in-Some-clause-text c =
     let given : Handed = handed_by c.args.given.now in
     let text = string_bytes c.in-Some.text in
-    let means : Handed → Type 0 = λ given.
-    (document : Forest) → flatten document ≡ given.events →
-    text ≡ meaning c.args.options.now given.names given.bytes document in
-    let meant : means given = subst means c.in_ok-checked.ensures.ok
-    (some-at _ c.in_ok-text.field-0 c.in-Some.text c.in-Some.is c.in_ok-text.ensures.meaning) in
+    let meant : IsMeant c.args.options.now given text =
+    rw c.in_ok-checked.ensures.ok at (rw c.in-Some.is at c.in_ok-text.ensures.text) in
     let few : length given.events < 2 ^ 63 = omega arith in
     let read : IsChecked given = c.in_ok-checked.ensures.grammatical in
     let worked : work given.events ≤ c.args.limits.work =
-    ltb-false c.args.limits.work (work c.args.given.now.events.now)
-    (sym (c.exceeds.ensures (work c.args.given.now.events.now)
-    (c.work.ensures c.args.given.now.events.now c.args.given.now.measured))
-    ∙ c.if-exceeds.false) in
+    at_most _ _ _ _ c.exceeds.ensures (c.work.ensures _ c.args.given.now.measured)
+    c.if-exceeds.false in
     let shallow : depth given.events ≤ c.args.limits.depth = search rules in
     let reused : IsReuseWithin c.args.options.now given c.args.limits.work =
     subst (λ (given : Handed). IsReuseWithin c.args.options.now given c.args.limits.work)
     c.in_ok-checked.ensures.ok (λ document flat. ltb-false _ _
     (sym (c.in_ok-is_reuse_over.ensures document flat) ∙ c.if-branch.false)) in
     record {
-      within =
-          some-at _ c.in_ok-text.field-0 c.in-Some.text c.in-Some.is c.in_ok-text.ensures.within;
+      within = rw c.in-Some.is at c.in_ok-text.ensures.within;
       work = worked;
       depth = shallow;
       nesting = nested c.args.options.now given text c.args.limits.depth read meant shallow;
@@ -81,13 +76,10 @@ returns-then-branch-clause-refused c =
 pub returns-in_err-text-clause-refused : goal.returns-in_err-text-clause-refused
 returns-in_err-text-clause-refused c =
     err-and (λ why. why ≡ within.Compile refusal.Memory) _ c.from_residual-in_err-text.result
-    (λ why is. subst (WithinRefusal c.args.options.now (handed_by c.args.given.now) c.args.limits)
-    (sym is) (record {
+    (λ why is. rw is (record {
       too_deep = search rules;
-      too_much = ltb-false c.args.limits.work (work c.args.given.now.events.now)
-          (sym (c.exceeds.ensures (work c.args.given.now.events.now)
-          (c.work.ensures c.args.given.now.events.now c.args.given.now.measured))
-          ∙ c.if-exceeds.false);
+      too_much = at_most _ _ _ _ c.exceeds.ensures
+          (c.work.ensures _ c.args.given.now.measured) c.if-exceeds.false;
       too_long = tt;
       long_grammatical = tt;
       refused = search rules;
@@ -97,10 +89,8 @@ pub returns-clause-refused : goal.returns-clause-refused
 returns-clause-refused c = record {
   too_deep = search rules;
   too_much = (
-    ltb-false c.args.limits.work (work c.args.given.now.events.now)
-        (sym (c.exceeds.ensures (work c.args.given.now.events.now)
-        (c.work.ensures c.args.given.now.events.now c.args.given.now.measured))
-        ∙ c.if-exceeds.false),
+    at_most _ _ _ _ c.exceeds.ensures (c.work.ensures _ c.args.given.now.measured)
+        c.if-exceeds.false,
     subst (λ (given : Handed). IsReuseWithin c.args.options.now given c.args.limits.work)
         c.in_ok-checked.ensures.ok (λ document flat. ltb-false _ _
         (sym (c.in_ok-is_reuse_over.ensures document flat) ∙ c.if-branch.false)),

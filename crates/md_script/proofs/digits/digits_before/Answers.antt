@@ -2,7 +2,7 @@
 -- more is a step. By itself the search does no induction over the digits.
 use Rattle.std.proofs.Common.{◌+◌, ◌*◌, ◌∙◌, ap, arith}
 use Rattle.md_script.proofs.NumberLemmas.{value_few, value_more, digits_more}
-use Rattle.md_script.proofs.CommonLemmas.{number_read}
+use Rattle.md_script.proofs.PlainLemmas.{number_read}
 use Rattle.md_script.proofs.digits.digits_before.Goals as goal
 
 pub returns-then-digit-gt9 : goal.returns-then-digit-gt9

@@ -1,7 +1,7 @@
 -- Where a byte is no digit there is no number; so few digits write less than 10^9, which fits; one
 -- more is a step. By itself the search does no induction over the digits.
 use Rattle.std.proofs.Common.{◌+◌, ◌*◌, sym, ◌∙◌, ap, arith}
-use Rattle.md_script.proofs.NumberLemmas.{value_small, value_more, digits_more, number_none}
+use Rattle.md_script.proofs.NumberLemmas.{value_few, value_more, digits_more, number_none}
 use Rattle.md_script.proofs.number.read_number.Goals as goal
 
 pub returns-then-not-is_ascii_digit : goal.returns-then-not-is_ascii_digit
@@ -12,15 +12,15 @@ returns-then-not-is_ascii_digit c =
 pub overflow_mul-number : goal.overflow_mul-number
 overflow_mul-number c =
     let small =
-    value_small c.args.digits.now c.loop-digit.digit-index c.args.most c.loop-digit.invariant.digits
-    (omega arith) (omega arith) (omega arith) in
+    value_few c.args.digits.now c.loop-digit.digit-index c.loop-digit.invariant.digits
+    (omega arith) (omega arith) in
     omega (arith, small, c.loop-digit.invariant.value)
 
 pub overflow_add-number : goal.overflow_add-number
 overflow_add-number c =
     let small =
-    value_small c.args.digits.now c.loop-digit.digit-index c.args.most c.loop-digit.invariant.digits
-    (omega arith) (omega arith) (omega arith) in
+    value_few c.args.digits.now c.loop-digit.digit-index c.loop-digit.invariant.digits
+    (omega arith) (omega arith) in
     omega (
       arith,
       small,

@@ -1,17 +1,15 @@
 -- A valid line is one step of progress; the line that ends the script, an invalid one or the
 -- input's end decides the result. The search alone doesn't derive the meaning of all lines from the
 -- last one.
-use Rattle.std.proofs.Common.{rules, ◌≡◌, ℕ, ◌+◌, ◌++◌, ◌∷◌, [], List, true, cond, refl, sym, ◌∙◌}
-use Rattle.std.proofs.Common.{subst, arith, length, option_to_list, is_some}
+use Rattle.std.proofs.Common.{rules, ◌≡◌, ℕ, ◌+◌, List, refl, sym, ◌∙◌}
+use Rattle.std.proofs.Common.{subst, arith, length}
 use Rattle.std.specs.Borrow.{Bor}
-use Rattle.std.proofs.lemmas.List.{length-append, length-map}
-use Rattle.md_base.specs.declared.event.Event.{Event}
-use Rattle.md_script.specs.Line.{event_of}
+use Rattle.std.proofs.lemmas.List.{length-map}
 use Rattle.md_script.specs.Setting.{texts_of, HasOptions}
 use Rattle.md_script.specs.Script.{Explains}
 use Rattle.md_script.specs.declared.error.RunError.TheVariants.{Line}
-use Rattle.md_script.proofs.ScriptLemmas.{Progress, takes, line_more, counted_more, plain_more}
-use Rattle.md_script.proofs.ScriptLemmas.{script_ends_at, line_stops, input_stops}
+use Rattle.md_script.proofs.ScriptLemmas.{line_more, plain_more, script_ends_at, line_stops}
+use Rattle.md_script.proofs.ScriptLemmas.{input_stops}
 use Rattle.md_script.proofs.script.read_script.Goals as goal
 
 pub returns-then-is_end-clause-ok : goal.returns-then-is_end-clause-ok
@@ -54,50 +52,22 @@ returns-in_default-following-clause-err c =
 
 pub lines-preserved-in-Some : goal.lines-preserved-in-Some
 lines-preserved-in-Some c =
-    let events : List Event = c.lines.events.items in
-    let settings : List (List ℕ) = texts_of c.lines.settings.items in
-    let more =
-    plain_more c.lines.invariant c.in-Some.event c.in-Some.following.now c.in-Some.ensures in
-    subst (λ es. Progress c.args.input.now (length es + length settings) es settings
-    c.in-Some.following.now)
-    (sym c.in_ok-keep_event.ensures)
-    (subst (λ n. Progress c.args.input.now n (events ++ c.in-Some.event ∷ []) settings
-    c.in-Some.following.now) (omega (arith, length-append events (c.in-Some.event ∷ []))) more)
+    rw c.in_ok-keep_event.ensures (plain_more c.lines.invariant c.in-Some.event
+    c.in-Some.following.now c.in-Some.ensures)
 
 pub lines-preserved-in-Some-read_plain_line : goal.lines-preserved-in-Some-read_plain_line
 lines-preserved-in-Some-read_plain_line c =
     let read = c.in-Some-read_plain_line in
-    let events : List Event = c.lines.events.items in
-    let settings : List (List ℕ) = texts_of c.lines.settings.items in
-    let more = plain_more c.lines.invariant read.event read.following.now read.ensures in
-    subst (λ es. Progress c.args.input.now (length es + length settings) es
-    settings read.following.now)
-    (sym c.in_ok-keep_event-2.ensures)
-    (subst (λ n. Progress c.args.input.now n (events ++ read.event ∷ []) settings
-    read.following.now) (omega (arith, length-append events (read.event ∷ []))) more)
+    rw c.in_ok-keep_event-2.ensures
+    (plain_more c.lines.invariant read.event read.following.now read.ensures)
 
 pub lines-preserved : goal.lines-preserved
 lines-preserved c =
-    let line = c.first_line.result.0.now in
-    let taken : takes (texts_of c.lines.settings.items) line ≡ true =
-    sym c.in_ok-take_line.ensures.taken ∙ c.if-not-branch.false in
-    let more = line_more c.lines.invariant line c.in-Some-following.following.now
+    rw (c.in_ok-take_line.ensures.events, c.in_ok-take_line.ensures.settings c.if-not-branch.false)
+    (line_more c.lines.invariant c.first_line.result.0.now c.in-Some-following.following.now
     (rw c.in-Some-following.is at c.first_line.ensures.lines)
-    (rw c.in-Some-following.is at c.first_line.ensures.len) taken in
-    let events : List Event = c.lines.events.items in
-    let settings : List (List ℕ) = texts_of c.lines.settings.items in
-    let left = c.in-Some-following.following.now in
-    let said = event_of line in
-    subst (λ es. Progress c.args.input.now
-    (length es + length (texts_of c.take_line.new.settings.items)) es
-    (texts_of c.take_line.new.settings.items) left)
-    (sym c.in_ok-take_line.ensures.events)
-    (subst (λ kept. Progress c.args.input.now (length (events ++ option_to_list said) + length kept)
-    (events ++ option_to_list said) kept left)
-    (sym (c.in_ok-take_line.ensures.settings c.if-not-branch.false))
-    (subst (λ n. Progress c.args.input.now n (events ++ option_to_list said)
-    (settings ++ cond (is_some said) [] (line ∷ [])) left)
-    (counted_more events settings line said) more))
+    (rw c.in-Some-following.is at c.first_line.ensures.len)
+    (sym c.in_ok-take_line.ensures.taken ∙ c.if-not-branch.false))
 
 -- The one search that proves this: it refuses a mutant in a second.
 pub lines-init : goal.lines-init
