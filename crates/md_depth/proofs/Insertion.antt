@@ -1,19 +1,14 @@
 -- A text inserted before an end tag of another one opens at most as many elements as it does alone,
 -- in addition to those open there.
-use Rattle.std.proofs.Common.{◌≡◌, ℕ, ◌+◌, ◌-◌, ◌≤◌, zero, suc, max}
+use Rattle.std.proofs.Common.{◌≡◌, ℕ, ◌+◌, ◌-◌, ◌≤◌}
 use Rattle.std.proofs.Common.{List, [], ◌∷◌, ◌++◌, refl, ap, sym, ◌∙◌, subst, arith}
 use Rattle.std.proofs.Math.Nat.{le_trans}
-use Rattle.md_depth.proofs.Machine.{Spot, Out, Begun, OfB, OfH, Bad, State, at, lower, to, Action}
-use Rattle.md_depth.proofs.Machine.{Open, Void, Close, act, action, step, run, run-append, Leads}
-
-lower-less : (n : ℕ) → lower n ≤ n
-lower-less zero = omega arith
-lower-less (suc n) = omega arith
+use Rattle.md_depth.proofs.Machine.{Spot, Out, Begun, OfB, OfH, Bad, State, at, to, Action}
+use Rattle.md_depth.proofs.Machine.{act, action, step, run, run-append, Leads}
 
 -- no fewer are open at most than before
 act-top : (action : Action) (s : State) → s.top ≤ (act action s).top
-act-top Close s = omega arith
-act-top _ s = omega arith
+act-top action s = grind arith
 
 top-grows : (s : State) (x : List ℕ) → s.top ≤ (run s x).top
 top-grows s [] = omega arith
@@ -23,8 +18,7 @@ top-grows s (byte ∷ x) =
 -- at most as many are open as before
 act-below : (action : Action) (s : State) → s.level ≤ s.top →
     (act action s).level ≤ (act action s).top
-act-below Close s low = le_trans (lower-less s.level) low
-act-below _ s low = omega arith
+act-below action s low = grind arith
 
 below-top : (s : State) (x : List ℕ) → s.level ≤ s.top → (run s x).level ≤ (run s x).top
 below-top s [] low = low
@@ -41,13 +35,7 @@ raise t s = record { spot = s.spot; level = s.level; top = t }
 
 act-raised : (t : ℕ) (action : Action) (s : State) → (act action s).top ≤ t →
     act action (raise t s) ≡ raise t (act action s)
-act-raised t Open s few =
-    let top : max t (suc s.level) ≡ t = omega arith in
-    ap (λ top. at (suc s.level) top) top
-act-raised t Void s few =
-    let top : max t (suc s.level) ≡ t = omega arith in
-    ap (λ top. at s.level top) top
-act-raised t _ s few = refl
+act-raised t action s few = grind arith
 
 run-raised : (t : ℕ) (s : State) (x : List ℕ) → (run s x).top ≤ t →
     run (raise t s) x ≡ raise t (run s x)
@@ -86,29 +74,22 @@ leads-put n k y w z f g = record {
       let whole : run here (60 ∷ z) ≡ begun =
       sym (run-append begun y (60 ∷ z)) ∙ f.leads l low room in
       let out : here.spot ≡ Out = begins-out here z (ap (λ s. s.spot) whole) in
+      let all : (run here (60 ∷ z)).top ≡ low = ap (λ s. s.top) whole in
       let most : here.top ≡ low =
-      same-top low here.top (run here (60 ∷ z)).top (top-grows begun y) (top-grows here (60 ∷ z))
-      (ap (λ s. s.top) whole) in
-      let level : here.level ≤ low =
-      subst (λ top. here.level ≤ top) most (below-top begun y (omega arith)) in
+      omega (arith, top-grows begun y, top-grows here (60 ∷ z), all) in
+      let level : here.level ≤ low = omega (arith, below-top begun y (omega arith), most) in
       let is : here ≡ at here.level low = state here out most in
       let first : run (at (l + 0) t) y ≡ at here.level t =
       run-raised t begun y (omega arith) ∙ ap (raise t) is in
-      let none : here.level + 0 ≡ here.level = omega arith in
       let second : run (at here.level t) w ≡ at here.level t =
-      ap (λ level. run (at level t) w) (sym none)
-      ∙ g.leads here.level t (omega (arith, level, few)) ∙ ap (λ level. at level t) none in
+      grind (arith, g.leads here.level t (omega arith)) in
       let third : run (at here.level t) (60 ∷ z) ≡ at (l + 0) t =
       ap (λ s. run s (60 ∷ z)) (sym (ap (raise t) is))
-      ∙ run-raised t here (60 ∷ z) (omega (arith, ap (λ s. s.top) whole, few))
-      ∙ ap (raise t) whole in
+      ∙ run-raised t here (60 ∷ z) (omega arith) ∙ ap (raise t) whole in
       run-append (at (l + 0) t) y (w ++ (60 ∷ z)) ∙ ap (λ s. run s (w ++ (60 ∷ z))) first
       ∙ run-append (at here.level t) w (60 ∷ z) ∙ ap (λ s. run s (60 ∷ z)) second ∙ third;
 }
   where
-    same-top : (low top all : ℕ) → low ≤ top → top ≤ all → all ≡ low → top ≡ low
-    same-top low top all a b c = omega (arith, a, b, c)
-
     state : (s : State) → s.spot ≡ Out → {top : ℕ} → s.top ≡ top → s ≡ at s.level top
     state s out same =
         ap (λ spot. record { spot = spot; level = s.level; top = s.top }) out

@@ -2,7 +2,7 @@
 -- and a void tag with `<br`, `<hr` or `<i`. No other part of a tag has a `<`.
 use Rattle.std.specs.List.{list_all}
 use Rattle.std.proofs.Common.{◌≡◌, ℕ, ◌+◌, ◌≤◌, ◌==◌, zero, suc, max, Bool, true, false, not, cond}
-use Rattle.std.proofs.Common.{List, [], ◌∷◌, ◌++◌, refl, ap, sym, ◌∙◌, arith}
+use Rattle.std.proofs.Common.{List, [], ◌∷◌, ◌++◌, refl, ap, ◌∙◌, arith}
 use Rattle.std.proofs.lemmas.Bool.{and_parts}
 use Rattle.md_base.proofs.Lies.{lie}
 use Rattle.md_text.proofs.HtmlNames.{no_angle}
@@ -107,38 +107,21 @@ leads-either false f g = g
 -- a start tag, as each computes
 pub leads-open : {a n : ℕ} (x : List ℕ) →
     ((l t : ℕ) → run (at l t) x ≡ at (suc l) (max t (suc l))) → suc a ≤ n → Leads a (suc a) n x
-leads-open {a} x computes fits = record {
-  leads = λ l t few.
-      let level : suc (l + a) ≡ l + suc a = omega arith in
-      let top : max t (suc (l + a)) ≡ t = omega arith in
-      computes (l + a) t ∙ ap (λ level. at level (max t (suc (l + a)))) level
-      ∙ ap (λ top. at (l + suc a) top) top;
-}
+leads-open {a} x computes fits =
+    record { leads = λ l t few. grind (arith, computes (l + a) t) }
 
 -- an end tag
 pub leads-close : {a n : ℕ} (x : List ℕ) → ((l t : ℕ) → run (at (suc l) t) x ≡ at l t) →
     Leads (suc a) a n x
-leads-close {a} x computes = record {
-  leads = λ l t few.
-      let level : l + suc a ≡ suc (l + a) = omega arith in
-      ap (λ level. run (at level t) x) level ∙ computes (l + a) t;
-}
+leads-close {a} x computes = record { leads = λ l t few. grind (arith, computes (l + a) t) }
 
 -- a void tag
 pub leads-void : {a n : ℕ} (x : List ℕ) →
     ((l t : ℕ) → run (at l t) x ≡ at l (max t (suc l))) → suc a ≤ n → Leads a a n x
-leads-void {a} x computes fits = record {
-  leads = λ l t few.
-      let top : max t (suc (l + a)) ≡ t = omega arith in
-      computes (l + a) t ∙ ap (λ top. at (l + a) top) top;
-}
+leads-void {a} x computes fits =
+    record { leads = λ l t few. grind (arith, computes (l + a) t) }
 
 -- a text that keeps what is open, where some are open
 pub leads-kept : {a m n : ℕ} {x : List ℕ} → Leads 0 0 m x → a + m ≤ n → Leads a a n x
-leads-kept {a} {m} {n} {x} f fits = record {
-  leads = λ l t few.
-      let none : (l + a) + 0 ≡ l + a = omega arith in
-      let room : (l + a) + m ≤ t = omega arith in
-      ap (λ level. run (at level t) x) (sym none) ∙ f.leads (l + a) t room
-      ∙ ap (λ level. at level t) none;
-}
+leads-kept {a} {m} {n} {x} f fits =
+    record { leads = λ l t few. grind (arith, f.leads (l + a) t (omega arith)) }

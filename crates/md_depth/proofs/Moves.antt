@@ -1,7 +1,7 @@
 -- How many elements pieces leave open, wherever they are laid.
 use Rattle.std.specs.List.{list_all}
 use Rattle.std.proofs.Common.{◌≡◌, ℕ, ◌+◌, ◌≤◌, suc, max, Bool, true, false, cond, List, []}
-use Rattle.std.proofs.Common.{◌∷◌, ◌++◌, refl, ap, sym, ◌∙◌, arith}
+use Rattle.std.proofs.Common.{◌∷◌, ◌++◌, refl, ap, ◌∙◌, arith}
 use Rattle.md_text.proofs.HtmlNames.{no_angle, escaped-angle}
 use Rattle.md_meaning.specs.Meaning.Layout.{Piece, Text, Needed, Forced, begins_line, laid_after}
 use Rattle.md_meaning.specs.Meaning.Layout.{layout, on_own_line}
@@ -74,11 +74,7 @@ adds-escaped pieces adds = adds-quiet pieces (adds-weaker escaped-angle adds)
 pub more : {e : List ℕ} {a m n : ℕ} {pieces : List Piece} → a + m ≤ n → Moves e m 0 0 pieces →
     Moves e n a a pieces
 more {e} {a} {m} fits f = record {
-  moves = λ s text l t few before.
-      let nothing : (l + a) + 0 ≡ l + a = omega arith in
-      let room : (l + a) + m ≤ t = omega arith in
-      f.moves s text (l + a) t room (before ∙ ap (λ level. at level t) (sym nothing))
-      ∙ ap (λ level. at level t) nothing;
+  moves = λ s text l t few before. grind (arith, f.moves s text (l + a) t (omega arith));
 }
 
 -- the text of pieces that are laid by themselves

@@ -1,14 +1,13 @@
 -- What a node prints, and what is kept of it, is no longer than what it may print, what it uses
 -- and what its children may.
-use Rattle.std.proofs.Common.{◌≡◌, ℕ, ◌+◌, ◌*◌, ◌≤◌, Bool, true, false, ap, arith, length, refl}
+use Rattle.std.proofs.Common.{◌≡◌, ℕ, ◌+◌, ◌*◌, ◌≤◌, Bool, true, false, arith, length}
 use Rattle.std.proofs.Common.{unwrap_or, lit<}
 use Rattle.std.specs.Prelude.{if◌then◌else◌, is_some}
 use Rattle.std.specs.Fmt.{decimal}
 use Rattle.std.proofs.lemmas.Fmt.{length-decimal-le}
 use Rattle.md_base.specs.declared.event.Name.{Name}
 use Rattle.md_base.specs.declared.event.Name.TheVariants as name_variants
-use name_variants.{HeadingSetextUnderlineSequence, Link, Image, DefinitionDestinationString}
-use name_variants.{DefinitionTitleString, ResourceDestinationString, ResourceTitleString}
+use name_variants.{Link}
 use Rattle.md_base.specs.NameTests.{is_transparent}
 use Rattle.md_tree.specs.declared.mention.Referral.TheVariants as referral
 use Rattle.md_tree.specs.Rules.{target_of}
@@ -64,16 +63,6 @@ pub node-short : (context : Context) (at : At) (waits : Bool) (content : Content
     (inner : Outcome) (name : Name) (spent : ℕ) →
     Known context at waits content inner name spent →
     IsNodeShort context at waits inner name spent
-node-short context at waits content inner HeadingSetextUnderlineSequence spent known =
-    omega (arith, notes-append, known, ap (λ w. held w at.before.heading) (known.under refl))
-node-short context at waits content inner DefinitionDestinationString spent known =
-    omega (arith, notes-append, known, known.strings refl)
-node-short context at waits content inner ResourceDestinationString spent known =
-    omega (arith, notes-append, known, known.strings refl)
-node-short context at waits content inner DefinitionTitleString spent known =
-    omega (arith, notes-append, known, known.strings refl)
-node-short context at waits content inner ResourceTitleString spent known =
-    omega (arith, notes-append, known, known.strings refl)
 node-short context at waits content inner Link spent known =
     omega (
       arith,
@@ -81,12 +70,12 @@ node-short context at waits content inner Link spent known =
       known,
       media-leads context at at.found.resource known.sound known.resource,
     )
-node-short context at waits content inner Image spent known =
-    omega (
+node-short context at waits content inner _ spent known =
+    grind (
       arith,
       notes-append,
+      rank-short,
+      target-kept at.found,
+      media-leads context at at.found.resource,
       known,
-      media-leads context at at.found.resource known.sound known.resource,
     )
-node-short context at waits content inner _ spent known =
-    omega (arith, notes-append, rank-short, target-kept at.found, known)

@@ -1,6 +1,6 @@
 -- The rows of a table: the columns are known before each but the one of its head.
 use Rattle.std.proofs.Common.{◌≡◌, ◌⊎◌, inl, inr, ℕ, ◌+◌, ◌*◌, ◌≤◌, Bool, true, List, []}
-use Rattle.std.proofs.Common.{◌∷◌, ◌++◌, length, refl, sym, ap, ◌∙◌, subst, arith, append_assoc}
+use Rattle.std.proofs.Common.{◌∷◌, ◌++◌, length, refl, ap, ◌∙◌, subst, arith, append_assoc}
 use Rattle.std.proofs.Common.{append-nil, Option}
 use Rattle.std.specs.Prelude.{if◌then◌else◌}
 use Rattle.std.specs.List.{list_all}
@@ -49,8 +49,7 @@ next-rows name children rest fits =
 
 all-parts : (test : Symbol → Bool) (xs ys : List Symbol) → list_all test (xs ++ ys) ≡ true →
     (list_all test xs ≡ true) × (list_all test ys ≡ true)
-all-parts test xs ys h =
-    and_parts (list_all test xs) (list_all test ys) (sym (list_all-append test xs ys) ∙ h)
+all-parts test xs ys h = grind (arith, list_all-append)
 
 -- ---- the rows of a head
 head-rows : (columns : List AlignKind) (forest : Forest) (around : Role) (before : Option Symbol) →
