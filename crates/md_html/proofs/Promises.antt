@@ -51,11 +51,11 @@ promises options given text read few meant =
       one_reading = one;
       safe_links = links;
       safe_images = images;
-      contained = λ keeps.
-          rw same (meaning-contained given.bytes given.names options read.0 read.1.grammatical keeps);
+      contained = λ keeps. rw same
+          (meaning-contained given.bytes given.names options read.0 read.1.grammatical keeps);
       tree = λ document flat unnested keeps.
-          text-built text (rw (meant document flat) (meaning-unnested given.bytes given.names options
-          document (grammatical-there given document read flat) keeps unnested));
+          text-built text (rw (meant document flat) (meaning-unnested given.bytes given.names
+          options document (grammatical-there given document read flat) keeps unnested));
       tokenized = λ keeps. read-tokenized any_attribute text (one keeps);
       safe_link_tokens = λ keeps. link-tokens text (links keeps);
       safe_image_tokens = λ keeps. image-tokens text (images keeps);

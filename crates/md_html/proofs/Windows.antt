@@ -36,7 +36,8 @@ module _ {A B C : Type 0} (f : List A → List B → C) (xs : List A) (ys : List
       ∙ ap (λ zs. f (x ∷ window (suc i) to xs) zs) (window-first ys i to y lt there)
 
   pub windows-drop : (n next : ℕ) → next ≡ i + n →
-      f (drop n (window i to xs)) (drop n (window i to ys)) ≡ f (window next to xs) (window next to ys)
+      f (drop n (window i to xs)) (drop n (window i to ys))
+      ≡ f (window next to xs) (window next to ys)
   windows-drop n next e =
       ap (λ zs. f zs (drop n (window i to ys))) (drop-drop n i (take to xs))
       ∙ ap (λ zs. f (drop (i + n) (take to xs)) zs) (drop-drop n i (take to ys))

@@ -10,8 +10,8 @@ pub mod Reuse
 pub mod Lengths
 pub mod Within
 pub mod SafeWithin
--- The events between two indices, the steps at them, the text of all, and the counts of a document's
--- reuse: only contracts of private functions cite these.
+-- The events between two indices, the steps at them, the text of all, and what is counted of a
+-- document's reuse: only contracts of private functions cite these.
 pub mod Windows
 pub mod Fits
 pub mod Stepping

@@ -147,6 +147,11 @@ abbrev lines_after : Option (Bor (List ℕ)) → List (List ℕ)
 lines_after None = []
 lines_after (Some f) = lines_of f.now
 
+-- an input begins with a line, and this follows
+abbrev Begins : List ℕ → List ℕ → Option (Bor (List ℕ)) → Type 0
+Begins input line following = MatchOption following (lines_of input ≡ line ∷ [])
+    (λ f. lines_of input ≡ line ∷ lines_of f.now)
+
 module _ {input rest : List ℕ} {events : List Event} {settings : List (List ℕ)}
     (known : Progress input events settings rest) where
   pub line_more : (line following : List ℕ) →
@@ -198,14 +203,15 @@ module _ {input rest : List ℕ} {events : List Event} {settings : List (List �
     };
     says = known.says;
     sets =
-        options_by_marked known.seen options (subst (λ kept. HasOptions kept options) known.sets has);
+        options_by_marked known.seen options
+        (subst (λ kept. HasOptions kept options) known.sets has);
     rest = joined;
   }
 
   -- the document after the line, or none
   pub script_ends_at : (line : List ℕ) (following : Option (Bor (List ℕ)))
       (document empty : Bor (List ℕ)) (options : CompileOptions) →
-      MatchOption following (lines_of rest ≡ line ∷ []) (λ f. lines_of rest ≡ line ∷ lines_of f.now) →
+      Begins rest line following →
       bytes_eq line end_line ≡ true → document ≡ unwrap_or following empty → empty.now ≡ [] →
       HasOptions settings options → StandsFor input events document.now options
   script_ends_at line None document empty options cut ends is nothing has =
@@ -215,7 +221,7 @@ module _ {input rest : List ℕ} {events : List Event} {settings : List (List �
       ∙ sym (join_with_byte-slice_split 10 f.now)) has
 
   pub line_stops : (line : List ℕ) (following : Option (Bor (List ℕ))) →
-      MatchOption following (lines_of rest ≡ line ∷ []) (λ f. lines_of rest ≡ line ∷ lines_of f.now) →
+      Begins rest line following →
       bytes_eq line end_line ≡ false → takes settings line ≡ false →
       Explains input (Line (length events + length settings + 1))
   line_stops line following cut other nothing = explained (record {
@@ -231,9 +237,7 @@ module _ {input rest : List ℕ} {events : List Event} {settings : List (List �
     counted = ap (λ n. n + 1) known.counted;
   })
     where
-      cut_after : (following : Option (Bor (List ℕ))) →
-          MatchOption following (lines_of rest ≡ line ∷ [])
-          (λ f. lines_of rest ≡ line ∷ lines_of f.now) →
+      cut_after : (following : Option (Bor (List ℕ))) → Begins rest line following →
           lines_of rest ≡ line ∷ lines_after following
       cut_after None cut = cut
       cut_after (Some f) cut = cut

@@ -15,4 +15,5 @@ pub returns-clause-err : goal.returns-clause-err
 returns-clause-err c =
     let read = read_as _ _ _ _ _ _ _ _ c.as_slice.ensures.value c.as_slice-2.ensures.value
     c.in_ok-events.ensures.ok c.in_ok-options.ensures.ok c.in_ok-names.ensures.ok in
-    refusal_given _ c.args.given.bytes.now _ _ _ _ _ read c.compile_read.result c.compile_read.ensures.err
+    refusal_given _ c.args.given.bytes.now _ _ _ _ _ read c.compile_read.result
+    c.compile_read.ensures.err

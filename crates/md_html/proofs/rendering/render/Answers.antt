@@ -14,7 +14,8 @@ print-requires c =
     record {
       supplied = supplied _ c.names-names.ensures (λ document flat.
           c.as_slice.ensures.value ∙ c.in_ok-definitions.ensures _ document
-          (alone-supplied _ c.names-names.ensures refl) flat) c.ending_of-ending.ensures.grammatical;
+          (alone-supplied _ c.names-names.ensures refl) flat)
+          c.ending_of-ending.ensures.grammatical;
     }
 
 pub returns : goal.returns
@@ -22,7 +23,8 @@ returns c =
     record {
       meaning = IfOk-weaker c.print.result _ _ (λ text printed. printed-meant _
           c.names-names.ensures (λ document flat. c.as_slice.ensures.value
-          ∙ c.in_ok-definitions.ensures _ document (alone-supplied _ c.names-names.ensures refl) flat)
+          ∙ c.in_ok-definitions.ensures _ document (alone-supplied _ c.names-names.ensures refl)
+          flat)
           c.ending_of-ending.ensures.grammatical c.ending_of-ending.ensures.ending
           c.steps_print_what_is_meant.ensures (string_bytes text) printed) c.print.ensures;
     }

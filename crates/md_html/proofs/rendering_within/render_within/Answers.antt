@@ -15,7 +15,8 @@ print_within-requires c =
     record {
       supplied = supplied _ c.names-names.ensures (λ document flat.
           c.as_slice.ensures.value ∙ c.in_ok-definitions.ensures _ document
-          (alone-supplied _ c.names-names.ensures refl) flat) c.ending_of-ending.ensures.grammatical;
+          (alone-supplied _ c.names-names.ensures refl) flat)
+          c.ending_of-ending.ensures.grammatical;
     }
 
 pub returns : goal.returns
@@ -23,13 +24,15 @@ returns c =
     IfOk-weaker c.print_within.result _ _ (λ answer printed. record {
       text = IfSome_then answer printed.text (λ text is. printed-meant _
           c.names-names.ensures (λ document flat. c.as_slice.ensures.value
-          ∙ c.in_ok-definitions.ensures _ document (alone-supplied _ c.names-names.ensures refl) flat)
+          ∙ c.in_ok-definitions.ensures _ document (alone-supplied _ c.names-names.ensures refl)
+          flat)
           c.ending_of-ending.ensures.grammatical c.ending_of-ending.ensures.ending
           c.steps_print_what_is_meant.ensures (string_bytes text) is);
       within = printed.within;
       too_long = λ none. over-longer _
           c.names-names.ensures (λ document flat. c.as_slice.ensures.value
-          ∙ c.in_ok-definitions.ensures _ document (alone-supplied _ c.names-names.ensures refl) flat)
+          ∙ c.in_ok-definitions.ensures _ document (alone-supplied _ c.names-names.ensures refl)
+          flat)
           c.ending_of-ending.ensures.grammatical c.ending_of-ending.ensures.ending
           c.steps_print_what_is_meant.ensures c.args.limit (printed.too_long none);
     }) c.print_within.ensures

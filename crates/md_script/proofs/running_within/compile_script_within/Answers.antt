@@ -9,7 +9,8 @@ pub returns-in_err-compile_within-clause-err : goal.returns-in_err-compile_withi
 returns-in_err-compile_within-clause-err c =
     let why = c.in_err-compile_within.field-0.0 in
     let script = c.args.script.now in
-    told (λ es error. ExplainsEventsWithin es script.document.now script.options c.args.limits error)
+    let bytes = script.document.now in
+    told (λ es error. ExplainsEventsWithin es bytes script.options c.args.limits error)
     run_within_error_of c.from_residual.result why c.as_slice.result.now _ c.as_slice.ensures.value
-    c.from_residual.ensures.1 (refused_within c.as_slice.result.now script.document.now
-    script.options c.args.limits why c.in_err-compile_within.ensures.refused)
+    c.from_residual.ensures.1 (refused_within c.as_slice.result.now bytes script.options
+    c.args.limits why c.in_err-compile_within.ensures.refused)
