@@ -26,7 +26,8 @@ use Rattle.md_length.specs.Uses.{weight, number_length}
 use Rattle.md_length.proofs.Pieces.{size, size-append, sizes, layout-short}
 use Rattle.md_length.proofs.Places.{serialized-short}
 use Rattle.md_length.proofs.Texts.{encoded-short}
-use Rattle.md_length.proofs.PrintedTexts.{line_ending-short, escaped-short, raw-short, reference-short}
+use Rattle.md_length.proofs.PrintedTexts.{line_ending-short, escaped-short, raw-short}
+use Rattle.md_length.proofs.PrintedTexts.{reference-short}
 use Rattle.md_length.proofs.PrintedTexts.{anchor-short, picture-short, autolink-short, number-short}
 use Rattle.md_length.proofs.PrintedTexts.{rank-one, code-short, cell-short, filled-short}
 
