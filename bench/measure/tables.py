@@ -3,13 +3,13 @@
 
     bench/measure/tables.py [--write] [--jobs TITLE=PROGRAM]... [NAME..]
 
-It prints the tables, and with --write writes each into the page that has a line `<!-- NAME:
-bench/measure/tables.py -->`, after that line; with names it makes only these. It requires valgrind,
-`mdevents` and `md_bench` built in their folders, clients/build for the events of real Markdown, and
-what clients/speed requires; for what is beside the original BIVDRAZO_ORIGINAL, as original.py says.
---jobs names the builds of md_bench that the table of jobs compares, by default this checkout's
-alone; from the second on each has its ratio to the first. Times are minimums of some runs: let
-nothing else run. All of it takes some 20 minutes.
+It prints the tables, that of renderers after all that clients/speed prints, and with --write writes
+each into the page that has a line `<!-- NAME: bench/measure/tables.py -->`, after that line; with
+names it makes only these. It requires valgrind, `mdevents` and `md_bench` built in their folders,
+clients/build for the events of real Markdown, and what clients/speed requires; for what is beside
+the original BIVDRAZO_ORIGINAL, as original.py says. --jobs names the builds of md_bench that the
+table of jobs compares, by default this checkout's alone; from the second on each has its ratio to
+the first. Times are minimums of some runs: let nothing else run. All of it takes some 20 minutes.
 """
 
 import argparse
@@ -58,8 +58,7 @@ def table(head, rows):
 def renderers():
     """What renderers take per byte, and per megabyte, for documents and for comments."""
     lines = printed(ROOT / "clients/speed", "--bytes", 1_500_000, "--comments", 20_000)
-    print("".join(f"{line}\n" for line in lines if line.startswith("***")
-                  or line.endswith(" bytes")), end="")
+    print("\n".join(lines))
     start = next(at for at, line in enumerate(lines) if line.startswith("Comments:"))
     sides = [{row[0]: row[1:4] for row in cells_of(part) if len(row) == 5}
              for part in (lines[:start], lines[start:])]
