@@ -16,6 +16,5 @@ pub mod Windows
 pub mod Fits
 pub mod Stepping
 pub mod Printed
-pub mod Reused
 -- Only the call for `md_markdown` cites this.
 pub mod MeasuredEvents

@@ -2,3 +2,5 @@
 pub mod Measuring
 pub mod Nesting
 pub mod Summary
+pub mod Counting
+pub mod Referring

@@ -3,3 +3,4 @@
 pub mod Counting
 pub mod Nesting
 pub mod Measured
+pub mod Referred

@@ -8,10 +8,10 @@ mod links;
 mod measure;
 mod parts;
 mod read;
+mod referred;
 
-pub use covered::Progress;
 pub use levels::Levels;
 pub use links::Links;
 pub use measure::Measure;
-pub use parts::{Parts, is_call};
-pub use read::is_read;
+pub use parts::Parts;
+pub use referred::{call_lengths, referred_of};

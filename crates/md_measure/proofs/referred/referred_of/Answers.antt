@@ -2,8 +2,8 @@
 use Rattle.std.proofs.Common.{◌≡◌, ℕ, List, length, rules, ap, sym, ◌∙◌}
 use Rattle.std.proofs.lemmas.List.{nil_from_length}
 use Rattle.md_measure.specs.Counting.{capped}
-use Rattle.md_html.proofs.Reusing.{none-referred}
-use Rattle.md_html.proofs.reuse.count_referred.Goals as goal
+use Rattle.md_measure.proofs.Referring.{none-referred}
+use Rattle.md_measure.proofs.referred.referred_of.Goals as goal
 
 pub returns-then-is_empty : goal.returns-then-is_empty
 returns-then-is_empty c = λ document flat.

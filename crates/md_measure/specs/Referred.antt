@@ -1,4 +1,4 @@
--- What is counted of a document's reuse. Only contracts of private functions cite these.
+-- What is counted of a document. No contract of a call for users cites these.
 use Rattle.std.specs.Prelude.{◌≡◌, ℕ, List, map}
 use Rattle.md_base.specs.Tree.{Forest, flatten}
 use Rattle.md_tree.specs.Grammar.{Handed}

@@ -4,12 +4,12 @@ use Rattle.std.specs.Prelude.{drop}
 use Rattle.std.proofs.lemmas.List.{nil_from_length}
 use Rattle.md_tree.specs.Mentions.{mentions_of}
 use Rattle.md_tree.specs.Numbers.{definition_for}
-use Rattle.md_html.specs.Reuse.{definition_lengths, resolved_lengths, length_at, referred}
+use Rattle.md_length.specs.Reuse.{definition_lengths, resolved_lengths, length_at, referred}
 use Rattle.md_measure.specs.Counting.{capped}
-use Rattle.md_html.proofs.Counting.{all-added}
-use Rattle.md_html.proofs.Reusing.{split-there, mention-at, led-step, capped-more}
-use Rattle.md_html.proofs.Reusing.{led-all}
-use Rattle.md_html.proofs.reuse.referred_length.Goals as goal
+use Rattle.md_measure.proofs.Counting.{all-added}
+use Rattle.md_measure.proofs.Referring.{split-there, mention-at, led-step, capped-more}
+use Rattle.md_measure.proofs.Referring.{led-all}
+use Rattle.md_measure.proofs.referred.referred_length.Goals as goal
 
 pub referred_at-requires-clause-there : goal.referred_at-requires-clause-there
 referred_at-requires-clause-there c =

@@ -1,10 +1,10 @@
 -- Before each event, the lengths so far and those of the rest are the lengths of all calls; no more
 -- calls are open than events were read.
 use Rattle.std.proofs.Common.{◌≡◌, ◌+◌, ◌-◌, ◌^◌, ◌≤◌, length}
-use Rattle.md_html.specs.Work.{covered_from, covered}
-use Rattle.md_html.specs.Reuse.{is_call}
+use Rattle.md_length.specs.Work.{covered_from, covered}
+use Rattle.md_length.specs.Reuse.{is_call}
 use Rattle.md_measure.specs.Counting.{capped}
-use Rattle.md_html.proofs.reuse.call_lengths.Given as goal
+use Rattle.md_measure.proofs.referred.call_lengths.Given as goal
 
 abbrev pub invariant-loop-event : goal.invariant-loop-event
 invariant-loop-event l = record {

@@ -1,9 +1,9 @@
 -- Elsewhere no mention refers to a definition.
 use Rattle.std.proofs.Common.{ap, sym, ◌∙◌}
-use Rattle.md_html.specs.Reuse.{length_at, definition_lengths}
+use Rattle.md_length.specs.Reuse.{length_at, definition_lengths}
 use Rattle.md_measure.specs.Counting.{capped}
-use Rattle.md_html.proofs.Reusing.{none-led}
-use Rattle.md_html.proofs.reuse.referred_at.Goals as goal
+use Rattle.md_measure.proofs.Referring.{none-led}
+use Rattle.md_measure.proofs.referred.referred_at.Goals as goal
 
 pub returns-in_default : goal.returns-in_default
 returns-in_default c = λ document mention flat here.

@@ -5,7 +5,7 @@ use Rattle.std.proofs.Common.{◌∙◌}
 use Rattle.std.specs.Prelude.{if◌then◌else◌}
 use Rattle.std.proofs.Math.Nat.{min-eq_left, add-zero}
 use Rattle.md_base.specs.declared.event.Event.{Event}
-use Rattle.md_html.specs.Work.{is_definition, before_definition}
+use Rattle.md_length.specs.Work.{is_definition, before_definition}
 use Rattle.md_measure.specs.Counting.{capped}
 
 -- what is counted is all

@@ -4,10 +4,10 @@ use Rattle.std.specs.Prelude.{slice_index_or}
 use Rattle.std.proofs.lemmas.List.{take_all}
 use Rattle.md_base.specs.declared.event.Name.TheVariants.{Definition}
 use Rattle.md_tree.specs.Texts.{EntersAt}
-use Rattle.md_html.specs.Reuse.{definition_length}
+use Rattle.md_length.specs.Reuse.{definition_length}
 use Rattle.md_measure.specs.Counting.{capped}
-use Rattle.md_html.proofs.Reusing.{entered-within, lengths-capped}
-use Rattle.md_html.proofs.reuse.lengths_of.Goals as goal
+use Rattle.md_measure.proofs.Referring.{entered-within, lengths-capped}
+use Rattle.md_measure.proofs.referred.lengths_of.Goals as goal
 
 pub length_behind-requires : goal.length_behind-requires
 length_behind-requires c =

@@ -4,9 +4,9 @@ use Rattle.std.specs.Prelude.{drop}
 use Rattle.md_base.specs.Tree.{Forest, flatten}
 use Rattle.md_tree.specs.Mentions.{mentions_of}
 use Rattle.md_tree.specs.Numbers.{definition_for}
-use Rattle.md_html.specs.Reuse.{definition_lengths, resolved_lengths, referred}
+use Rattle.md_length.specs.Reuse.{definition_lengths, resolved_lengths, referred}
 use Rattle.md_measure.specs.Counting.{capped}
-use Rattle.md_html.proofs.reuse.referred_length.Given as goal
+use Rattle.md_measure.proofs.referred.referred_length.Given as goal
 
 abbrev pub invariant-loop-event : goal.invariant-loop-event
 invariant-loop-event l = record {
