@@ -152,13 +152,15 @@ def called_once(code):
 
 
 def lines_of_contracts(source):
-    """The number of lines of `requires` and `ensures`."""
-    count = depth = 0
+    """The number of lines of `requires` and `ensures`: of public functions, and of the others."""
+    counts, depth, public = {True: 0, False: 0}, 0, False
     for line in source.splitlines():
         if depth or CLAUSE.match(line):
-            count += 1
+            counts[public] += 1
             depth = max(0, depth + line.count("{") - line.count("}"))
-    return count
+        elif " fn " in f" {line}" and not line.lstrip().startswith("//"):
+            public = line.lstrip().startswith("pub fn ")
+    return counts
 
 
 def say_proofs(texts):
@@ -171,8 +173,10 @@ def say_proofs(texts):
         f"{code_of_core:,}, {specs_of_core:,}, {proofs_of_core:,}", "50,000 of proof at most")
     say("lines of proof for a line of code", f"{proofs / code:.1f}", "2.6 at most")
     calls = [source for path, source in texts.items() if path.startswith("crates/md_html/src/")]
-    say("lines of contracts in md_html, of private functions too",
-        sum(map(lines_of_contracts, calls)))
+    counts = [lines_of_contracts(source) for source in calls]
+    public, private = (sum(count[kind] for count in counts) for kind in (True, False))
+    say("lines of contracts in md_html", f"{public}, and of private functions {private}",
+        "90 in all")
     printer = [source for path, source in texts.items()
                if PRINTER.match(path) and "/src/" in path]
     say("matches on a name in the printer", sum(len(MATCH.findall(source)) for source in printer),

@@ -10,19 +10,17 @@ use Rattle.md_tree.specs.Grammar.{Handed}
 use Rattle.md_tree.specs.Indices.{IsPartnerAt}
 use Rattle.md_tree.specs.Texts.{EntersAt, ExitsAt}
 use Rattle.md_content.specs.References.{Everywhere}
-use Rattle.md_steps.specs.State.{facts_of}
 use Rattle.md_steps.specs.Run.{Noticed, noticed}
 use Rattle.md_facts.specs.NodeFacts.{IsNoticedAt}
 use Rattle.md_facts.proofs.PairedRows.{everywhere-at}
-use Rattle.md_facts.proofs.Nodes.{NodeAt, same-document, node-entered, node-exited}
+use Rattle.md_facts.proofs.Nodes.{NodeAt, entry_row, same-document, node-entered, node-exited}
+use Rattle.md_facts.proofs.Rows.{seen_of}
 
 -- what is noticed of a node
 abbrev pub noticed_in : (given : Handed) (document : Forest) (name : Name) (entry exit : ℕ) →
     NodeAt given document name entry exit → Noticed
-noticed_in given document name entry exit node = record {
-  facts = facts_of given.bytes node.last node.children node.start node.end;
-  inside = suc (length (flatten node.children));
-}
+noticed_in given document name entry exit node =
+    seen_of given.bytes node.last node.children node.start node.end
 
 pub noticed-same : (given : Handed) (document : Forest) (index : ℕ) (one other : Noticed) →
     flatten document ≡ given.events → IsNoticedAt given index one →
@@ -131,16 +129,8 @@ pub node-everywhere :
     Everywhere holds document →
     holds name node.start node.end node.children
 node-everywhere holds given document name entry exit node all =
-    everywhere-at holds document 0 true all entry (record {
-      enters = true;
-      name = name;
-      start = node.start;
-      end = node.end;
-      children = node.children;
-      last = node.last;
-      entry = entry;
-      exit = exit;
-    }) node.there
+    everywhere-at holds document true all entry
+    (entry_row name node.start node.end node.children node.last entry exit) node.there
 
 -- the node by the children that are known
 pub record Known (given : Handed) (index : ℕ) (name : Name) (children : Forest) : Type 0 where

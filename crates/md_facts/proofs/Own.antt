@@ -1,7 +1,8 @@
 -- What a document's definitions define, each from its own events.
 use Rattle.std.proofs.Common.{◌≡◌, ℕ, suc, ◌-◌, Bool, true, false, ◌&&◌, not, Some, List, [], ◌∷◌}
-use Rattle.std.proofs.Common.{◌++◌, length, take, drop, refl, sym, ap, ◌∙◌, subst, append-nil}
-use Rattle.std.proofs.Common.{arith}
+use Rattle.std.proofs.Common.{◌++◌, length, take, refl, sym, ap, ◌∙◌, subst, append-nil}
+use Rattle.std.proofs.Common.{arith, drop_at}
+use Rattle.std.proofs.Math.Seq.{take-append_seam}
 use Rattle.std.specs.Prelude.{slice_get, if◌then◌else◌}
 use Rattle.md_base.specs.declared.event.Name.{Name}
 use Rattle.md_base.specs.declared.event.Name.TheVariants.{Definition}
@@ -22,7 +23,7 @@ use Rattle.md_steps.proofs.Running.{noticed-length, run-over}
 use Rattle.md_facts.specs.NodeFacts.{IsNoticedAt}
 use Rattle.md_facts.specs.Definitions.{within, own_defined}
 use Rattle.md_facts.proofs.FoundLemmas.{grammatical-there}
-use Rattle.md_facts.proofs.Nodes.{NodeAt, node-of, row-paired}
+use Rattle.md_facts.proofs.Nodes.{NodeAt, entry_row, node-of, row-paired}
 use Rattle.md_facts.proofs.Noticed.{noticed_in, noticed-same}
 use Rattle.md_facts.proofs.Rows.{Row, row_of, rows_of}
 use Rattle.md_facts.proofs.PairedRows.{Paired}
@@ -119,40 +120,23 @@ defined-picked alone (Node name start end children rest) index outermost frees =
     by false h none same = ap (λ xs. xs ++ defined alone rest) same
 
 -- ---- what comes between the two events of a node
-drop-past : {A : Type 0} (xs ys : List A) (n : ℕ) → length xs ≡ n → drop n (xs ++ ys) ≡ ys
-drop-past [] ys n e = ap (λ m. drop m ys) (sym e)
-drop-past (x ∷ xs) ys n e =
-    ap (λ m. drop m (x ∷ (xs ++ ys))) (sym e) ∙ drop-past xs ys (length xs) refl
-
-take-own : {A : Type 0} (xs ys : List A) (n : ℕ) → n ≡ length xs → take n (xs ++ ys) ≡ xs
-take-own [] ys n e = ap (λ m. take m ys) e
-take-own (x ∷ xs) ys n e =
-    ap (λ m. take m (x ∷ (xs ++ ys))) e ∙ ap (λ zs. x ∷ zs) (take-own xs ys (length xs) refl)
-
 within-own : {A : Type 0} (before : List A) (first : A) (inner rest : List A) (index inside : ℕ) →
     length before ≡ index → inside ≡ suc (length inner) →
     within index inside ((before ++ first ∷ []) ++ (inner ++ rest)) ≡ inner
 within-own before first inner rest index inside e f =
     let less : inside - 1 ≡ length inner = omega (arith, f) in
-    ap (λ xs. take (inside - 1) xs) (drop-past (before ++ first ∷ []) (inner ++ rest) (suc index)
+    ap (λ xs. take (inside - 1) xs) (drop_at (before ++ first ∷ []) (inner ++ rest) (suc index)
     (length_one before first ∙ ap suc e))
-    ∙ take-own inner rest (inside - 1) less
+    ∙ ap (λ n. take n (inner ++ rest)) less ∙ take-append_seam inner rest
 
 -- ---- each from its own events
 own-at : (given : Handed) (document : Forest) (alone : Context)
     (name : Name) (entry exit : ℕ) (one : Noticed) (node : NodeAt given document name entry exit) →
     flatten document ≡ given.events → alone.bytes ≡ given.bytes →
     IsNoticedAt given entry one →
-    defined_at alone (record {
-      enters = true;
-      name = name;
-      start = node.start;
-      end = node.end;
-      children = node.children;
-      last = node.last;
-      entry = entry;
-      exit = exit;
-    }) ≡ own_defined alone given.events (noticed given.bytes true document) entry one
+    defined_at alone
+    (entry_row name node.start node.end node.children node.last entry exit)
+    ≡ own_defined alone given.events (noticed given.bytes true document) entry one
 own-at given document alone name entry exit one node flat same there =
     ap (λ bytes. record { identifier = identifier_of bytes node.children; target = target }) same
     ∙ ap (λ t. record { identifier = identifier_of given.bytes node.children; target = t })
@@ -213,7 +197,7 @@ own-defined given document alone index place one checked flat same got there =
     pick defines (λ (row : Row). row.entry) (defined_at alone) rows place index
     (ap (λ xs. slice_get xs place) (entries-picked document 0 true) ∙ got) in
     let row : Row = found.row in
-    let pair : Paired rows row found.at = row-paired given document flat found.at row found.got in
+    let pair : Paired rows found.at row = row-paired given document flat found.at row found.got in
     let node : NodeAt given document row.name row.entry row.exit =
     node-of given document flat row found.at pair in
     let frees = built-frees given.bytes Blocks document (grammatical-built given.bytes given.names

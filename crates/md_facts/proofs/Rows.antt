@@ -80,11 +80,15 @@ module _ {A : Type 0} (of_row : Row → A) (column : ℕ → Bool → Forest →
 abbrev pub event_of : Row → Event
 event_of row = if row.enters then entering row.name row.start else exiting row.name row.end
 
-abbrev pub noticed_of : List ℕ → Row → Noticed
-noticed_of bytes row = record {
-  facts = facts_of bytes row.last row.children row.start row.end;
-  inside = suc (length (flatten row.children));
+-- what is noticed of a node
+abbrev pub seen_of : List ℕ → Bool → Forest → Point → Point → Noticed
+seen_of bytes last children start end = record {
+  facts = facts_of bytes last children start end;
+  inside = suc (length (flatten children));
 }
+
+abbrev pub noticed_of : List ℕ → Row → Noticed
+noticed_of bytes row = seen_of bytes row.last row.children row.start row.end
 
 abbrev pub children_at : Row → Option Forest
 children_at row = if row.enters then Some row.children else None

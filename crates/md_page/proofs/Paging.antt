@@ -1,27 +1,23 @@
 -- A page: its fixed parts step by step, its title in the RCDATA state, and its body by its pieces.
-use Rattle.std.proofs.Common.{◌≡◌, ℕ, Bool, true, List, [], ◌∷◌, ◌++◌, map, refl, sym, ap₂, subst}
+use Rattle.std.proofs.Common.{◌≡◌, ℕ, Bool, true, List, [], ◌∷◌, map, refl, sym, ap₂, subst}
 use Rattle.std.proofs.Common.{codes}
 use Rattle.std.specs.List.{list_all}
 use Rattle.std.proofs.lemmas.Bool.{and_parts, and_from}
 use Rattle.md_text.specs.Encode.{encoded}
 use Rattle.md_text.specs.References.{is_escaped}
-use Rattle.md_text.specs.Html.{Attribute}
 use Rattle.md_text.specs.Safe.{is_safe_link, is_safe_image}
 use Rattle.md_text.proofs.EncodeLaws.{is_escaped-encoded}
 use Rattle.md_safe.specs.Input.{with_line_feeds}
-use Rattle.md_safe.specs.Token.{Token, Character, StartTag, EndTag, EndOfFile}
-use Rattle.md_safe.specs.TokenizerStates.{Data, Rcdata}
+use Rattle.md_safe.specs.Token.{Token, Character, EndTag, EndOfFile}
+use Rattle.md_safe.specs.TokenizerStates.{Data}
 use Rattle.md_safe.specs.Tokenizer.{IsTokenized}
 use Rattle.md_safe.specs.Tokens.{seen}
-use Rattle.md_safe.specs.PageTokens.{charset as charset_seen, page_text, plain_tag}
+use Rattle.md_safe.specs.PageTokens.{page_text, plain_tag}
 use Rattle.md_safe.specs.SafeTokens.{has_safe_links, has_safe_images}
-use Rattle.md_safe.proofs.LineFeeds.{line_feeds-append, line_feeds-escaped}
-use Rattle.md_safe.proofs.Steps.{loud, along, rcdata-runs}
-use Rattle.md_safe.proofs.TagLeads.{element-runs, void-runs, end-runs}
 use Rattle.md_safe.proofs.OneRun.{one_run}
 use Rattle.md_safe.proofs.TokenTests.{all-append, all-characters}
 use Rattle.md_safe.proofs.SafeTokens.{links-pass, images-pass}
-use Rattle.md_safe.proofs.PageRuns.{doctype, title_begins, title_ends}
+use Rattle.md_safe.proofs.PageRuns.{page-around, page_ends}
 use Rattle.md_page.specs.Added.{shown}
 use Rattle.md_page.specs.PageAround.{after_body, going_on, page_around, IsSafePage}
 use Rattle.md_page.specs.Pieces.{Piece, all_written, all_tokens, are_sound, IsWritten}
@@ -32,40 +28,8 @@ use Rattle.md_page.proofs.LinkRule.{seen-encoded}
 page-runs : (title : List ℕ) (x : List Piece) → is_escaped title ≡ true → are_sound x ≡ true →
     IsTokenized (page_text title (all_written x)) (page_around (seen title) (all_tokens x))
 page-runs title x e h =
-    let end_text = codes "</body></html>\n" in
-    let ends : IsTokenized end_text after_body =
-    end-runs (codes "body") (codes "</html>\n") (EndTag (codes "html") ∷ Character 10 ∷ EndOfFile
-    ∷ []) refl (end-runs (codes "html") (codes "\n") (Character 10 ∷ EndOfFile ∷ []) refl
-    (loud (Character 10) refl record { steps = 1; emits = refl })) in
-    let body_text = with_line_feeds (all_written x ++ end_text) in
-    let rest = codes "</title></head><body>" ++ (all_written x ++ end_text) in
-    let after = going_on (all_tokens x) after_body in
-    let after_head : List Token = plain_tag (codes "body") ∷ after in
-    let after_title : List Token = EndTag (codes "head") ∷ after_head in
-    let bodied = element-runs (codes "body") [] body_text after refl refl
-    (pieces-before x end_text after_body h refl ends) in
-    let headed = end-runs (codes "head") (codes "<body>" ++ body_text) after_head refl bodied in
-    let title_tokens = map Character (seen title) ++ (EndTag (codes "title") ∷ after_title) in
-    let titled = rcdata-runs (with_line_feeds title) (line_feeds-escaped title e)
-    (codes "</title></head><body>" ++ body_text) (EndTag (codes "title") ∷ after_title)
-    (title_ends (codes "</head><body>" ++ body_text) after_title headed) in
-    let lines = with_line_feeds (title ++ rest) in
-    let from_title = along Rcdata (with_line_feeds title ++ with_line_feeds rest) lines title_tokens
-    title_tokens (sym (line_feeds-append title rest refl)) refl titled in
-    let charset : Attribute = record { name = codes "charset"; value = codes "utf-8" } in
-    let at_title = title_begins lines title_tokens from_title in
-    let meta = void-runs (codes "meta") (charset ∷ []) (codes "<title>" ++ lines)
-    (plain_tag (codes "title") ∷ title_tokens) refl refl at_title in
-    let meta_text = codes "<meta charset=\"utf-8\" /><title>" ++ lines in
-    let meta_tokens : List Token =
-    StartTag (codes "meta") (charset_seen ∷ []) true ∷ plain_tag (codes "title") ∷ title_tokens in
-    let head = element-runs (codes "head") [] meta_text meta_tokens refl refl meta in
-    let html =
-    element-runs (codes "html") [] (codes "<head>" ++ meta_text) (plain_tag (codes "head")
-    ∷ meta_tokens) refl refl head in
-    doctype (codes "\n<html><head>" ++ meta_text)
-    (Character 10 ∷ plain_tag (codes "html") ∷ plain_tag (codes "head")
-    ∷ meta_tokens) (loud (Character 10) refl html)
+    page-around title (all_written x) (going_on (all_tokens x) after_body) e
+    (pieces-before x (codes "</body></html>\n") after_body h refl page_ends)
 
 -- ---- safe tokens
 

@@ -22,38 +22,42 @@ use Rattle.md_safe.proofs.TokenTests.{all-append, all-characters, all-tokens}
 use Rattle.md_safe.proofs.SafeTokens.{links-pass, images-pass}
 
 -- `<!doctype html>`
-pub doctype : (r : List ℕ) (t : List Token) → IsRun Data r t →
+doctype : (r : List ℕ) (t : List Token) → IsRun Data r t →
     IsRun Data (codes "<!doctype html>" ++ r) (Doctype (codes "html") ∷ t)
 doctype r t h = quiet refl (quiet refl (quiet refl (quiet refl (quiet refl
     (quiet refl (quiet refl (quiet refl (loud _ refl h))))))))
 
-pub title_begins : (r : List ℕ) (t : List Token) → IsRun Rcdata r t →
+title_begins : (r : List ℕ) (t : List Token) → IsRun Rcdata r t →
     IsRun Data (codes "<title>" ++ r) (plain_tag (codes "title") ∷ t)
 title_begins r t h = quiet refl (quiet refl (quiet refl (quiet refl
     (quiet refl (quiet refl (quiet refl (loud _ refl h)))))))
 
-pub title_ends : (r : List ℕ) (t : List Token) → IsRun Data r t →
+title_ends : (r : List ℕ) (t : List Token) → IsRun Data r t →
     IsRun Rcdata (codes "</title>" ++ r) (EndTag (codes "title") ∷ t)
 title_ends r t h = quiet refl (quiet refl (quiet refl (quiet refl (quiet refl
     (quiet refl (quiet refl (quiet refl (loud _ refl h))))))))
 
-pub page-runs : (title : List ℕ) (body : Forest) → is_escaped title ≡ true → is_forest body ≡ true →
-    IsTokenized (page_text title (written body)) (page_tokens (seen title) body)
-page-runs title body e h =
-    let ending : List Token = EndTag (codes "body") ∷ EndTag (codes "html") ∷ Character 10
-    ∷ EndOfFile ∷ [] in
-    let end_text = codes "</body></html>\n" in
-    let ends : IsTokenized end_text ending = end-runs (codes "body") (codes "</html>\n")
+-- what comes after the body
+pub page_ends : IsTokenized (codes "</body></html>\n") after_body
+page_ends = end-runs (codes "body") (codes "</html>\n")
     (EndTag (codes "html") ∷ Character 10 ∷ EndOfFile ∷ []) refl (end-runs (codes "html")
-    (codes "\n") (Character 10 ∷ EndOfFile ∷ []) refl (loud (Character 10) refl
-    record { steps = 1; emits = refl })) in
-    let body_text = with_line_feeds (written body ++ end_text) in
-    let rest = codes "</title></head><body>" ++ (written body ++ end_text) in
-    let after = tokens body ++ ending in
+    (codes "\n") (Character 10 ∷ EndOfFile ∷ []) refl
+    (loud (Character 10) refl record { steps = 1; emits = refl }))
+
+-- the fixed parts and the title around a body, whose tokens and those after it are known
+pub page-around : (title body : List ℕ) (after : List Token) → is_escaped title ≡ true →
+    IsTokenized (body ++ codes "</body></html>\n") after →
+    IsTokenized (page_text title body) (Doctype (codes "html") ∷ Character 10
+    ∷ plain_tag (codes "html") ∷ plain_tag (codes "head")
+    ∷ StartTag (codes "meta") (charset_seen ∷ []) true ∷ plain_tag (codes "title")
+    ∷ (map Character (seen title)
+    ++ (EndTag (codes "title") ∷ EndTag (codes "head") ∷ plain_tag (codes "body") ∷ after)))
+page-around title body after e inside =
+    let body_text = with_line_feeds (body ++ codes "</body></html>\n") in
+    let rest = codes "</title></head><body>" ++ (body ++ codes "</body></html>\n") in
     let after_head : List Token = plain_tag (codes "body") ∷ after in
     let after_title : List Token = EndTag (codes "head") ∷ after_head in
-    let bodied = element-runs (codes "body") [] body_text after refl refl
-    (in_place body end_text ending h refl ends) in
+    let bodied = element-runs (codes "body") [] body_text after refl refl inside in
     let headed = end-runs (codes "head") (codes "<body>" ++ body_text) after_head refl bodied in
     let title_tokens = map Character (seen title) ++ (EndTag (codes "title") ∷ after_title) in
     let titled = rcdata-runs (with_line_feeds title) (line_feeds-escaped title e)
@@ -73,6 +77,11 @@ page-runs title body e h =
     (plain_tag (codes "head") ∷ meta_tokens) refl refl head in
     doctype (codes "\n<html><head>" ++ meta_text) (Character 10 ∷ plain_tag (codes "html")
     ∷ plain_tag (codes "head") ∷ meta_tokens) (loud (Character 10) refl html)
+
+pub page-runs : (title : List ℕ) (body : Forest) → is_escaped title ≡ true → is_forest body ≡ true →
+    IsTokenized (page_text title (written body)) (page_tokens (seen title) body)
+page-runs title body e h = page-around title (written body) (tokens body ++ after_body) e
+    (in_place body (codes "</body></html>\n") after_body h refl page_ends)
 
 -- ---- a safe body
 

@@ -22,7 +22,7 @@ use Rattle.md_base.specs.declared.event.Point.{Point}
 use Rattle.md_script.specs.Line.{◌>>=◌, is_dot, is_space, is_line_feed, lines_of, kind_of, name_of}
 use Rattle.md_script.specs.Line.{point_of, event_of}
 use Rattle.md_script.specs.Number.{number_of}
-use Rattle.md_script.specs.PlainLine.{is_break, BeginsWithEvent, BeginsWithIndex, BeginsWithNumber}
+use Rattle.md_script.specs.PlainLine.{is_break, BeginsWithEvent, BeginsWithNumber}
 use Rattle.md_script.specs.PlainLine.{BeginsWithPlace}
 use Rattle.md_script.proofs.LineLemmas.{built}
 use Rattle.md_script.proofs.SplitLemmas.{any_by_place}
@@ -156,11 +156,10 @@ pub index_read_at : (bytes : List ℕ) (i size index : ℕ) → size ≡ i → i
     get_or bytes i 0 ≡ 10 →
     0 < size → size ≤ 9 → index ≡ digits_value 10 (take i bytes) →
     all_ascii_digits (take i bytes) ≡ true →
-    BeginsWithIndex bytes index (take (length bytes - (size + 1)) (drop (size + 1) bytes))
+    BeginsWithNumber 9 10 bytes index (take (length bytes - (size + 1)) (drop (size + 1) bytes))
 index_read_at bytes i size index place inside feed some few value all =
-    let read = number_read bytes i 9 10 index inside feed (omega (arith, place, some))
-    (omega (arith, place, few)) value all in
-    rw place (record { digits = read.digits; whole = read.whole; value = read.value })
+    rw place (number_read bytes i 9 10 index inside feed (omega (arith, place, some))
+    (omega (arith, place, few)) value all)
 
 -- ---- the event of a plain line
 
@@ -243,7 +242,7 @@ line_placed sign text rest input following kind name point is ek en none read =
       says = event_placed sign text said kind name point ek en read.says free.0;
     }
 
-index_placed : (rest following : List ℕ) (index : ℕ) → BeginsWithIndex rest index following →
+index_placed : (rest following : List ℕ) (index : ℕ) → BeginsWithNumber 9 10 rest index following →
     BeginsWithPlace rest (place index) following
 index_placed rest following index read = record {
   text = read.digits;
@@ -255,7 +254,7 @@ index_placed rest following index read = record {
 pub line_plain :
     (sign : ℕ) (text rest input following : List ℕ) (kind : Kind) (name : Name) (index : ℕ) →
     input ≡ sign ∷ (text ++ 32 ∷ rest) → kind_of sign ≡ Some kind → name_of text ≡ Some name →
-    list_any is_break text ≡ false → BeginsWithIndex rest index following →
+    list_any is_break text ≡ false → BeginsWithNumber 9 10 rest index following →
     BeginsWithEvent input (record { kind = kind; name = name; point = place index }) following
 line_plain sign text rest input following kind name index is ek en none read =
     line_placed sign text rest input following kind name (place index) is ek en none

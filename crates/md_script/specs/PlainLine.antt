@@ -18,12 +18,6 @@ pub record BeginsWithEvent (input : List ℕ) (event : Event) (following : List 
   pub size : length line + length following + 1 ≡ length input
   pub says : event_of line ≡ Some event
 
--- the digits of this index, and this after their line feed
-pub record BeginsWithIndex (bytes : List ℕ) (index : ℕ) (following : List ℕ) : Type 0 where
-  pub digits : List ℕ
-  pub whole : bytes ≡ digits ++ 10 ∷ following
-  pub value : number_of 9 digits ≡ Some index
-
 -- the digits of this number, at most `most`, and this after the byte that ends them
 pub record BeginsWithNumber (most end : ℕ) (bytes : List ℕ) (number : ℕ)
     (following : List ℕ) : Type 0 where

@@ -3,7 +3,7 @@
 ghost use Rattle.std.specs.Prelude.{◌≡◌, ◌+◌, ◌*◌, ◌++◌, ◌∷◌, List, false, length, position};
 ghost use Rattle.std.specs.Prelude.{IfSome};
 ghost use Rattle.std.specs.List.{list_any};
-ghost use Rattle.md_script.specs.PlainLine.{is_break, BeginsWithEvent, BeginsWithIndex};
+ghost use Rattle.md_script.specs.PlainLine.{is_break, BeginsWithEvent, BeginsWithNumber};
 ghost use Rattle.md_script.specs.PlainLine.{BeginsWithPlace};
 
 use crate::common_name::read_common_name;
@@ -127,7 +127,7 @@ fn find_break(bytes: &[u8]) -> Option<usize>
 
 /// An index of 1 to 9 digits, and the bytes after the line feed that ends it.
 fn split_index(bytes: &[u8]) -> Option<(usize, &[u8])>
-    ensures { IfSome result (λ read. BeginsWithIndex bytes.now read.0 read.1.now) }
+    ensures { IfSome result (λ read. BeginsWithNumber 9 10 bytes.now read.0 read.1.now) }
 {
     let mut index = 0;
     let mut length = 0;
