@@ -8,5 +8,4 @@ pub mod FoundLemmas
 pub mod Labelled
 pub mod Undefined
 pub mod Leading
-pub mod Picked
 pub mod Own

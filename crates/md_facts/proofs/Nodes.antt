@@ -87,7 +87,7 @@ got-mapped : {A B : Type 0} (f : A → B) (xs : List A) {ys : List B} (i : ℕ) 
 got-mapped f xs i same got =
     ap (λ zs. slice_get zs i) (sym same) ∙ slice_get-map f xs i ∙ ap (option_map f) got
 
-unmapped : {A B : Type 0} (f : A → B) (xs : List A) (i : ℕ) (y : B) →
+pub unmapped : {A B : Type 0} (f : A → B) (xs : List A) (i : ℕ) (y : B) →
     slice_get (map f xs) i ≡ Some y →
     (x : A) × (slice_get xs i ≡ Some x) × (f x ≡ y)
 unmapped {A = A} f xs i y got = by (slice_get xs i) (sym (slice_get-map f xs i) ∙ got)

@@ -1,9 +1,12 @@
 -- What a document's definitions define, each from its own events.
-use Rattle.std.proofs.Common.{◌≡◌, ℕ, suc, ◌-◌, Bool, true, false, ◌&&◌, not, Some, List, [], ◌∷◌}
+use Rattle.std.proofs.Common.{◌≡◌, ℕ, zero, suc, ◌-◌, Bool, true, false, ◌&&◌, not, Some, List, [], ◌∷◌}
 use Rattle.std.proofs.Common.{◌++◌, length, take, refl, sym, ap, ◌∙◌, subst, append-nil}
 use Rattle.std.proofs.Common.{arith, drop_at}
 use Rattle.std.proofs.Math.Seq.{take-append_seam}
-use Rattle.std.specs.Prelude.{slice_get, if◌then◌else◌}
+use Rattle.std.specs.Prelude.{slice_get, if◌then◌else◌, map, option_map, filter}
+use Rattle.std.proofs.lemmas.List.{length-map, map-append}
+use Rattle.std.proofs.lemmas.List.Elements.{filter-append}
+use Rattle.std.proofs.lemmas.Option.{slice_get-map, slice_get_within}
 use Rattle.md_base.specs.declared.event.Name.{Name}
 use Rattle.md_base.specs.declared.event.Name.TheVariants.{Definition}
 use Rattle.md_base.specs.Children.{is_empty}
@@ -23,12 +26,11 @@ use Rattle.md_steps.proofs.Running.{noticed-length, run-over}
 use Rattle.md_facts.specs.NodeFacts.{IsNoticedAt}
 use Rattle.md_facts.specs.Definitions.{within, own_defined}
 use Rattle.md_facts.proofs.FoundLemmas.{grammatical-there}
-use Rattle.md_facts.proofs.Nodes.{NodeAt, entry_row, node-of, row-paired}
+use Rattle.md_facts.proofs.Nodes.{NodeAt, entry_row, node-of, row-paired, unmapped}
 use Rattle.md_facts.proofs.Noticed.{noticed_in, noticed-same}
 use Rattle.md_facts.proofs.Rows.{Row, row_of, rows_of}
 use Rattle.md_facts.proofs.PairedRows.{Paired}
 use Rattle.md_facts.proofs.Undefined.{Free, IsFreeInside, built-frees}
-use Rattle.md_facts.proofs.Picked.{picked, picked-append, Pick, pick, picked-length}
 
 -- ---- definitions are those of rows
 abbrev defines : Row → Bool
@@ -41,6 +43,37 @@ defined_at alone row = record {
       (facts_of alone.bytes false row.children row.start row.end) Definition beginning)).target;
 }
 
+-- the rows that define something, and a part of each
+abbrev picked : {A : Type 0} → (Row → A) → List Row → List A
+picked of rows = map of (filter defines rows)
+
+picked-append : {A : Type 0} (of : Row → A) (xs : List Row) (row : Row) (ys : List Row) →
+    picked of (xs ++ row ∷ ys)
+    ≡ picked of xs ++ (if defines row then of row ∷ picked of ys else picked of ys)
+picked-append of xs row ys =
+    ap (map of) (filter-append defines xs (row ∷ ys))
+    ∙ map-append of (filter defines xs) (filter defines (row ∷ ys))
+    ∙ ap (λ zs. picked of xs ++ zs) (by (defines row))
+  where
+    by : (b : Bool) → map of (if b then row ∷ filter defines ys else filter defines ys)
+        ≡ (if b then of row ∷ picked of ys else picked of ys)
+    by true = refl
+    by false = refl
+
+picked-there : (rows : List Row) (place : ℕ) (row : Row) →
+    slice_get (filter defines rows) place ≡ Some row → (at : ℕ) × (slice_get rows at ≡ Some row)
+picked-there [] place row e = absurd (omega (arith, slice_get_within [] place row e))
+picked-there (one ∷ rows) place row e =
+    by (defines one) place (λ p f. picked-there rows p row f) e
+  where
+    by : (b : Bool) (place : ℕ) → ((p : ℕ) → slice_get (filter defines rows) p ≡ Some row →
+        (at : ℕ) × (slice_get rows at ≡ Some row)) →
+        slice_get (if b then one ∷ filter defines rows else filter defines rows) place ≡ Some row →
+        (at : ℕ) × (slice_get (one ∷ rows) at ≡ Some row)
+    by true zero more f = (0, f)
+    by true (suc p) more f = let later = more p f in (suc later.0, later.1)
+    by false p more f = let later = more p f in (suc later.0, later.1)
+
 one_first : {A : Type 0} (b : Bool) (x : A) (xs : List A) →
     (if b then x ∷ xs else xs) ≡ (if b then x ∷ [] else []) ++ xs
 one_first true x xs = refl
@@ -51,7 +84,7 @@ passed_is Definition = refl
 passed_is _ = refl
 
 entries-picked : (forest : Forest) (index : ℕ) (outermost : Bool) →
-    picked defines (λ (row : Row). row.entry) (rows_of index outermost forest)
+    picked (λ (row : Row). row.entry) (rows_of index outermost forest)
     ≡ definition_entries index forest
 entries-picked Empty index outermost = refl
 entries-picked (Node name start end children rest) index outermost =
@@ -60,37 +93,37 @@ entries-picked (Node name start end children rest) index outermost =
     let closing : Row = row_of false index (outermost && is_empty rest) name start end children in
     let inner : List Row = rows_of (suc index) false children in
     let after : List Row = rows_of (suc exit) outermost rest in
-    picked-append defines entry inner (closing ∷ after)
-    ∙ ap (λ xs. xs ++ picked defines entry (closing ∷ after))
+    picked-append entry inner closing after
+    ∙ ap (λ xs. xs ++ (if is_passed name then index ∷ picked entry after else picked entry after))
     (entries-picked children (suc index) false)
     ∙ ap (λ xs. definition_entries (suc index) children ++ xs)
-    (one_first (is_passed name) index (picked defines entry after)
-    ∙ ap (λ b. (if b then index ∷ [] else []) ++ picked defines entry after) (passed_is name)
+    (one_first (is_passed name) index (picked entry after)
+    ∙ ap (λ b. (if b then index ∷ [] else []) ++ picked entry after) (passed_is name)
     ∙ ap (λ xs. (if is_link_definition name then index ∷ [] else []) ++ xs)
     (entries-picked rest (suc exit) outermost))
 
 none-picked : {A : Type 0} (of : Row → A) (forest : Forest) (index : ℕ) (outermost : Bool) →
     Free forest →
-    picked defines of (rows_of index outermost forest) ≡ []
+    picked of (rows_of index outermost forest) ≡ []
 none-picked of Empty index outermost free = refl
 none-picked {A = A} of (Node name start end children rest) index outermost free =
     let exit : ℕ = index_after (suc index) children in
     let closing : Row = row_of false index (outermost && is_empty rest) name start end children in
     let inner : List Row = rows_of (suc index) false children in
     let after : List Row = rows_of (suc exit) outermost rest in
-    picked-append defines of inner (closing ∷ after)
-    ∙ ap (λ xs. xs ++ picked defines of (closing ∷ after))
+    picked-append of inner closing after
+    ∙ ap (λ xs. xs ++ (if is_passed name then of closing ∷ picked of after else picked of after))
     (none-picked of children (suc index) false free.1)
-    ∙ ap (λ b. if b then of closing ∷ picked defines of after else picked defines of after) free.0
+    ∙ ap (λ b. if b then of closing ∷ picked of after else picked of after) free.0
     ∙ none-picked of rest (suc exit) outermost free.2
 
 defined-picked : (alone : Context) (forest : Forest) (index : ℕ) (outermost : Bool) →
     Everywhere IsFreeInside forest →
-    picked defines (defined_at alone) (rows_of index outermost forest) ≡ defined alone forest
+    picked (defined_at alone) (rows_of index outermost forest) ≡ defined alone forest
 defined-picked alone Empty index outermost frees = refl
 defined-picked alone (Node name start end children rest) index outermost frees =
-    picked-append defines (defined_at alone) inner (closing ∷ after) ∙ ap (λ xs.
-    picked defines (defined_at alone) inner ++ (if is_passed name then defined_at alone closing ∷ xs
+    picked-append (defined_at alone) inner closing after ∙ ap (λ xs.
+    picked (defined_at alone) inner ++ (if is_passed name then defined_at alone closing ∷ xs
     else xs)) (defined-picked alone rest (suc exit) outermost frees.2) ∙ by (is_passed name) refl
     (λ h. none-picked (defined_at alone) children (suc index) false (frees.0 h))
     (defined-picked alone children (suc index) false frees.1)
@@ -111,9 +144,9 @@ defined-picked alone (Node name start end children rest) index outermost frees =
     own = defined_at alone closing
 
     by : (b : Bool) → is_passed name ≡ b →
-        (is_passed name ≡ true → picked defines (defined_at alone) inner ≡ []) →
-        picked defines (defined_at alone) inner ≡ defined alone children →
-        picked defines (defined_at alone) inner
+        (is_passed name ≡ true → picked (defined_at alone) inner ≡ []) →
+        picked (defined_at alone) inner ≡ defined alone children →
+        picked (defined_at alone) inner
         ++ (if b then own ∷ defined alone rest else defined alone rest)
         ≡ (if b then own ∷ [] else defined alone children) ++ defined alone rest
     by true h none same = ap (λ xs. xs ++ own ∷ defined alone rest) (none h)
@@ -193,22 +226,22 @@ pub own-defined :
     ≡ Some (own_defined alone given.events (noticed given.bytes true document) index one)
 own-defined given document alone index place one checked flat same got there =
     let rows : List Row = rows_of 0 true document in
-    let found : Pick defines (λ (row : Row). row.entry) (defined_at alone) rows place index =
-    pick defines (λ (row : Row). row.entry) (defined_at alone) rows place index
+    let (row, kept, is) = unmapped (λ (row : Row). row.entry) (filter defines rows) place index
     (ap (λ xs. slice_get xs place) (entries-picked document 0 true) ∙ got) in
-    let row : Row = found.row in
-    let pair : Paired rows found.at row = row-paired given document flat found.at row found.got in
+    let (at, row_there) = picked-there rows place row kept in
+    let pair : Paired rows at row = row-paired given document flat at row row_there in
     let node : NodeAt given document row.name row.entry row.exit =
-    node-of given document flat row found.at pair in
+    node-of given document flat row at pair in
     let frees = built-frees given.bytes Blocks document (grammatical-built given.bytes given.names
     document (grammatical-there given document checked flat)) in
     ap (λ xs. slice_get xs place) (sym (defined-picked alone document 0 true frees))
-    ∙ found.found
+    ∙ slice_get-map (defined_at alone) (filter defines rows) place
+    ∙ ap (option_map (defined_at alone)) kept
     ∙ ap (λ r. Some (defined_at alone r)) (some (sym pair.entry_at ∙ node.there))
     ∙ ap Some (own-at given document alone row.name row.entry row.exit one node flat same
-    (subst (λ i. IsNoticedAt given i one) (sym found.is) there))
+    (subst (λ i. IsNoticedAt given i one) (sym is) there))
     ∙ ap (λ i. Some (own_defined alone given.events (noticed given.bytes true document) i one))
-    found.is
+    is
   where
     some : {a b : Row} → Some a ≡ Some b → a ≡ b
     some e = cc
@@ -221,5 +254,6 @@ own-length given document alone checked flat =
     let frees = built-frees given.bytes Blocks document (grammatical-built given.bytes given.names
     document (grammatical-there given document checked flat)) in
     ap (λ xs. length xs) (sym (defined-picked alone document 0 true frees))
-    ∙ picked-length defines (defined_at alone) (λ (row : Row). row.entry) (rows_of 0 true document)
+    ∙ length-map (filter defines (rows_of 0 true document)) (defined_at alone)
+    ∙ sym (length-map (filter defines (rows_of 0 true document)) (λ (row : Row). row.entry))
     ∙ ap (λ xs. length xs) (entries-picked document 0 true)
