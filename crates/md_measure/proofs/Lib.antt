@@ -2,5 +2,4 @@
 pub mod Measuring
 pub mod Nesting
 pub mod Summary
-pub mod Counting
 pub mod Referring

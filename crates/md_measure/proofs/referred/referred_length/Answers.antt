@@ -1,15 +1,20 @@
 -- One event further, and one mention; at the end nothing is still to come.
-use Rattle.std.proofs.Common.{◌≡◌, ◌+◌, length, rules, ap, sym, ◌∙◌, arith, add-one}
+use Rattle.std.proofs.Common.{◌≡◌, ℕ, ◌+◌, ◌-◌, ◌^◌, ◌≤◌, length, rules, ap, sym, ◌∙◌, arith, add-one}
+use Rattle.std.proofs.lemmas.Grind.{common_steps}
 use Rattle.std.specs.Prelude.{drop}
 use Rattle.std.proofs.lemmas.List.{nil_from_length}
 use Rattle.md_tree.specs.Mentions.{mentions_of}
 use Rattle.md_tree.specs.Numbers.{definition_for}
 use Rattle.md_length.specs.Reuse.{definition_lengths, resolved_lengths, length_at, referred}
 use Rattle.md_measure.specs.Counting.{capped}
-use Rattle.md_measure.proofs.Counting.{all-added}
 use Rattle.md_measure.proofs.Referring.{split-there, mention-at, led-step, capped-more}
 use Rattle.md_measure.proofs.Referring.{led-all}
 use Rattle.md_measure.proofs.referred.referred_length.Goals as goal
+
+-- what is counted is all
+all-added : (counted later whole : ℕ) → counted ≤ 2 ^ 128 - 1 → later ≡ 0 →
+    capped (counted + later) ≡ capped whole → counted ≡ capped whole
+all-added counted later whole fits none before = grind (arith, common_steps, fits, none, before)
 
 pub referred_at-requires-clause-there : goal.referred_at-requires-clause-there
 referred_at-requires-clause-there c =
