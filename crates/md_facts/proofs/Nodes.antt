@@ -107,7 +107,7 @@ mapped f before entry inner exit beyond same =
     ∙ ap (λ xs. (map f before ++ f entry ∷ []) ++ xs) (map-append f inner (exit ∷ beyond)
     ∙ ap (λ xs. xs ++ (f exit ∷ map f beyond)) same)
 
--- the event of a row tells which of the two it is, and the name
+-- which of the two events the event of a row is, and its name
 is_of : (b c : Bool) (name : Name) (start end : Point) →
     Event.kind (if b then entering name start else exiting name end)
     ≡ (if c then Enter else Exit) →

@@ -1,4 +1,4 @@
--- One event more, for each measure; what a measure says of a document.
+-- One event more, for each measure; what a measure says of a document; what it reads again.
 pub mod Measuring
 pub mod Nesting
 pub mod Summary
