@@ -1,6 +1,7 @@
 -- The facts that the pass finds about children are those of the definitions.
 use Rattle.std.proofs.Common.{◌≡◌, Bool, true, false, not, ◌&&◌, ◌||◌, cond, Option, Some, None}
 use Rattle.std.proofs.Common.{refl, sym, ap, ◌∙◌}
+use Rattle.std.proofs.Math.Bool.{or_assoc, and-true}
 use Rattle.std.specs.Prelude.{unwrap_or}
 use Rattle.std.specs.Option.{option_map_or}
 use Rattle.md_base.specs.declared.event.AlignKind.TheVariants as align
@@ -24,10 +25,9 @@ use Rattle.md_pattern.specs.Alignments.{begins_with_marker, ends_with_marker, al
 use Rattle.md_pattern.specs.Summary.{spaced, is_bare_last, parts, loosens, is_nothing}
 use Rattle.md_pattern.specs.Summary.{is_marker_last}
 use Rattle.md_pattern.specs.Summary.{summary_with, empty_summary, summary_over, alignment}
-use Rattle.md_pattern.proofs.OneMoreChild.{is_quote_last, quote_with, marker_with, or-false}
-use Rattle.md_pattern.proofs.OneMoreChild.{nothing_with, begins_with, bare_with, bare_spaced_with}
-use Rattle.md_pattern.proofs.OneMoreChild.{or-assoc, without_with, parts_with, not_prefix}
-use Rattle.md_pattern.proofs.OneMoreChild.{item_with, loosens_with, prefix_with, loose_item_with}
+use Rattle.md_pattern.proofs.OneMoreChild.{is_quote_last, not_prefix, or-false}
+use Rattle.md_pattern.proofs.OneMoreChild.{IsLast, last_with, begins_with, without_with}
+use Rattle.md_pattern.proofs.OneMoreChild.{item_with, loose_item_with}
 
 last_step : (test : Name → Bool) (o : Option Name) (name : Name) →
     option_map_or test o (test name) ≡ test (unwrap_or o name)
@@ -41,7 +41,7 @@ quote_over Empty summary = refl
 quote_over (Node name start end children rest) summary =
     let own = summary_over children empty_summary in
     quote_over rest (summary_with name own summary)
-    ∙ ap (λ b. option_map_or (is BlockQuotePrefix) (last_name rest) b) (quote_with name own summary)
+    ∙ ap (λ b. option_map_or (is BlockQuotePrefix) (last_name rest) b) (IsLast.quote (last_with name own summary))
     ∙ last_step (is BlockQuotePrefix) (last_name rest) name
 
 marker_over : (forest : Forest) (summary : Summary) → is_marker_last
@@ -52,7 +52,7 @@ marker_over (Node name start end children rest) summary =
     let own = summary_over children empty_summary in
     marker_over rest (summary_with name own summary)
     ∙ ap (λ b. option_map_or (is GfmTableDelimiterMarker) (last_name rest) b)
-    (marker_with name own summary)
+    (IsLast.marker (last_with name own summary))
     ∙ last_step (is GfmTableDelimiterMarker) (last_name rest) name
 
 begins_over : (forest : Forest) (summary : Summary) → Summary.begins_with_marker
@@ -63,7 +63,7 @@ begins_over (Node name start end children rest) summary =
     let own = summary_over children empty_summary in
     begins_over rest (summary_with name own summary)
     ∙ ap (λ b. Summary.begins_with_marker (summary_with name own summary)
-    || (begins_with_marker rest && b)) (nothing_with name own summary)
+    || (begins_with_marker rest && b)) (IsLast.nothing (last_with name own summary))
     ∙ by (begins_with_marker rest) (Summary.begins_with_marker (summary_with name own summary))
     ∙ begins_with name own summary
   where
@@ -83,7 +83,7 @@ bare_step : (rest : Forest) (name : Name) (children : Forest) (own summary : Sum
     ≡ cond (is SpaceOrTab name && is_empty rest) (is_bare_last (spaced summary.last))
     (cond (is_end rest) (is_bare name children) (ends_bare rest))
 bare_step Empty name children own summary quote =
-    bare_with name own summary
+    IsLast.bare (last_with name own summary)
     ∙ ap (λ b. cond (is SpaceOrTab name) (is_bare_last (spaced summary.last))
     (is ListItemPrefix name
     || (is BlockQuote name && b))) quote
@@ -95,7 +95,7 @@ bare_step Empty name children own summary quote =
     by false = refl
 bare_step (Node next start end inner rest) name children own summary quote =
     ap (λ b. cond (is SpaceOrTab next && is_empty rest) b
-    (ends_bare (Node next start end inner rest))) (bare_spaced_with name own summary
+    (ends_bare (Node next start end inner rest))) (IsLast.bare_spaced (last_with name own summary)
     ∙ ap (λ b. is ListItemPrefix name || (is BlockQuote name && b)) quote) ∙ by (is SpaceOrTab name)
   where
     by : (s : Bool) → cond (is SpaceOrTab next && is_empty rest) (is_bare name children)
@@ -143,10 +143,10 @@ without_over (Node name start end children rest) summary =
     ∙ ap (λ b. (b || (begins_blank rest && parts (Summary.last (summary_with name own summary))))
     || has_parting_blank rest) (without_with name own summary)
     ∙ ap (λ b. ((summary.without_items || (is BlankLineEnding name && parts summary.last))
-    || (begins_blank rest && b)) || has_parting_blank rest) (parts_with name own summary
+    || (begins_blank rest && b)) || has_parting_blank rest) (IsLast.parting (last_with name own summary)
     ∙ ap (λ b. not (is ListItem name && b)) (bare_over children empty_summary
     ∙ ends_bare-end children))
-    ∙ or-assoc (summary.without_items || (is BlankLineEnding name && parts summary.last))
+    ∙ or_assoc (summary.without_items || (is BlankLineEnding name && parts summary.last))
     (begins_blank rest && not (is ListItem name && ends_bare children)) (has_parting_blank rest)
 
 -- the tests of an item, rearranged
@@ -182,21 +182,17 @@ item_over (Node name start end children rest) summary =
     ∙ ap (λ b. (summary.of_item || (is BlankLineEnding name && loosens summary.last))
     || ((begins_blank rest && b)
     || ((begins_space_blank rest && not_prefix (Summary.last (summary_with name own summary)))
-    || has_inner_blank rest))) (loosens_with name own summary)
+    || has_inner_blank rest))) (IsLast.loosening (last_with name own summary))
     ∙ ap (λ b. (summary.of_item || (is BlankLineEnding name && loosens summary.last))
     || ((begins_blank rest
     && cond (is SpaceOrTab name) (not_prefix summary.last) (not (is ListItemPrefix name)))
-    || ((begins_space_blank rest && b) || has_inner_blank rest))) (prefix_with name own summary)
+    || ((begins_space_blank rest && b) || has_inner_blank rest))) (IsLast.prefix (last_with name own summary))
     ∙ ap (λ b. (summary.of_item || (is BlankLineEnding name && loosens summary.last))
     || b) (rearranged (is SpaceOrTab name) (is ListItemPrefix name) (begins_blank rest)
     (begins_space_blank rest) (not_prefix summary.last) (has_inner_blank rest))
-    ∙ or-assoc summary.of_item (is BlankLineEnding name && loosens summary.last)
+    ∙ or_assoc summary.of_item (is BlankLineEnding name && loosens summary.last)
     (((is SpaceOrTab name && begins_blank rest) && not_prefix summary.last)
     || has_inner_blank (Node name start end children rest))
-
-and-true : (b : Bool) → (b && true) ≡ b
-and-true true = refl
-and-true false = refl
 
 -- an item's children
 of_item_summary : (children : Forest) →
@@ -206,7 +202,7 @@ of_item_summary children =
     ∙ ap (λ b. b || ((begins_space_blank children && true) || has_inner_blank children))
     (and-true (begins_blank children))
     ∙ ap (λ b. begins_blank children || (b || has_inner_blank children))
-    (and-true (begins_space_blank children)) ∙ sym (or-assoc (begins_blank children)
+    (and-true (begins_space_blank children)) ∙ sym (or_assoc (begins_blank children)
     (begins_space_blank children) (has_inner_blank children))
 
 loose_items_over : (forest : Forest) (summary : Summary) → Summary.has_loose_item
@@ -218,7 +214,7 @@ loose_items_over (Node name start end children rest) summary =
     loose_items_over rest (summary_with name own summary)
     ∙ ap (λ b. b || has_loose_item rest) (loose_item_with name own summary
     ∙ ap (λ b. summary.has_loose_item || (is ListItem name && b)) (of_item_summary children))
-    ∙ or-assoc summary.has_loose_item (is ListItem name && is_loose_item children)
+    ∙ or_assoc summary.has_loose_item (is ListItem name && is_loose_item children)
     (has_loose_item rest)
 
 -- a list's children, ignoring its items, and with them
