@@ -1,8 +1,8 @@
 -- What is kept of calls at the places of their identifiers is what the calls tally to.
 use Rattle.std.proofs.Common.{◌≡◌, ◌<◌, ◌≤◌, ℕ, zero, suc, Bool, true, false, List, [], ◌∷◌, ◌++◌}
-use Rattle.std.proofs.Common.{length, map, drop, Option, Some, None, refl, ap, sym, subst, ◌∙◌}
-use Rattle.std.proofs.Common.{arith, bytes_eq, String, Global, string_bytes, unwrap_or}
-use Rattle.std.specs.Prelude.{if◌then◌else◌, option_map, slice_get, slice_index_or}
+use Rattle.std.proofs.Common.{length, map, drop, Some, None, refl, ap, sym, subst, ◌∙◌}
+use Rattle.std.proofs.Common.{arith, String, Global, string_bytes, unwrap_or}
+use Rattle.std.specs.Prelude.{slice_get, slice_index_or}
 use Rattle.std.specs.Option.{option_map_or}
 use Rattle.std.proofs.lemmas.Option.{none-some}
 use Rattle.std.proofs.lemmas.Bool.{true≢false}
@@ -13,28 +13,14 @@ use Rattle.md_footnotes.specs.Entries.{again, place_in, count_in}
 use Rattle.md_footnotes.proofs.Tally.{counted, counted-tally}
 use Rattle.md_footnotes.proofs.Numbers.{count_among, count-same}
 use Rattle.md_meaning.proofs.Identifiers.{same}
-use Rattle.md_footnotes.proofs.Placing.{place-below, counted-again, counted-new, count-at}
+use Rattle.md_footnotes.proofs.Placing.{placed_by, place-below, counted-again, counted-new, count-at}
 
 -- the identifier at its place
 identifier-at : (entries : List (String Global × ℕ)) (q : List ℕ) (i : ℕ) →
     place_in entries q ≡ Some i →
     identifier_in entries i ≡ q
-identifier-at [] q i h = absurd (none-some i h)
-identifier-at (e ∷ entries) q i h =
-    elim (bytes_eq (string_bytes e.0) q) as (λ b. bytes_eq (string_bytes e.0) q ≡ b →
-    (if b then Some 0 else option_map (λ place. suc place) (place_in entries q)) ≡ Some i →
-    identifier_in (e ∷ entries) i ≡ q) [
-      | true ↦ λ k t.
-          ap (λ n. identifier_in (e ∷ entries) n) (sym (ap (λ o. unwrap_or o 0) t))
-          ∙ same (string_bytes e.0) q k
-      | false ↦ λ k t. later (place_in entries q) t (λ j. identifier-at entries q j)
-    ] refl h
-  where
-    later : (o : Option ℕ) → option_map (λ place. suc place) o ≡ Some i →
-        ((j : ℕ) → o ≡ Some j → identifier_in entries j ≡ q) → identifier_in (e ∷ entries) i ≡ q
-    later None t found = absurd (none-some i t)
-    later (Some j) t found =
-        ap (λ n. identifier_in (e ∷ entries) n) (sym (ap (λ o. unwrap_or o 0) t)) ∙ found j refl
+identifier-at entries q = placed_by q (λ es i. identifier_in es i ≡ q)
+    (λ e es is. same (string_bytes e.0) q is) (λ e es i differ held. held) entries
 
 -- one more at a place changes no identifier, and how many there are
 identifiers-again : (entries : List (String Global × ℕ)) (i place : ℕ) →
@@ -66,16 +52,10 @@ identifier-last (f ∷ entries) e = identifier-last entries e
 
 identifier-before : (entries : List (String Global × ℕ)) (e : String Global × ℕ) (place : ℕ) →
     place < length entries → identifier_in (entries ++ e ∷ []) place ≡ identifier_in entries place
-identifier-before [] e place below = absurd (below_nothing place below)
-  where
-    below_nothing : (m : ℕ) → m < 0 → ⊥
-    below_nothing m h = omega (arith, h)
+identifier-before [] e place below = absurd (omega (arith, below))
 identifier-before (f ∷ entries) e zero below = refl
 identifier-before (f ∷ entries) e (suc place) below =
-    identifier-before entries e place (lower place (length entries) below)
-  where
-    lower : (a b : ℕ) → suc a < suc b → a < b
-    lower a b h = omega (arith, h)
+    identifier-before entries e place (omega (arith, below))
 
 calls-before : (entries : List (String Global × ℕ)) (e : String Global × ℕ) (order : List ℕ) →
     AreBelow (length entries) order → calls_in (entries ++ e ∷ []) order ≡ calls_in entries order
@@ -90,10 +70,7 @@ below-push : (bound more : ℕ) (order : List ℕ) (place : ℕ) → bound ≤ m
     AreBelow more (order ++ place ∷ [])
 below-push bound more [] place higher last below = (last, tt)
 below-push bound more (first ∷ order) place higher last below =
-    (wider first below.0, below-push bound more order place higher last below.1)
-  where
-    wider : (m : ℕ) → m < bound → m < more
-    wider m h = omega (arith, h, higher)
+    (omega (arith, below.0, higher), below-push bound more order place higher last below.1)
 
 -- what is kept is what the calls tally to
 abbrev pub Keeps : List (String Global × ℕ) → List ℕ → List (List ℕ) → Type 0
@@ -196,10 +173,7 @@ entry-called (d ∷ entries) f (x ∷ names) zero e same h =
     )
 entry-called (d ∷ entries) f (x ∷ names) (suc i) e same h =
     let later = entry-called entries f names i e (ap (λ (l : List Counted). drop 1 l) same) h in
-    (later.0, later.1, higher i (length names) later.2)
-  where
-    higher : (m n : ℕ) → m < n → suc m < suc n
-    higher m n k = omega (arith, k)
+    (later.0, later.1, omega (arith, later.2))
 
 pub entry-missing :
     (entries : List (String Global × ℕ)) (f : List ℕ → ℕ) (names : List (List ℕ)) (i : ℕ) →
