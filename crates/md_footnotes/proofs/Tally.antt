@@ -1,8 +1,8 @@
 -- Counting calls in sequence is the same as tallying them.
 use Rattle.std.proofs.Common.{◌≡◌, ℕ, ◌+◌, suc, true, false, ◌||◌, not, cond, List, [], ◌∷◌, ◌++◌}
-use Rattle.std.proofs.Common.{map, refl, ap, sym, ◌∙◌, append-nil, arith, bytes_eq}
+use Rattle.std.proofs.Common.{map, refl, ap, sym, ◌∙◌, append-nil, arith, bytes_eq, inl, inr}
 use Rattle.std.specs.Prelude.{if◌then◌else◌}
-use Rattle.std.proofs.lemmas.Bool.{or_parts}
+use Rattle.std.proofs.lemmas.Bool.{cases_Bool, or_parts}
 use Rattle.std.proofs.lemmas.List.Elements.{filter-append}
 use Rattle.md_meaning.specs.Meaning.Footnotes.{distinct, count_of}
 use Rattle.md_footnotes.specs.Entries.{Counted, tally}
@@ -60,67 +60,31 @@ counted-named : (f : List ℕ → ℕ) (xs : List (List ℕ)) (x : List ℕ) →
     counted (named f xs) x ≡ (if is_in x xs then named (plus_one f x) xs else named f xs
     ++ record { identifier = x; count = 1 } ∷ [])
 counted-named f [] x h = refl
-counted-named f (y ∷ ys) x h =
-    let n : ℕ = f y in
-    elim (bytes_eq y x) as
-    (λ b. bytes_eq y x ≡ b → (if b then record { identifier = y; count = suc n } ∷ named f ys
-    else record { identifier = y; count = n } ∷ counted (named f ys) x) ≡ (if b || is_in x ys
-    then record { identifier = y; count = n + (if bytes_eq x y then 1 else 0) }
-    ∷ named (plus_one f x) ys else record { identifier = y; count = n } ∷ named f ys
-    ++ record { identifier = x; count = 1 } ∷ [])) [
-      | true ↦ λ e.
-          ap (λ cs. record { identifier = y; count = suc n } ∷ cs)
-          (sym (named-missing f ys x (ap (λ z. is_in z ys) (sym (same y x e)) ∙ h.0)))
-          ∙ ap (λ m. record { identifier = y; count = m } ∷ named (plus_one f x) ys) (omega arith)
-          ∙ ap (λ b. record { identifier = y; count = n + (if b then 1 else 0) }
-          ∷ named (plus_one f x) ys) (sym (bytes_eq-sym x y ∙ e))
-      | false ↦ λ e.
-          ap (λ cs. record { identifier = y; count = n } ∷ cs) (counted-named f ys x h.1)
-          ∙ elim (is_in x ys) as (λ b. record { identifier = y; count = n } ∷ (if b
-          then named (plus_one f x) ys else named f ys ++ record { identifier = x; count = 1 } ∷ [])
-          ≡ (if b then record { identifier = y; count = n + (if bytes_eq x y then 1 else 0) }
-          ∷ named (plus_one f x) ys else record { identifier = y; count = n } ∷ named f ys
-          ++ record { identifier = x; count = 1 } ∷ [])) [
-            | true ↦
-                ap (λ m. record { identifier = y; count = m } ∷ named (plus_one f x) ys)
-                (omega arith) ∙ ap (λ b. record { identifier = y; count = n + (if b then 1 else 0) }
-                ∷ named (plus_one f x) ys) (sym (bytes_eq-sym x y ∙ e))
-            | false ↦ refl
-          ]
-    ] refl
+counted-named f (y ∷ ys) x h = elim (cases_Bool (bytes_eq y x)) [
+  | inl e ↦ rw e (rw (bytes_eq-sym x y ∙ e) (rw (named-missing f ys x
+      (ap (λ z. is_in z ys) (sym (same y x e)) ∙ h.0))
+      (ap (λ m. record { identifier = y; count = m } ∷ named f ys) (omega arith))))
+  | inr e ↦ rw e (rw (bytes_eq-sym x y ∙ e) (rw (counted-named f ys x h.1)
+      (elim (cases_Bool (is_in x ys)) [
+        | inl t ↦ rw t
+            (ap (λ m. record { identifier = y; count = m } ∷ named (plus_one f x) ys) (omega arith))
+        | inr t ↦ rw t refl
+      ])))
+]
 
 distinct-push : (xs : List (List ℕ)) (z : List ℕ) → distinct (xs ++ z ∷ [])
     ≡ (if is_in z xs then distinct xs else distinct xs ++ z ∷ [])
 distinct-push [] z = refl
 distinct-push (x ∷ xs) z =
-    ap (λ ys. x ∷ others_than x ys) (distinct-push xs z) ∙ elim (bytes_eq x z) as
-    (λ b. bytes_eq x z ≡ b → x ∷ others_than x (if is_in z xs then distinct xs
-    else distinct xs ++ z ∷ []) ≡ (if b || is_in z xs then x ∷ others_than x (distinct xs) else x
-    ∷ others_than x (distinct xs) ++ z ∷ [])) [
-      | true ↦ λ e.
-          elim (is_in z xs) as
-          (λ b. x ∷ others_than x (if b then distinct xs else distinct xs ++ z ∷ []) ≡ x
-          ∷ others_than x (distinct xs)) [
-            | true ↦ refl
-            | false ↦
-                ap (λ ys. x ∷ ys)
-                (filter-append (λ other. not (bytes_eq other x)) (distinct xs) (z ∷ []))
-                ∙ ap (λ b. x ∷ others_than x (distinct xs) ++ cond (not b) (z ∷ []) [])
-                (bytes_eq-sym z x ∙ e)
-                ∙ ap (λ ys. x ∷ ys) (append-nil (others_than x (distinct xs)))
-          ]
-      | false ↦ λ e.
-          elim (is_in z xs) as
-          (λ b. x ∷ others_than x (if b then distinct xs else distinct xs ++ z ∷ []) ≡ (if b
-          then x ∷ others_than x (distinct xs) else x ∷ others_than x (distinct xs) ++ z ∷ [])) [
-            | true ↦ refl
-            | false ↦
-                ap (λ ys. x ∷ ys)
-                (filter-append (λ other. not (bytes_eq other x)) (distinct xs) (z ∷ []))
-                ∙ ap (λ b. x ∷ others_than x (distinct xs) ++ cond (not b) (z ∷ []) [])
-                (bytes_eq-sym z x ∙ e)
-          ]
-    ] refl
+    ap (λ ys. x ∷ others_than x ys) (distinct-push xs z) ∙ (elim (cases_Bool (is_in z xs)) [
+      | inl t ↦ rw t (elim (cases_Bool (bytes_eq x z)) [ inl e ↦ rw e refl | inr e ↦ rw e refl ])
+      | inr t ↦ rw t (rw (filter-append (λ other. not (bytes_eq other x)) (distinct xs) (z ∷ []))
+          (elim (cases_Bool (bytes_eq x z)) [
+            | inl e ↦ rw e (rw (bytes_eq-sym z x ∙ e)
+                (ap (λ ys. x ∷ ys) (append-nil (others_than x (distinct xs)))))
+            | inr e ↦ rw e (rw (bytes_eq-sym z x ∙ e) refl)
+          ]))
+    ])
 
 -- to count one call more is to tally one call more
 pub counted-tally : (calls : List (List ℕ)) (z : List ℕ) →
