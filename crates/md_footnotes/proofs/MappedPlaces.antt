@@ -1,7 +1,8 @@
 -- A map that finds entries by their places finds them when another one comes last.
 use Rattle.std.proofs.Common.{◌≡◌, ℕ, zero, suc, Bool, true, false, cond, List, [], ◌∷◌, ◌++◌}
-use Rattle.std.proofs.Common.{length, Option, Some, None, refl, ap, sym, ◌∙◌, bytes_eq, String}
+use Rattle.std.proofs.Common.{length, Option, Some, None, refl, ap, sym, ◌∙◌, bytes_eq, String, inl, inr}
 use Rattle.std.proofs.Common.{Global, string_bytes}
+use Rattle.std.proofs.lemmas.Bool.{cases_Bool}
 use Rattle.std.specs.Prelude.{if◌then◌else◌, option_map}
 use Rattle.std.specs.Option.{option_map_or}
 use Rattle.std.specs.String.{string_cmp}
@@ -28,15 +29,10 @@ place-push [] e q = refl
 place-push (f ∷ entries) e q =
     ap (λ o. if bytes_eq (string_bytes f.0) q then Some 0
     else option_map (λ place. suc place) o) (place-push entries e q)
-    ∙ elim (bytes_eq (string_bytes f.0) q) as (λ b. (if b then Some 0
-    else option_map (λ place. suc place) (option_map_or (λ place. Some place) (place_in entries q)
-    (if bytes_eq (string_bytes e.0) q then Some (length entries) else None)))
-    ≡ option_map_or (λ place. Some place) (if b then Some 0
-    else option_map (λ place. suc place) (place_in entries q)) (if bytes_eq (string_bytes e.0) q
-    then Some (suc (length entries)) else None)) [
-      | true ↦ refl
-      | false ↦ later (place_in entries q) (bytes_eq (string_bytes e.0) q)
-    ]
+    ∙ (elim (cases_Bool (bytes_eq (string_bytes f.0) q)) [
+      | inl is ↦ rw is refl
+      | inr differ ↦ rw differ (later (place_in entries q) (bytes_eq (string_bytes e.0) q))
+    ])
   where
     later : (o : Option ℕ) (b : Bool) → option_map (λ place. suc place)
         (option_map_or (λ place. Some place) o (if b then Some (length entries) else None))
@@ -60,14 +56,12 @@ places-push old new entries key copy value place missing same last found updates
     ∙ ap (λ n. cond (bytes_eq (string_bytes copy) q) (Some n) (get_by_text old q)) last
     ∙ ap (λ bs. cond (bytes_eq bs q) (Some (length entries)) (get_by_text old q)) same
     ∙ ap (λ o. cond (bytes_eq (string_bytes key) q) (Some (length entries)) o) (found q)
-    ∙ elim (bytes_eq (string_bytes key) q) as (λ b. bytes_eq (string_bytes key) q ≡ b →
-    cond b (Some (length entries)) (place_in entries q) ≡ option_map_or (λ place. Some place)
-    (place_in entries q) (if b then Some (length entries) else None)) [
-      | true ↦ λ t. sym (ap (λ o. option_map_or (λ place. Some place) o (Some (length entries)))
+    ∙ (elim (cases_Bool (bytes_eq (string_bytes key) q)) [
+      | inl t ↦ rw t (sym (ap (λ o. option_map_or (λ place. Some place) o (Some (length entries)))
           (sym (ap (λ bs. place_in entries bs) ((bytes_eq-Decides (string_bytes key) q).0 t))
-          ∙ missing))
-      | false ↦ λ t. itself (place_in entries q)
-    ] refl
+          ∙ missing)))
+      | inr t ↦ rw t (itself (place_in entries q))
+    ])
     ∙ sym (place-push entries (key, value) q)
   where
     itself : (o : Option ℕ) → o ≡ option_map_or (λ place. Some place) o None

@@ -1,11 +1,11 @@
 -- Numbers and counts of calls: what is found in the tally of those so far is what the meaning
 -- finds in their list.
-use Rattle.std.proofs.Common.{◌≡◌, ◌≤◌, ℕ, ◌+◌, zero, suc, Bool, true, false, ◌||◌, not, cond, List}
+use Rattle.std.proofs.Common.{◌≡◌, ◌≤◌, ℕ, ◌+◌, zero, suc, false, List}
 use Rattle.std.proofs.Common.{[], ◌∷◌, ◌++◌, map, refl, ap, sym, ◌∙◌, arith, unwrap_or, bytes_eq}
-use Rattle.std.proofs.Common.{length, Some}
+use Rattle.std.proofs.Common.{length, Some, inl, inr}
 use Rattle.std.specs.Prelude.{if◌then◌else◌, find, slice_get}
 use Rattle.std.specs.Option.{option_map_or}
-use Rattle.std.proofs.lemmas.Bool.{or_parts}
+use Rattle.std.proofs.lemmas.Bool.{cases_Bool, or_parts}
 use Rattle.std.proofs.lemmas.Option.{none-some}
 use Rattle.md_meaning.specs.Meaning.Footnotes.{distinct, count_of, place_among}
 use Rattle.md_footnotes.specs.Entries.{Counted, tally}
@@ -37,50 +37,33 @@ upto x (y ∷ ys) = if bytes_eq y x then [] else y ∷ upto x ys
 placed-upto : (xs : List (List ℕ)) (x : List ℕ) → place_among xs x ≡ suc (length (upto x xs))
 unfolding upto
 placed-upto [] x = refl
-placed-upto (y ∷ ys) x =
-    ap (λ n. if bytes_eq y x then 1 else suc n) (placed-upto ys x)
-    ∙ elim (bytes_eq y x) as (λ b. (if b then 1 else suc (suc (length (upto x ys))))
-    ≡ suc (length (if b then [] else y ∷ upto x ys))) [ true ↦ refl | false ↦ refl ]
+placed-upto (y ∷ ys) x = elim (cases_Bool (bytes_eq y x)) [
+  | inl e ↦ rw e refl
+  | inr e ↦ rw e (ap suc (placed-upto ys x))
+]
 
 upto-others : (y x : List ℕ) (zs : List (List ℕ)) → bytes_eq y x ≡ false →
     upto x (others_than y zs) ≡ others_than y (upto x zs)
 unfolding upto
 upto-others y x [] h = refl
-upto-others y x (z ∷ zs) h =
-    elim (bytes_eq z y) as
-    (λ b. bytes_eq z y ≡ b → upto x (cond (not b) (z ∷ others_than y zs) (others_than y zs))
-    ≡ others_than y (if bytes_eq z x then [] else z ∷ upto x zs)) [
-      | true ↦ λ e.
-          upto-others y x zs h
-          ∙ ap (λ b. cond (not b) (z ∷ others_than y (upto x zs)) (others_than y (upto x zs)))
-          (sym e) ∙ ap (λ b. others_than y (if b then [] else z ∷ upto x zs))
-          (sym (ap (λ w. bytes_eq w x) (same z y e) ∙ h))
-      | false ↦ λ e.
-          elim (bytes_eq z x) as (λ b. (if b then [] else z ∷ upto x (others_than y zs))
-          ≡ others_than y (if b then [] else z ∷ upto x zs)) [
-            | true ↦ refl
-            | false ↦
-                ap (λ ws. z ∷ ws) (upto-others y x zs h)
-                ∙ ap (λ b. cond (not b) (z ∷ others_than y (upto x zs)) (others_than y (upto x zs)))
-                (sym e)
-          ]
-    ] refl
+upto-others y x (z ∷ zs) h = elim (cases_Bool (bytes_eq z y)) [
+  | inl e ↦ rw (ap (λ w. bytes_eq w x) (same z y e) ∙ h) (rw e (upto-others y x zs h))
+  | inr e ↦ elim (cases_Bool (bytes_eq z x)) [
+    | inl t ↦ rw e (rw t refl)
+    | inr t ↦ rw e (rw t (rw e (ap (λ ws. z ∷ ws) (upto-others y x zs h))))
+  ]
+]
 
 -- before its first call after others, an identifier has the same ones before it
 upto-distinct : (xs : List (List ℕ)) (x : List ℕ) →
     upto x (distinct (xs ++ x ∷ [])) ≡ upto x (distinct xs)
 unfolding upto
 upto-distinct [] x = ap (λ b. if b then [] else x ∷ []) (itself x)
-upto-distinct (y ∷ xs) x =
-    elim (bytes_eq y x) as (λ b. bytes_eq y x ≡ b → (if b then [] else y
-    ∷ upto x (others_than y (distinct (xs ++ x ∷ []))))
-    ≡ (if b then [] else y ∷ upto x (others_than y (distinct xs)))) [
-      | true ↦ λ e. refl
-      | false ↦ λ e.
-          ap (λ ws. y ∷ ws) (upto-others y x (distinct (xs ++ x ∷ [])) e
-          ∙ ap (λ ws. others_than y ws) (upto-distinct xs x)
-          ∙ sym (upto-others y x (distinct xs) e))
-    ] refl
+upto-distinct (y ∷ xs) x = elim (cases_Bool (bytes_eq y x)) [
+  | inl e ↦ rw e refl
+  | inr e ↦ rw e (ap (λ ws. y ∷ ws) (upto-others y x (distinct (xs ++ x ∷ [])) e
+      ∙ ap (λ ws. others_than y ws) (upto-distinct xs x) ∙ sym (upto-others y x (distinct xs) e)))
+]
 
 pub number-same : (xs : List (List ℕ)) (x : List ℕ) →
     number_among (tally xs) x ≡ place_among (distinct (xs ++ x ∷ [])) x
@@ -94,35 +77,25 @@ count-found : (f : List ℕ → ℕ) (xs : List (List ℕ)) (x : List ℕ) →
     count_among (map (λ i. record { identifier = i; count = f i }) xs) x
     ≡ (if is_in x xs then f x else 0)
 count-found f [] x = refl
-count-found f (y ∷ ys) x =
-    let found : Bool → Counted → ℕ =
-    λ b first. option_map_or (λ (called : Counted). called.count) (if b then Some first
-    else find (λ called. bytes_eq called.identifier x)
-    (map (λ i. record { identifier = i; count = f i }) ys)) 0 in
-    elim (bytes_eq y x) as (λ b. bytes_eq y x ≡ b → found b (record { identifier = y; count = f y })
-    ≡ (if b || is_in x ys then f x else 0)) [
-      | true ↦ λ e. ap f (same y x e)
-      | false ↦ λ e. count-found f ys x
-    ] refl
+count-found f (y ∷ ys) x = elim (cases_Bool (bytes_eq y x)) [
+  | inl e ↦ rw e (ap f (same y x e))
+  | inr e ↦ rw e (count-found f ys x)
+]
 
 -- how often an identifier was called
 pub count-same : (xs : List (List ℕ)) (x : List ℕ) → count_among (tally xs) x ≡ count_of xs x
 count-same xs x =
     count-found (count_of xs) (distinct xs) x
-    ∙ ap (λ b. if b then count_of xs x else 0) (is_in-distinct xs x) ∙ elim (is_in x xs) as
-    (λ b. is_in x xs ≡ b → (if b then count_of xs x else 0) ≡ count_of xs x) [
-      | true ↦ λ e. refl
-      | false ↦ λ e. sym (count-missing xs x e)
-    ] refl
+    ∙ ap (λ b. if b then count_of xs x else 0) (is_in-distinct xs x)
+    ∙ (elim (cases_Bool (is_in x xs)) [
+      | inl e ↦ rw e refl
+      | inr e ↦ rw e (sym (count-missing xs x e))
+    ])
 
 -- no identifier is called more often than calls there are
 pub count-below : (xs : List (List ℕ)) (x : List ℕ) → count_of xs x ≤ length xs
 count-below [] x = omega arith
-count-below (y ∷ ys) x = more (bytes_eq y x) (count_of ys x) (length ys) (count-below ys x)
-  where
-    more : (b : Bool) (m n : ℕ) → m ≤ n → (if b then 1 else 0) + m ≤ suc n
-    more true m n h = omega (arith, h)
-    more false m n h = omega (arith, h)
+count-below (y ∷ ys) x = let below = count-below ys x in grind (arith, below)
 
 -- the position of the entry at an index, if no two are equal
 not_there : (y x : List ℕ) (ys : List (List ℕ)) (i : ℕ) → is_in y ys ≡ false →
