@@ -12,12 +12,7 @@ one_later : (found : Option ℕ) (index : ℕ) (event : Event) →
     option_map (λ i. suc i) (ending_after found index event)
     ≡ ending_after (option_map (λ i. suc i) found) (suc index) event
 one_later (Some found) index event = refl
-one_later None index event = by (exits_line_ending event)
-  where
-    by : (ends : Bool) → option_map (λ i. suc i) (if ends then Some index else None)
-        ≡ (if ends then Some (suc index) else None)
-    by true = refl
-    by false = refl
+one_later None index event = grind arith
 
 first_index-step : (first event : Event) (events : List Event) →
     first_index (events ++ event ∷ []) ≡ ending_after (first_index events) (length events) event →

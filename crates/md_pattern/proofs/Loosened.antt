@@ -1,6 +1,6 @@
 -- Looseness that looks ahead to a blank line ending, as the pass computes it, equals looseness that
 -- looks back from the blank line ending.
-use Rattle.std.proofs.Common.{◌≡◌, Bool, true, false, not, ◌&&◌, ◌||◌, refl, sym, ap, ◌∙◌}
+use Rattle.std.proofs.Common.{◌≡◌, Bool, true, false, not, ◌&&◌, ◌||◌, refl, sym, ap, ◌∙◌, arith}
 use Rattle.std.specs.Prelude.{if◌then◌else◌}
 use Rattle.md_base.proofs.Lies.{lie}
 use Rattle.md_base.specs.declared.event.Name.{Name}
@@ -25,23 +25,12 @@ ended last but_space (Node name start end children rest) =
 ended-same : (last but_space : Bool) (forest : Forest) →
     ends_bare last but_space forest ≡ ended last but_space forest
 ended-same last but_space Empty = refl
-ended-same last but_space (Node name start end children Empty) = by (is SpaceOrTab name)
-  where
-    by : (space : Bool) → (if space then last else is_bare name children)
-        ≡ (if space && true then last else is_bare name children)
-    by true = refl
-    by false = refl
+ended-same last but_space (Node name start end children Empty) = grind arith
 ended-same last but_space (Node name start end children (Node next begin stop inner rest)) =
-    ended-same (is_bare name children) (if is SpaceOrTab name then last else is_bare name children)
-    (Node next begin stop inner rest)
-    ∙ by (is SpaceOrTab name)
-  where
-    by : (space : Bool) → (if is SpaceOrTab next && is_empty rest then is_bare name children
-        else old.ends_bare (Node next begin stop inner rest)) ≡ (if space && false then last
-        else (if is SpaceOrTab next && is_empty rest then is_bare name children
-        else old.ends_bare (Node next begin stop inner rest)))
-    by true = refl
-    by false = refl
+    let later = ended-same (is_bare name children)
+    (if is SpaceOrTab name then last else is_bare name children)
+    (Node next begin stop inner rest) in
+    grind (arith, later)
 
 -- a space is not bare
 space_bare : (name : Name) (children : Forest) → is SpaceOrTab name ≡ true →
@@ -98,30 +87,7 @@ without-same children =
 arranged : (space blank later last prefix : Bool) (others : Bool) →
     (space && blank) && not last || (not prefix && (blank && not space || later) || others)
     ≡ blank && not (if space then last else prefix) || (later && not prefix || others)
-arranged true true true true true others = refl
-arranged true true true true false others = refl
-arranged true true true false true others = refl
-arranged true true true false false others = refl
-arranged true true false true true others = refl
-arranged true true false true false others = refl
-arranged true true false false true others = refl
-arranged true true false false false others = refl
-arranged true false true true true others = refl
-arranged true false true true false others = refl
-arranged true false true false true others = refl
-arranged true false true false false others = refl
-arranged true false false true true others = refl
-arranged true false false true false others = refl
-arranged true false false false true others = refl
-arranged true false false false false others = refl
-arranged false true true last true others = refl
-arranged false true true last false others = refl
-arranged false true false last true others = refl
-arranged false true false last false others = refl
-arranged false false true last true others = refl
-arranged false false true last false others = refl
-arranged false false false last true others = refl
-arranged false false false last false others = refl
+arranged space blank later last prefix others = grind arith
 
 inner-same : (last but_space : Bool) (forest : Forest) →
     begins_blank forest && not but_space

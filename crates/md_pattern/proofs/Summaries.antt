@@ -1,6 +1,6 @@
 -- The facts that the pass finds about children are those of the definitions.
 use Rattle.std.proofs.Common.{◌≡◌, Bool, true, false, not, ◌&&◌, ◌||◌, cond, Option, Some, None}
-use Rattle.std.proofs.Common.{refl, sym, ap, ◌∙◌}
+use Rattle.std.proofs.Common.{refl, sym, ap, ◌∙◌, arith}
 use Rattle.std.proofs.Math.Bool.{or_assoc, and-true}
 use Rattle.std.specs.Prelude.{unwrap_or}
 use Rattle.std.specs.Option.{option_map_or}
@@ -152,22 +152,7 @@ without_over (Node name start end children rest) summary =
 -- the tests of an item, rearranged
 rearranged : (s p q r n i : Bool) → ((q && cond s n (not p)) || ((r && not p) || i))
     ≡ (((s && q) && n) || ((not p && ((q && not s) || r)) || i))
-rearranged true true true true n i = refl
-rearranged true true true false n i = refl
-rearranged true true false true n i = refl
-rearranged true true false false n i = refl
-rearranged true false true true n i = refl
-rearranged true false true false n i = refl
-rearranged true false false true n i = refl
-rearranged true false false false n i = refl
-rearranged false true true true n i = refl
-rearranged false true true false n i = refl
-rearranged false true false true n i = refl
-rearranged false true false false n i = refl
-rearranged false false true true n i = refl
-rearranged false false true false n i = refl
-rearranged false false false true n i = refl
-rearranged false false false false n i = refl
+rearranged s p q r n i = grind arith
 
 item_over : (forest : Forest) (summary : Summary) → Summary.of_item (summary_over forest summary)
     ≡ (summary.of_item || ((begins_blank forest && loosens summary.last)
