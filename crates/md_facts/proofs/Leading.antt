@@ -1,6 +1,7 @@
 -- The definition that the check gives is the one that is found by its identifier.
-use Rattle.std.proofs.Common.{◌≡◌, ℕ, suc, Bool, true, false, Option, Some, None, List, [], ◌∷◌}
-use Rattle.std.proofs.Common.{refl, sym, ap, ◌∙◌, subst}
+use Rattle.std.proofs.Common.{◌≡◌, ℕ, suc, true, Option, Some, None, List, [], ◌∷◌}
+use Rattle.std.proofs.Common.{refl, sym, ap, ◌∙◌, inl, inr}
+use Rattle.std.proofs.lemmas.Bool.{cases_Bool}
 use Rattle.std.specs.Prelude.{slice_get, if◌then◌else◌, map, option_map, is_some, bytes_eq, IsSome}
 use Rattle.std.specs.Option.{option_map_or}
 use Rattle.std.proofs.lemmas.Option.{slice_get-map}
@@ -40,20 +41,19 @@ use Rattle.md_facts.proofs.Undefined.{built-frees, identifiers-defined}
 -- what is found first is there
 first-got : (xs : List (List ℕ)) (x : List ℕ) (place : ℕ) → first_of xs x ≡ Some place →
     is_some (slice_get xs place) ≡ true
-first-got [] x place e = cc
-first-got (y ∷ ys) x place e = by (bytes_eq y x) (first_of ys x) (λ p f. first-got ys x p f) place e
+first-got [] x place = λ e. cc
+first-got (y ∷ ys) x place = elim (cases_Bool (bytes_eq y x)) [
+  | inl is ↦ rw is (λ e. rw (← some-is e) refl)
+  | inr other ↦ rw other (λ e. later (first_of ys x) (first-got ys x) e)
+]
   where
-    by : (b : Bool) (o : Option ℕ) →
-        ((p : ℕ) → o ≡ Some p → is_some (slice_get ys p) ≡ true) → (place : ℕ) →
-        (if b then Some 0 else option_map (λ p. suc p) o) ≡ Some place →
-        is_some (slice_get (y ∷ ys) place) ≡ true
-    by true o later place e =
-        let none : 0 ≡ place = cc in
-        subst (λ p. is_some (slice_get (y ∷ ys) p) ≡ true) none refl
-    by false None later place e = cc
-    by false (Some p) later place e =
-        let more : suc p ≡ place = cc in
-        subst (λ n. is_some (slice_get (y ∷ ys) n) ≡ true) more (later p refl)
+    some-is : {m n : ℕ} → Some m ≡ Some n → m ≡ n
+    some-is e = cc
+
+    later : (o : Option ℕ) → ((p : ℕ) → o ≡ Some p → is_some (slice_get ys p) ≡ true) →
+        option_map (λ p. suc p) o ≡ Some place → is_some (slice_get (y ∷ ys) place) ≡ true
+    later None got e = cc
+    later (Some p) got e = rw (← some-is e) (got p refl)
 
 mapped-there : {A B : Type 0} (f : A → B) (xs : List A) (place : ℕ) →
     is_some (slice_get (map f xs) place) ≡ true →

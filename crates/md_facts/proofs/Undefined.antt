@@ -1,6 +1,7 @@
 -- No definition stands in a definition.
 use Rattle.std.proofs.Common.{◌≡◌, ℕ, Bool, true, false, ◌&&◌, ◌||◌, not, List, [], ◌∷◌, ◌++◌, refl}
-use Rattle.std.proofs.Common.{sym, ap, ◌∙◌, subst}
+use Rattle.std.proofs.Common.{sym, ap, ap₂, ◌∙◌, subst, inl, inr}
+use Rattle.std.proofs.lemmas.Bool.{cases_Bool}
 use Rattle.std.specs.Prelude.{map, if◌then◌else◌}
 use Rattle.std.proofs.lemmas.List.{map-append}
 use Rattle.md_base.proofs.Lies.{lie}
@@ -10,13 +11,12 @@ use Rattle.md_base.specs.declared.event.Point.{Point}
 use Rattle.md_base.specs.Is.{is}
 use Rattle.md_base.specs.NameTests.{is_transparent}
 use Rattle.md_base.specs.Tree.{Forest, Empty, Node}
-use Rattle.md_meaning.specs.Meaning.At.{Defined, Context, Target, identifier_of}
+use Rattle.md_meaning.specs.Meaning.At.{Defined, Context, identifier_of}
 use Rattle.md_meaning.specs.Meaning.Layout.{when}
 use Rattle.md_content.specs.Built.{Content, Sources, Strings, Nothing, IsBuilt, content_inside}
 use Rattle.md_content.specs.Built.{content_past, content_after, content_after_node, may_stand}
 use Rattle.md_content.specs.References.{Everywhere, defined_in}
-use Rattle.md_steps.specs.State.{facts_of}
-use Rattle.md_steps.specs.Steps.{is_passed, over, entered, beginning}
+use Rattle.md_steps.specs.Steps.{is_passed}
 use Rattle.md_steps.specs.Run.{defined}
 use Rattle.md_content.proofs.Symbols.{implies}
 
@@ -134,35 +134,11 @@ pub identifiers-defined : (context : Context) (forest : Forest) → Everywhere I
     map (λ (d : Defined). d.identifier) (defined context forest) ≡ defined_in context.bytes forest
 identifiers-defined context Empty frees = refl
 identifiers-defined context (Node name start end children rest) frees =
-    map-append of own (defined context rest)
-    ∙ ap (λ xs. map of own ++ xs) (identifiers-defined context rest frees.2)
-    ∙ by (is_passed name) (is Definition name) (passed_is name) frees.0
-    (identifiers-defined context children frees.1)
-  where
-    of : Defined → List ℕ
-    of d = d.identifier
-
-    target : Target
-    target = (over context false children
-        (entered context (facts_of context.bytes false children start end) Definition
-        beginning)).target
-
-    own : List Defined
-    own = if is_passed name
-        then record { identifier = identifier_of context.bytes children; target = target } ∷ []
-        else defined context children
-
-    by : (a b : Bool) → a ≡ b → (a ≡ true → Free children) →
-        map of (defined context children) ≡ defined_in context.bytes children →
-        map of
-        (if a then record { identifier = identifier_of context.bytes children; target = target } ∷
-        []
-        else defined context children) ++ defined_in context.bytes rest
-        ≡ defined_in context.bytes children
-        ++ (when b (identifier_of context.bytes children ∷ []) ++ defined_in context.bytes rest)
-    by true true e free inner =
-        ap (λ xs. xs ++ (identifier_of context.bytes children ∷ defined_in context.bytes rest))
-        (sym (none-defined context.bytes children (free refl)))
-    by false false e free inner = ap (λ xs. xs ++ defined_in context.bytes rest) inner
-    by true false e free inner = lie (sym e)
-    by false true e free inner = lie e
+    let later = identifiers-defined context rest frees.2 in
+    rw (← passed_is name) (elim (cases_Bool (is_passed name)) [
+      | inl passed ↦ rw passed (rw (none-defined context.bytes children (frees.0 passed))
+          (ap (λ xs. identifier_of context.bytes children ∷ xs) later))
+      | inr other ↦ rw other (map-append (λ (d : Defined). d.identifier) (defined context children)
+          (defined context rest) ∙ ap₂ (λ xs ys. xs ++ ys)
+          (identifiers-defined context children frees.1) later)
+    ])

@@ -1,8 +1,9 @@
 -- The first line ending among some events is found event by event.
-use Rattle.std.proofs.Common.{◌≡◌, ◌+◌, ◌<◌, ◌≤◌, ℕ, suc, Bool, true, false, List, [], ◌∷◌, ◌++◌}
+use Rattle.std.proofs.Common.{◌≡◌, ◌+◌, ◌<◌, ◌≤◌, ℕ, suc, List, [], ◌∷◌, ◌++◌}
 use Rattle.std.proofs.Common.{Option, Some, None, refl, ap, sym, ◌∙◌, length, take, get_or, add-one}
-use Rattle.std.proofs.Common.{arith}
-use Rattle.std.specs.Prelude.{if◌then◌else◌, option_map}
+use Rattle.std.proofs.Common.{arith, inl, inr}
+use Rattle.std.proofs.lemmas.Bool.{cases_Bool}
+use Rattle.std.specs.Prelude.{option_map}
 use Rattle.std.proofs.Math.Seq.{take-suc}
 use Rattle.std.proofs.lemmas.List.{length-take-le}
 use Rattle.md_base.specs.declared.event.Event.{Event}
@@ -14,24 +15,14 @@ one_later : (found : Option ℕ) (index : ℕ) (event : Event) →
 one_later (Some found) index event = refl
 one_later None index event = grind arith
 
-first_index-step : (first event : Event) (events : List Event) →
-    first_index (events ++ event ∷ []) ≡ ending_after (first_index events) (length events) event →
-    first_index (first ∷ (events ++ event ∷ [])) ≡ ending_after (first_index (first ∷ events))
-    (suc (length events)) event
-first_index-step first event events e = by (exits_line_ending first)
-  where
-    by : (ends : Bool) →
-        (if ends then Some 0 else option_map (λ i. suc i) (first_index (events ++ event ∷ [])))
-        ≡ ending_after (if ends then Some 0 else option_map (λ i. suc i) (first_index events))
-        (suc (length events)) event
-    by true = refl
-    by false = ap (option_map (λ i. suc i)) e ∙ one_later (first_index events) (length events) event
-
 first_index-append : (events : List Event) (event : Event) →
     first_index (events ++ event ∷ []) ≡ ending_after (first_index events) (length events) event
 first_index-append [] event = refl
-first_index-append (first ∷ events) event =
-    first_index-step first event events (first_index-append events event)
+first_index-append (first ∷ events) event = elim (cases_Bool (exits_line_ending first)) [
+  | inl ends ↦ rw ends refl
+  | inr on ↦ rw on (ap (option_map (λ i. suc i)) (first_index-append events event)
+      ∙ one_later (first_index events) (length events) event)
+]
 
 pub first_index-more : (events : List Event) (index : ℕ) (d : Event) (found : Option ℕ) →
     index < length events →

@@ -1,6 +1,6 @@
 -- Looseness that looks ahead to a blank line ending, as the pass computes it, equals looseness that
 -- looks back from the blank line ending.
-use Rattle.std.proofs.Common.{◌≡◌, Bool, true, false, not, ◌&&◌, ◌||◌, refl, sym, ap, ◌∙◌, arith}
+use Rattle.std.proofs.Common.{◌≡◌, Bool, true, false, not, ◌&&◌, ◌||◌, refl, ap, ◌∙◌, arith}
 use Rattle.std.specs.Prelude.{if◌then◌else◌}
 use Rattle.md_base.proofs.Lies.{lie}
 use Rattle.md_base.specs.declared.event.Name.{Name}
@@ -13,7 +13,7 @@ use Rattle.md_pattern.specs.Looseness.{is_bare, ends_bare, has_parting_blank}
 use Rattle.md_pattern.specs.Looseness.{is_loose_without_items, has_inner_blank, is_loose_item}
 use Rattle.md_pattern.specs.Looseness.{has_loose_item}
 use Rattle.md_pattern.specs.Blanks as old
-use Rattle.md_pattern.specs.Blanks.{begins_blank, begins_space_blank, is_end}
+use Rattle.md_pattern.specs.Blanks.{begins_blank, begins_space_blank}
 
 -- what bare ends are after others
 abbrev ended : Bool → Bool → Forest → Bool
@@ -41,26 +41,13 @@ space_bare _ children h = lie h
 bare-same : (forest : Forest) → old.ends_bare forest ≡ ends_bare false false forest
 bare-same Empty = refl
 bare-same (Node name start end children Empty) =
-    by (is SpaceOrTab name) refl ∙ sym (ended-same false false (Node name start end children Empty))
-  where
-    by : (space : Bool) → is SpaceOrTab name ≡ space → is_bare name children
-        ≡ (if space && true then false else is_bare name children)
-    by true h = space_bare name children h
-    by false h = refl
+    let space = space_bare name children in
+    let ended = ended-same false false (Node name start end children Empty) in
+    grind (arith, space, ended)
 bare-same (Node name start end children (Node next begin stop inner rest)) =
-    by (is SpaceOrTab name)
-    ∙ sym (ended-same false false (Node name start end children (Node next begin stop inner rest)))
-  where
-    by : (space : Bool) →
-        old.ends_bare (Node name start end children (Node next begin stop inner rest))
-        ≡ (if space && false then false
-        else old.ends_bare (Node name start end children (Node next begin stop inner rest)))
-    by true = refl
-    by false = refl
-
-or-assoc : (a b c : Bool) → a || (b || c) ≡ (a || b) || c
-or-assoc true b c = refl
-or-assoc false b c = refl
+    let ended =
+    ended-same false false (Node name start end children (Node next begin stop inner rest)) in
+    grind (arith, ended)
 
 -- lists
 parting-same : (excused : Bool) (forest : Forest) →
@@ -73,15 +60,9 @@ parting-same excused (Node name start end children rest) =
     (bare-same children) ∙ ap (λ b. is BlankLineEnding name && not excused || b)
     (parting-same (is ListItem name && ends_bare false false children) rest)
 
-and-true : (b : Bool) → b ≡ b && true
-and-true true = refl
-and-true false = refl
-
 pub without-same : (children : Forest) →
     old.is_loose_without_items children ≡ is_loose_without_items children
-without-same children =
-    ap (λ b. b || old.has_parting_blank children) (and-true (begins_blank children))
-    ∙ parting-same false children
+without-same children = let parting = parting-same false children in grind (arith, parting)
 
 -- items
 arranged : (space blank later last prefix : Bool) (others : Bool) →
@@ -101,14 +82,7 @@ inner-same last but_space (Node name start end children rest) =
     (if is SpaceOrTab name then last else is ListItemPrefix name) rest)
 
 pub item-same : (children : Forest) → old.is_loose_item children ≡ is_loose_item children
-item-same children =
-    sym (or-assoc (begins_blank children) (begins_space_blank children)
-    (old.has_inner_blank children))
-    ∙ ap (λ b. b || (begins_space_blank children || old.has_inner_blank children))
-    (and-true (begins_blank children))
-    ∙ ap (λ b. begins_blank children && true || (b || old.has_inner_blank children))
-    (and-true (begins_space_blank children))
-    ∙ inner-same false false children
+item-same children = let inner = inner-same false false children in grind (arith, inner)
 
 pub items-same : (children : Forest) → old.has_loose_item children ≡ has_loose_item children
 items-same Empty = refl

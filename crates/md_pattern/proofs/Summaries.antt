@@ -1,14 +1,14 @@
 -- The facts that the pass finds about children are those of the definitions.
 use Rattle.std.proofs.Common.{◌≡◌, Bool, true, false, not, ◌&&◌, ◌||◌, cond, Option, Some, None}
-use Rattle.std.proofs.Common.{refl, sym, ap, ◌∙◌, arith}
+use Rattle.std.proofs.Common.{refl, sym, ap, ◌∙◌, arith, inl, inr}
+use Rattle.std.proofs.lemmas.Bool.{cases_Bool}
 use Rattle.std.proofs.Math.Bool.{or_assoc, and-true}
 use Rattle.std.specs.Prelude.{unwrap_or}
 use Rattle.std.specs.Option.{option_map_or}
-use Rattle.md_base.specs.declared.event.AlignKind.TheVariants as align
 use Rattle.md_base.specs.declared.event.Name.{Name}
 use Rattle.md_base.specs.declared.event.Name.TheVariants as name_variants
 use name_variants.{BlankLineEnding, ListItem, GfmTableDelimiterMarker, SpaceOrTab, ListItemPrefix}
-use name_variants.{BlockQuotePrefix, BlockQuote}
+use name_variants.{BlockQuotePrefix}
 use Rattle.md_pattern.specs.declared.summary.Last.{Last}
 use Rattle.md_pattern.specs.declared.summary.Last.TheVariants as final
 use Rattle.md_pattern.specs.declared.summary.Summary.{Summary}
@@ -21,7 +21,7 @@ use Rattle.md_pattern.specs.Blanks.{begins_blank, begins_space_blank, is_end, en
 use Rattle.md_pattern.specs.Blanks.{has_parting_blank, has_inner_blank, is_loose_item}
 use Rattle.md_pattern.specs.Blanks.{has_loose_item}
 use Rattle.md_pattern.proofs.Loosened.{item-same, without-same, items-same}
-use Rattle.md_pattern.specs.Alignments.{begins_with_marker, ends_with_marker, alignment_of}
+use Rattle.md_pattern.specs.Alignments.{begins_with_marker, alignment_of}
 use Rattle.md_pattern.specs.Summary.{spaced, is_bare_last, parts, loosens, is_nothing}
 use Rattle.md_pattern.specs.Summary.{is_marker_last}
 use Rattle.md_pattern.specs.Summary.{summary_with, empty_summary, summary_over, alignment}
@@ -62,14 +62,12 @@ begins_over Empty summary = or-false summary.begins_with_marker
 begins_over (Node name start end children rest) summary =
     let own = summary_over children empty_summary in
     begins_over rest (summary_with name own summary)
-    ∙ ap (λ b. Summary.begins_with_marker (summary_with name own summary)
-    || (begins_with_marker rest && b)) (IsLast.nothing (last_with name own summary))
-    ∙ by (begins_with_marker rest) (Summary.begins_with_marker (summary_with name own summary))
-    ∙ begins_with name own summary
+    ∙ rw (IsLast.nothing (last_with name own summary)) (rw (begins_with name own summary)
+    (none (begins_with_marker rest)
+    (summary.begins_with_marker || (is GfmTableDelimiterMarker name && is_nothing summary.last))))
   where
-    by : (a b : Bool) → (b || (a && false)) ≡ b
-    by true b = sym (or-false b)
-    by false b = sym (or-false b)
+    none : (a b : Bool) → (b || (a && false)) ≡ b
+    none a b = grind arith
 
 -- nothing stands after a marker in the last of some nodes after another
 abbrev bare_after : Last → Forest → Bool
@@ -83,27 +81,11 @@ bare_step : (rest : Forest) (name : Name) (children : Forest) (own summary : Sum
     ≡ cond (is SpaceOrTab name && is_empty rest) (is_bare_last (spaced summary.last))
     (cond (is_end rest) (is_bare name children) (ends_bare rest))
 bare_step Empty name children own summary quote =
-    IsLast.bare (last_with name own summary)
-    ∙ ap (λ b. cond (is SpaceOrTab name) (is_bare_last (spaced summary.last))
-    (is ListItemPrefix name
-    || (is BlockQuote name && b))) quote
-    ∙ by (is SpaceOrTab name)
-  where
-    by : (s : Bool) → cond s (is_bare_last (spaced summary.last)) (is_bare name children)
-        ≡ cond (s && true) (is_bare_last (spaced summary.last)) (is_bare name children)
-    by true = refl
-    by false = refl
+    rw (IsLast.bare (last_with name own summary)) (rw quote
+    (elim (cases_Bool (is SpaceOrTab name)) [ inl s ↦ rw s refl | inr s ↦ rw s refl ]))
 bare_step (Node next start end inner rest) name children own summary quote =
-    ap (λ b. cond (is SpaceOrTab next && is_empty rest) b
-    (ends_bare (Node next start end inner rest))) (IsLast.bare_spaced (last_with name own summary)
-    ∙ ap (λ b. is ListItemPrefix name || (is BlockQuote name && b)) quote) ∙ by (is SpaceOrTab name)
-  where
-    by : (s : Bool) → cond (is SpaceOrTab next && is_empty rest) (is_bare name children)
-        (ends_bare (Node next start end inner rest)) ≡ cond (s
-        && false) (is_bare_last (spaced summary.last)) (cond (is SpaceOrTab next
-        && is_empty rest) (is_bare name children) (ends_bare (Node next start end inner rest)))
-    by true = refl
-    by false = refl
+    rw (IsLast.bare_spaced (last_with name own summary)) (rw quote
+    (elim (cases_Bool (is SpaceOrTab name)) [ inl s ↦ rw s refl | inr s ↦ rw s refl ]))
 
 bare_over : (forest : Forest) (summary : Summary) → is_bare_last
     (Summary.last (summary_over forest summary))
@@ -227,15 +209,6 @@ of_item-summary children = of_item_summary children ∙ item-same children
 pub alignment-summary : (children : Forest) →
     alignment (summary_over children empty_summary) ≡ alignment_of children
 alignment-summary children =
-    let summary = summary_over children empty_summary in
-    by summary.begins_with_marker (begins_with_marker children) (is_marker_last summary.last)
-    (ends_with_marker children)
-    (begins_over children empty_summary ∙ and-true (begins_with_marker children))
-    (marker_over children empty_summary)
-  where
-    by : (a b c d : Bool) → a ≡ b → c ≡ d →
-        cond a (cond c align.Center align.Left) (cond c align.Right align.None)
-        ≡ cond b (cond d align.Center align.Left) (cond d align.Right align.None)
-    by a b c d e f =
-        ap (λ x. cond x (cond c align.Center align.Left) (cond c align.Right align.None)) e
-        ∙ ap (λ y. cond b (cond y align.Center align.Left) (cond y align.Right align.None)) f
+    let begins = begins_over children empty_summary in
+    let marker = marker_over children empty_summary in
+    grind (arith, begins, marker)
