@@ -42,7 +42,7 @@ pub record IsLast (name : Name) (own before last : Last) : Type 0 where
       ≡ cond (is SpaceOrTab name) (is_bare_last (spaced before)) (bare_by name own)
   pub bare_spaced : is_bare_last (spaced last) ≡ bare_by name own
 
--- by the tests of each last child in turn, which compute
+-- by the tests of each last child one after another, which compute
 abbrev AsTested : Name → Last → Last → Last → Type 0
 AsTested name own before last =
     (is_quote_last last ≡ is BlockQuotePrefix name)
