@@ -1,11 +1,11 @@
 -- Escaped texts: joined, cut and with a byte taken out. So a text that is printed in parts is a
 -- text of the HTML grammar.
-use Rattle.std.proofs.Common.{◌≡◌, ℕ, ◌==◌, Bool, true, false, not, ◌||◌, cond, eqb, List, [], ◌∷◌}
+use Rattle.std.proofs.Common.{◌≡◌, ℕ, ◌==◌, Bool, true, false, not, ◌||◌, eqb, List, [], ◌∷◌}
 use Rattle.std.proofs.Common.{◌++◌, refl, sym, ◌∙◌, inl, inr, codes, Some, None}
 use Rattle.std.specs.Prelude.{if◌then◌else◌, is_some}
 use Rattle.std.specs.List.{list_all}
 use Rattle.std.proofs.lemmas.Bool.{and_parts, and_from, or_cases, or_left, or_right, cond_both}
-use Rattle.std.proofs.lemmas.Bool.{not-true, both_ways}
+use Rattle.std.proofs.lemmas.Bool.{not-true, both_ways, cases_Bool}
 use Rattle.md_text.specs.References.{is_escaped, is_escaped_byte, reference_before, begins_with}
 use Rattle.md_text.specs.References.{outside_references}
 use Rattle.md_text.specs.Url.{sanitized, sanitized_with, normalized_url, has_permitted_protocol}
@@ -57,14 +57,13 @@ completes-append rest more h =
 
 escaped_byte-append : (b : ℕ) (rest more : List ℕ) → is_escaped_byte b rest ≡ true →
     is_escaped_byte b (rest ++ more) ≡ true
-escaped_byte-append b rest more h = by ((b == 0) || (b == 60) || (b == 62) || (b == 34)) (b == 38) h
-  where
-    by : (special and : Bool) →
-        cond special false (cond and (completes_reference rest) true) ≡ true →
-        cond special false (cond and (completes_reference (rest ++ more)) true) ≡ true
-    by true and h = h
-    by false true h = completes-append rest more h
-    by false false h = refl
+escaped_byte-append b rest more = elim (cases_Bool ((b == 0) || (b == 60) || (b == 62) || (b == 34))) [
+  | inl special ↦ rw special (λ h. h)
+  | inr plain ↦ rw plain (elim (cases_Bool (b == 38)) [
+    | inl is ↦ rw is (completes-append rest more)
+    | inr other ↦ rw other (λ h. h)
+  ])
+]
 
 pub escaped-append : (x y : List ℕ) → is_escaped x ≡ true → is_escaped y ≡ true →
     is_escaped (x ++ y) ≡ true
@@ -115,15 +114,14 @@ completes-without b text more out h =
 
 escaped_byte-without : (b c : ℕ) (text more : List ℕ) → outside_references b ≡ true →
     is_escaped_byte c (text ++ (b ∷ more)) ≡ true → is_escaped_byte c (text ++ more) ≡ true
-escaped_byte-without b c text more out h =
-    by ((c == 0) || (c == 60) || (c == 62) || (c == 34)) (c == 38) h
-  where
-    by : (special and : Bool) →
-        cond special false (cond and (completes_reference (text ++ (b ∷ more))) true) ≡ true →
-        cond special false (cond and (completes_reference (text ++ more)) true) ≡ true
-    by true and h = h
-    by false true h = completes-without b text more out h
-    by false false h = refl
+escaped_byte-without b c text more out =
+    elim (cases_Bool ((c == 0) || (c == 60) || (c == 62) || (c == 34))) [
+      | inl special ↦ rw special (λ h. h)
+      | inr plain ↦ rw plain (elim (cases_Bool (c == 38)) [
+        | inl is ↦ rw is (completes-without b text more out)
+        | inr other ↦ rw other (λ h. h)
+      ])
+    ]
 
 -- such a byte may be removed from an escaped text
 pub escaped-without : (b : ℕ) (text more : List ℕ) → outside_references b ≡ true →

@@ -2,12 +2,11 @@
 -- texts. `md_safe` counts by this that no two ids are equal.
 use Rattle.std.specs.Prelude.{bytes_eq}
 use Rattle.std.specs.List.{list_all, list_any}
-use Rattle.std.proofs.Common.{◌≡◌, ℕ, suc, ◌+◌, ◌≤◌, Bool, true, false, not, ◌&&◌, ◌||◌, cond, List}
+use Rattle.std.proofs.Common.{◌≡◌, ℕ, suc, ◌+◌, ◌≤◌, Bool, true, false, not, ◌&&◌, cond, List}
 use Rattle.std.proofs.Common.{[], ◌∷◌, ◌++◌, refl, sym, ap, ap₂, ◌∙◌, subst, arith, append-nil}
 use Rattle.std.proofs.Common.{append_assoc, codes}
 use Rattle.std.proofs.lemmas.Bool.{and_parts, and_from}
 use Rattle.std.proofs.lemmas.Slice.Eq.{bytes_eq-Decides}
-use Rattle.md_base.proofs.Lies.{lie}
 use Rattle.md_text.specs.References.{read_back}
 use Rattle.md_text.specs.Html.{Attribute, Forest, Empty, Text, Void, Element, is_forest, is_tag}
 use Rattle.md_text.specs.Html.{elements, void_tags, written_attributes, written, opening_tag}
@@ -27,29 +26,14 @@ occurs w (x ∷ xs) = cond (bytes_eq x w) (suc (occurs w xs)) (occurs w xs)
 pub occurs-append : (w : List ℕ) (xs ys : List (List ℕ)) →
     occurs w (xs ++ ys) ≡ occurs w xs + occurs w ys
 occurs-append w [] ys = omega arith
-occurs-append w (x ∷ xs) ys = by (bytes_eq x w) (occurs-append w xs ys)
-  where
-    by : (is : Bool) → occurs w (xs ++ ys) ≡ occurs w xs + occurs w ys →
-        cond is (suc (occurs w (xs ++ ys))) (occurs w (xs ++ ys))
-        ≡ cond is (suc (occurs w xs)) (occurs w xs) + occurs w ys
-    by true e = omega (e, arith)
-    by false e = e
+occurs-append w (x ∷ xs) ys = let later = occurs-append w xs ys in grind (arith, later)
 
 -- an attribute that isn't this `id`
 abbrev pub is_without : List ℕ → Attribute → Bool
 is_without w a = not (bytes_eq a.name (codes "id") && bytes_eq (read_back a.value) w)
 
 none-attribute : (w : List ℕ) (a : Attribute) → is_without w a ≡ true → occurs w (id_in a) ≡ 0
-none-attribute w a = by (bytes_eq a.name (codes "id"))
-  where
-    of : (is : Bool) → not is ≡ true → cond {A = ℕ} is (suc 0) 0 ≡ 0
-    of true h = lie h
-    of false h = refl
-
-    by : (id : Bool) → not (id && bytes_eq (read_back a.value) w) ≡ true
-        → occurs w (cond id (read_back a.value ∷ []) []) ≡ 0
-    by true h = of (bytes_eq (read_back a.value) w) h
-    by false h = refl
+none-attribute w a h = grind (arith, h)
 
 pub none-attributes : (w : List ℕ) (attributes : List Attribute) →
     list_all (is_without w) attributes ≡ true →
@@ -263,31 +247,17 @@ counts-takes w n before endings inserted h counted hx =
 occurs-any : (x : List ℕ) (xs : List (List ℕ)) → occurs x xs ≡ 0 →
     list_any (λ y. bytes_eq y x) xs ≡ false
 occurs-any x [] h = refl
-occurs-any x (y ∷ ys) h = by (bytes_eq y x) (occurs-any x ys) h
-  where
-    by : (is : Bool) → (occurs x ys ≡ 0 → list_any (λ y. bytes_eq y x) ys ≡ false)
-        → cond is (suc (occurs x ys)) (occurs x ys) ≡ 0 →
-        (is || list_any (λ y. bytes_eq y x) ys) ≡ false
-    by true later e = absurd (omega (e, arith))
-    by false later e = later e
+occurs-any x (y ∷ ys) h = let later = occurs-any x ys in grind (arith, h, later)
 
 -- where each text is among some at most once, no two of them are equal
 pub distinct-ids : (xs : List (List ℕ)) → ((w : List ℕ) → occurs w xs ≤ 1) → are_distinct xs ≡ true
 distinct-ids [] h = refl
 distinct-ids (x ∷ xs) h =
-    and_from (not (list_any (λ y. bytes_eq y x) xs)) (are_distinct xs) (ap not
-    (occurs-any x xs (omega (first (bytes_eq x x) ((bytes_eq-Decides x x).1 refl) (h x), arith))))
-    (distinct-ids xs (λ w. later w (bytes_eq x w) (h w)))
-  where
-    first : (is : Bool) → is ≡ true → cond is (suc (occurs x xs)) (occurs x xs) ≤ 1 →
-        occurs x xs ≤ 0
-    first true e few = omega (few, arith)
-    first false e few = lie e
-
-    later : (w : List ℕ) (is : Bool) → cond is (suc (occurs w xs)) (occurs w xs) ≤ 1 →
-        occurs w xs ≤ 1
-    later w true few = omega (few, arith)
-    later w false few = few
+    let itself = (bytes_eq-Decides x x).1 refl in
+    let few = h x in
+    and_from (not (list_any (λ y. bytes_eq y x) xs)) (are_distinct xs)
+    (ap not (occurs-any x xs (grind (arith, itself, few))))
+    (distinct-ids xs (λ w. let few = h w in grind (arith, few)))
 
 -- where each id stands in a reading of a text at most once, the text has distinct ids
 pub counted-once : (x : List ℕ) → ((w : List ℕ) → Counts w 1 x) → HasDistinctIds x

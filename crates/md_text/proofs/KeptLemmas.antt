@@ -1,8 +1,8 @@
 -- Bytes that stay: those before the first that doesn't are themselves, escaped.
 use Rattle.std.proofs.Common.{◌≡◌, ℕ, ◌+◌, ◌<◌, ◌≤◌, inl, inr, Bool, true, false, List, [], ◌∷◌}
-use Rattle.std.proofs.Common.{◌++◌, length, take, refl, sym, ap, ap₂, subst, ◌∙◌, arith, cond, suc}
+use Rattle.std.proofs.Common.{◌++◌, length, take, refl, sym, ap, ap₂, subst, ◌∙◌, arith, suc}
 use Rattle.std.proofs.lemmas.List.{take_all}
-use Rattle.std.proofs.lemmas.Bool.{cases_lt, both_ways}
+use Rattle.std.proofs.lemmas.Bool.{cases_lt, cases_Bool, both_ways}
 use Rattle.std.specs.Cmp.Lexicographic.{bytes_decides}
 use Rattle.std.specs.List.{prefix_len}
 use Rattle.md_text.specs.Encode.{encoded, encoded_byte}
@@ -22,16 +22,12 @@ next n = omega arith
 pub encoded-kept : (html : Bool) (bs : List ℕ) →
     encoded html (take (prefix_len (is_kept html) bs) bs) ≡ take (prefix_len (is_kept html) bs) bs
 encoded-kept html [] = refl
-encoded-kept html (b ∷ bs) = by_first (is_kept html b) refl (encoded-kept html bs)
-  where
-    by_first : (t : Bool) → is_kept html b ≡ t →
-        encoded html (take (prefix_len (is_kept html) bs) bs)
-        ≡ take (prefix_len (is_kept html) bs) bs →
-        encoded html (take (cond t (1 + prefix_len (is_kept html) bs) 0) (b ∷ bs))
-        ≡ take (cond t (1 + prefix_len (is_kept html) bs) 0) (b ∷ bs)
-    by_first true e rest = subst (λ n. encoded html (take n (b ∷ bs)) ≡ take n (b ∷ bs))
-        (next (prefix_len (is_kept html) bs)) (ap₂ (λ x y. x ++ y) (kept-stays html b e) rest)
-    by_first false e rest = refl
+encoded-kept html (b ∷ bs) = elim (cases_Bool (is_kept html b)) [
+  | inl e ↦ rw e (subst (λ n. encoded html (take n (b ∷ bs)) ≡ take n (b ∷ bs))
+      (next (prefix_len (is_kept html) bs))
+      (ap₂ (λ x y. x ++ y) (kept-stays html b e) (encoded-kept html bs)))
+  | inr e ↦ rw e refl
+]
 
 -- all bytes, where each stays
 pub encoded-all_kept : (html : Bool) (bs : List ℕ) → length bs ≤ prefix_len (is_kept html) bs →

@@ -1,5 +1,5 @@
 -- The parts of a URL: runs of plain bytes, percent triples, and bytes that become triples.
-use Rattle.std.proofs.Common.{◌≡◌, ◌≢◌, ℕ, ◌+◌, ◌<◌, ◌≤◌, ◌/◌, ◌%◌, Bool, true, false, not, ◌&&◌}
+use Rattle.std.proofs.Common.{◌≡◌, ◌≢◌, ℕ, ◌+◌, ◌<◌, ◌≤◌, ◌/◌, ◌%◌, true, false, not, ◌&&◌}
 use Rattle.std.proofs.Common.{cond, eqb, List, [], ◌∷◌, ◌++◌, ◌||◌, length, get_or, take, drop, min}
 use Rattle.std.proofs.Common.{codes, Fits, w8, refl, sym, ap, ap₂, subst, ◌∙◌, arith, append-nil}
 use Rattle.std.proofs.Common.{append_assoc, suc, zero, suc-le-suc, inl, inr, lit<}
@@ -89,24 +89,16 @@ plain-ascii b p =
 
 -- plain bytes at the front
 pub kept-plain : (n : ℕ) (bs : List ℕ) → n ≤ prefix_len is_plain bs → AreKept bs n
-kept-plain zero bs le = (omega arith, All-nil IsAsciiByte, refl)
-kept-plain (suc n) [] le = absurd (omega arith)
-kept-plain (suc n) (b ∷ bs) le = by_first (is_plain b) refl (kept-plain n bs)
-  where
-    by_first : (t : Bool) → is_plain b ≡ t → (n ≤ prefix_len is_plain bs → AreKept bs n) →
-        AreKept (b ∷ bs) (suc n)
-    by_first true e rest =
-        let whole : prefix_len is_plain (b ∷ bs) ≡ 1 + prefix_len is_plain bs =
-        ap (λ t. cond t (1 + prefix_len is_plain bs) 0) e in
-        let kept = rest (omega arith) in (
-          suc-le-suc kept.0,
-          All-cons IsAsciiByte b (take n bs) (plain-ascii b e) kept.1,
-          ap (λ x. b ∷ x) kept.2 ∙ sym (sanitized-plain b bs e),
-        )
-    by_first false e rest =
-        let none : prefix_len is_plain (b ∷ bs) ≡ 0 =
-        ap (λ t. cond t (1 + prefix_len is_plain bs) 0) e in
-        absurd (omega arith)
+kept-plain zero bs = λ le. (omega arith, All-nil IsAsciiByte, refl)
+kept-plain (suc n) [] = λ le. absurd (omega (arith, le))
+kept-plain (suc n) (b ∷ bs) = elim (cases_Bool (is_plain b)) [
+  | inl e ↦ rw e (λ le. let kept = kept-plain n bs (omega (arith, le)) in (
+    suc-le-suc kept.0,
+    All-cons IsAsciiByte b (take n bs) (plain-ascii b e) kept.1,
+    ap (λ x. b ∷ x) kept.2 ∙ sym (sanitized-plain b bs e),
+  ))
+  | inr e ↦ rw e (λ le. absurd (omega (arith, le)))
+]
 
 -- a percent triple at the front
 triple-plain : (b : ℕ) → is_triple_byte b ≡ true → is_plain b ≡ true
@@ -153,19 +145,11 @@ kept-join bs n m front later =
 -- where the plain bytes end, and no triple begins
 pub kept-ends : (bs : List ℕ) → begins_triple (drop (prefix_len is_plain bs) bs) ≡ false →
     begins_kept (drop (prefix_len is_plain bs) bs) ≡ false
-kept-ends [] other = refl
-kept-ends (b ∷ bs) other = by_first (is_plain b) refl (kept-ends bs) other
-  where
-    by_first : (t : Bool) → is_plain b ≡ t →
-        (begins_triple (drop (prefix_len is_plain bs) bs) ≡ false →
-        begins_kept (drop (prefix_len is_plain bs) bs) ≡ false) →
-        begins_triple (drop (cond t (1 + prefix_len is_plain bs) 0) (b ∷ bs)) ≡ false →
-        begins_kept (drop (cond t (1 + prefix_len is_plain bs) 0) (b ∷ bs)) ≡ false
-    by_first true e rest other =
-        subst (λ n. begins_kept (drop n (b ∷ bs)) ≡ false) (next (prefix_len is_plain bs))
-        (rest (subst (λ n. begins_triple (drop n (b ∷ bs)) ≡ false)
-        (sym (next (prefix_len is_plain bs))) other))
-    by_first false e rest other = ap₂ (λ x y. x || y) e other
+kept-ends [] = λ other. refl
+kept-ends (b ∷ bs) = elim (cases_Bool (is_plain b)) [
+  | inl e ↦ rw e (rw (← next (prefix_len is_plain bs)) (kept-ends bs))
+  | inr e ↦ rw e (λ other. ap₂ (λ x y. x || y) e other)
+]
 
 -- a plain byte, and those after it
 pub first-plain : (bs : List ℕ) (n : ℕ) → 1 ≤ length bs → is_plain (get_or bs 0 0) ≡ true →

@@ -2,15 +2,15 @@
 -- was checked.
 use Rattle.std.specs.Prelude.{◌||◌}
 use Rattle.std.specs.Str.{bytes_eq}
-use Rattle.std.proofs.Common.{◌≡◌, ◌≢◌, ℕ, ◌==◌, Bool, true, false, not, ◌&&◌, cond, List, [], ◌∷◌}
-use Rattle.std.proofs.Common.{take, length, Option, Some, None, option_map, refl, sym, ap, ap₂, ◌∙◌}
-use Rattle.std.proofs.Common.{subst, ne_eqb, eqb-true, inl, inr, codes, zero, suc, ◌+◌, ◌<◌, get_or}
+use Rattle.std.proofs.Common.{◌≡◌, ◌≢◌, ℕ, ◌==◌, Bool, true, false, not, List, [], ◌∷◌}
+use Rattle.std.proofs.Common.{take, length, Option, Some, None, option_map, refl, sym, ap, ◌∙◌}
+use Rattle.std.proofs.Common.{subst, ne_eqb, eqb-true, inl, inr, codes, zero, suc, ◌<◌, get_or}
 use Rattle.std.proofs.Common.{arith, zero-lt-suc}
 use Rattle.std.specs.List.{list_all, prefix_len}
 use Rattle.std.specs.Option.{option_map_or}
 use Rattle.std.specs.Cmp.Lexicographic.{bytes_decides}
 use Rattle.std.proofs.lemmas.Bool.{cases_eq, cases_Bool, and_parts, or_cases, cond_both, and_from}
-use Rattle.std.proofs.lemmas.Bool.{not-true, both_ways}
+use Rattle.std.proofs.lemmas.Bool.{both_ways}
 use Rattle.md_text.specs.Bytes.{lower, lowered, is_one_of}
 use Rattle.md_text.specs.Kept.{goes_on}
 use Rattle.md_text.specs.References.{read_back, read_back_after, referenced, reference_tail}
@@ -28,70 +28,45 @@ ends_protocol b = (b == 63) || (b == 35) || (b == 47)
 
 pub protocol_of-goes_on : (b : ℕ) (rest : List ℕ) → goes_on b ≡ true →
     protocol_of (b ∷ rest) ≡ option_map (λ before. b ∷ before) (protocol_of rest)
-protocol_of-goes_on b rest e =
-    let parts = and_parts (not (b == 58)) (not (ends_protocol b)) e in
-    ap₂ (λ s t. cond s (Some [])
-    (cond t None (option_map (λ before. b ∷ before) (protocol_of rest))))
-    (not-true (b == 58) parts.0) (not-true (ends_protocol b) parts.1)
+protocol_of-goes_on b rest e = grind (arith, e)
 
 pub protocol_of-colon : (b : ℕ) (rest : List ℕ) → (b == 58) ≡ true →
     protocol_of (b ∷ rest) ≡ Some []
-protocol_of-colon b rest e = ap (λ s. cond s (Some []) (cond (ends_protocol b) None
-    (option_map (λ before. b ∷ before) (protocol_of rest)))) e
+protocol_of-colon b rest e = rw e refl
 
 pub protocol_of-end : (b : ℕ) (rest : List ℕ) → (b == 58) ≡ false → ends_protocol b ≡ true →
     protocol_of (b ∷ rest) ≡ None
-protocol_of-end b rest e f = ap₂ (λ s t. cond s (Some [])
-    (cond t None (option_map (λ before. b ∷ before) (protocol_of rest)))) e f
+protocol_of-end b rest e f = rw e (rw f refl)
 
 both : (b : ℕ) → (b == 58) ≡ false → ends_protocol b ≡ false → goes_on b ≡ true
-both b e f = ap₂ (λ s t. not s && not t) e f
+both b e f = rw e (rw f refl)
 
 -- where bytes that go on end
 pub protocol_of-colon_at : (url : List ℕ) → prefix_len goes_on url < length url →
     (get_or url (prefix_len goes_on url) 0 == 58) ≡ true →
     protocol_of url ≡ Some (take (prefix_len goes_on url) url)
-protocol_of-colon_at [] inside colon = absurd (omega arith)
-protocol_of-colon_at (b ∷ rest) inside colon =
-    by_first (goes_on b) refl (protocol_of-colon_at rest) inside colon
-  where
-    by_first : (t : Bool) → goes_on b ≡ t →
-        (prefix_len goes_on rest < length rest → (get_or rest (prefix_len goes_on rest) 0 == 58)
-        ≡ true → protocol_of rest ≡ Some (take (prefix_len goes_on rest) rest)) →
-        cond t (1 + prefix_len goes_on rest) 0 < suc (length rest) →
-        (get_or (b ∷ rest) (cond t (1 + prefix_len goes_on rest) 0) 0 == 58) ≡ true →
-        protocol_of (b ∷ rest) ≡ Some (take (cond t (1 + prefix_len goes_on rest) 0) (b ∷ rest))
-    by_first true e later inside colon =
-        let n = prefix_len goes_on rest in
-        let found = later (omega (arith, inside))
-        (subst (λ m. (get_or (b ∷ rest) m 0 == 58) ≡ true) (sym (next n)) colon) in
-        subst (λ m. protocol_of (b ∷ rest) ≡ Some (take m (b ∷ rest))) (next n)
-        (protocol_of-goes_on b rest e ∙ ap (option_map (λ before. b ∷ before)) found)
-    by_first false e later inside colon = protocol_of-colon b rest colon
+protocol_of-colon_at [] = λ inside colon. absurd (omega (arith, inside))
+protocol_of-colon_at (b ∷ rest) = elim (cases_Bool (goes_on b)) [
+  | inl e ↦ rw e (rw (← next (prefix_len goes_on rest)) (λ inside colon.
+      protocol_of-goes_on b rest e ∙ ap (option_map (λ before. b ∷ before))
+      (protocol_of-colon_at rest (omega (arith, inside)) colon)))
+  | inr e ↦ rw e (λ inside colon. protocol_of-colon b rest colon)
+]
 
 pub protocol_of-none_at : (url : List ℕ) →
     (prefix_len goes_on url < length url → (get_or url (prefix_len goes_on url) 0 == 58) ≡ false) →
     protocol_of url ≡ None
-protocol_of-none_at [] other = refl
-protocol_of-none_at (b ∷ rest) other = by_first (goes_on b) refl (protocol_of-none_at rest) other
-  where
-    by_first : (t : Bool) → goes_on b ≡ t →
-        ((prefix_len goes_on rest < length rest →
-        (get_or rest (prefix_len goes_on rest) 0 == 58) ≡ false) → protocol_of rest ≡ None) →
-        (cond t (1 + prefix_len goes_on rest) 0 < suc (length rest) →
-        (get_or (b ∷ rest) (cond t (1 + prefix_len goes_on rest) 0) 0 == 58) ≡ false) →
-        protocol_of (b ∷ rest) ≡ None
-    by_first true e later other =
-        let n = prefix_len goes_on rest in
-        protocol_of-goes_on b rest e ∙ ap (option_map (λ before. b ∷ before))
-        (later (λ inside. subst (λ m. (get_or (b ∷ rest) m 0 == 58) ≡ false) (sym (next n))
-        (other (omega (arith, inside)))))
-    by_first false e later other =
-        let plain = other (zero-lt-suc (length rest)) in
-        elim (cases_Bool (ends_protocol b)) [
-          | inl ends ↦ protocol_of-end b rest plain ends
-          | inr goes ↦ absurd (both_ways (goes_on b) e (both b plain goes))
-        ]
+protocol_of-none_at [] = λ other. refl
+protocol_of-none_at (b ∷ rest) = elim (cases_Bool (goes_on b)) [
+  | inl e ↦ rw e (rw (← next (prefix_len goes_on rest)) (λ other.
+      protocol_of-goes_on b rest e ∙ ap (option_map (λ before. b ∷ before))
+      (protocol_of-none_at rest (λ inside. other (omega (arith, inside))))))
+  | inr e ↦ rw e (λ other. let plain = other (zero-lt-suc (length rest)) in
+      elim (cases_Bool (ends_protocol b)) [
+        | inl ends ↦ protocol_of-end b rest plain ends
+        | inr goes ↦ absurd (both_ways (goes_on b) e (both b plain goes))
+      ])
+]
 
 -- the first bytes go on
 abbrev pub front_goes_on : ℕ → List ℕ → Bool

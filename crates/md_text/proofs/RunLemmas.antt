@@ -1,6 +1,6 @@
 -- Bytes that one step reads: from the mask of a load to the number of its bytes before the first
 -- that fails.
-use Rattle.std.proofs.Common.{◌≡◌, ℕ, ◌+◌, ◌%◌, ◌^◌, ◌<◌, ◌≤◌, eqb, Bool, true, false, not, cond}
+use Rattle.std.proofs.Common.{◌≡◌, ℕ, ◌+◌, ◌%◌, ◌^◌, ◌<◌, ◌≤◌, eqb, Bool, true, not, cond}
 use Rattle.std.proofs.Common.{List, [], ◌∷◌, map, length, get_or, take, drop, min, Fits, w8, refl}
 use Rattle.std.proofs.Common.{ap, ap₂, ◌∙◌, arith, zero, suc}
 use Rattle.std.proofs.lemmas.Bool.{agree_below, agree_below_at}
@@ -16,30 +16,16 @@ pub prefix_len-drop : (q : ℕ → Bool) (i : ℕ) (xs : List ℕ) → i ≤ pre
     prefix_len q xs ≡ i + prefix_len q (drop i xs)
 prefix_len-drop q zero xs le = omega arith
 prefix_len-drop q (suc i) [] le = omega arith
-prefix_len-drop q (suc i) (x ∷ xs) le = by_first (q x) refl (prefix_len-drop q i xs)
-  where
-    by_first : (t : Bool) → q x ≡ t →
-        (i ≤ prefix_len q xs → prefix_len q xs ≡ i + prefix_len q (drop i xs)) →
-        prefix_len q (x ∷ xs) ≡ suc i + prefix_len q (drop i xs)
-    by_first true e rest =
-        let whole : prefix_len q (x ∷ xs) ≡ 1 + prefix_len q xs =
-        ap (λ b. cond b (1 + prefix_len q xs) 0) e in
-        omega (arith, rest (omega arith))
-    by_first false e rest =
-        let none : prefix_len q (x ∷ xs) ≡ 0 = ap (λ b. cond b (1 + prefix_len q xs) 0) e in
-        omega arith
+prefix_len-drop q (suc i) (x ∷ xs) le =
+    let rest = prefix_len-drop q i xs in
+    grind (arith, le, rest)
 
 -- of the first n
 prefix_len-take : (q : ℕ → Bool) (n : ℕ) (xs : List ℕ) →
     prefix_len q (take n xs) ≡ min n (prefix_len q xs)
 prefix_len-take q zero xs = omega arith
 prefix_len-take q (suc n) [] = omega arith
-prefix_len-take q (suc n) (x ∷ xs) = by_first (q x) (prefix_len-take q n xs)
-  where
-    by_first : (t : Bool) → prefix_len q (take n xs) ≡ min n (prefix_len q xs) →
-        cond t (1 + prefix_len q (take n xs)) 0 ≡ min (suc n) (cond t (1 + prefix_len q xs) 0)
-    by_first true rest = omega arith
-    by_first false rest = omega arith
+prefix_len-take q (suc n) (x ∷ xs) = let rest = prefix_len-take q n xs in grind (arith, rest)
 
 -- two tests that agree on bytes
 prefix_len-agree : (p q : ℕ → Bool) → agree_below p q 256 ≡ true → (xs : List ℕ) →
