@@ -99,8 +99,8 @@ paired-rows all (Node name start end children rest) index outermost seen later e
       (paired-rows all children (suc index) false (seen ++ opening ∷ [])
       (closing ∷ (after ++ later)) one-seen refl inner-there) (
         own false exit refl,
-        paired-rows all rest (suc exit) outermost (((seen ++ opening ∷ []) ++ inner) ++ closing ∷ [])
-            later (length_one ((seen ++ opening ∷ []) ++ inner) closing ∙ ap suc inner-seen) nil
+        paired-rows all rest (suc exit) outermost
+            (((seen ++ opening ∷ []) ++ inner) ++ closing ∷ []) later (length_one ((seen ++ opening ∷ []) ++ inner) closing ∙ ap suc inner-seen) nil
             (after_node all seen inner after later opening closing same),
       ),
 )

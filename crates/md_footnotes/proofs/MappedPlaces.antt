@@ -1,6 +1,7 @@
 -- A map that finds entries by their places finds them when another one comes last.
 use Rattle.std.proofs.Common.{◌≡◌, ℕ, zero, suc, Bool, true, false, cond, List, [], ◌∷◌, ◌++◌}
-use Rattle.std.proofs.Common.{length, Option, Some, None, refl, ap, sym, ◌∙◌, bytes_eq, String, inl, inr}
+use Rattle.std.proofs.Common.{length, Option, Some, None, refl, ap, sym, ◌∙◌, bytes_eq, String, inl}
+use Rattle.std.proofs.Common.{inr}
 use Rattle.std.proofs.Common.{Global, string_bytes}
 use Rattle.std.proofs.lemmas.Bool.{cases_Bool}
 use Rattle.std.specs.Prelude.{if◌then◌else◌, option_map}

@@ -13,7 +13,8 @@ use Rattle.md_footnotes.specs.Entries.{again, place_in, count_in}
 use Rattle.md_footnotes.proofs.Tally.{counted, counted-tally}
 use Rattle.md_footnotes.proofs.Numbers.{count_among, count-same}
 use Rattle.md_meaning.proofs.Identifiers.{same}
-use Rattle.md_footnotes.proofs.Placing.{placed_by, place-below, counted-again, counted-new, count-at}
+use Rattle.md_footnotes.proofs.Placing.{placed_by, place-below, counted-again, counted-new}
+use Rattle.md_footnotes.proofs.Placing.{count-at}
 
 -- the identifier at its place
 identifier-at : (entries : List (String Global × ℕ)) (q : List ℕ) (i : ℕ) →

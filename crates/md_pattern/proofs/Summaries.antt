@@ -41,7 +41,8 @@ quote_over Empty summary = refl
 quote_over (Node name start end children rest) summary =
     let own = summary_over children empty_summary in
     quote_over rest (summary_with name own summary)
-    ∙ ap (λ b. option_map_or (is BlockQuotePrefix) (last_name rest) b) (IsLast.quote (last_with name own summary))
+    ∙ ap (λ b. option_map_or (is BlockQuotePrefix) (last_name rest) b)
+    (IsLast.quote (last_with name own summary))
     ∙ last_step (is BlockQuotePrefix) (last_name rest) name
 
 marker_over : (forest : Forest) (summary : Summary) → is_marker_last
@@ -125,7 +126,8 @@ without_over (Node name start end children rest) summary =
     ∙ ap (λ b. (b || (begins_blank rest && parts (Summary.last (summary_with name own summary))))
     || has_parting_blank rest) (without_with name own summary)
     ∙ ap (λ b. ((summary.without_items || (is BlankLineEnding name && parts summary.last))
-    || (begins_blank rest && b)) || has_parting_blank rest) (IsLast.parting (last_with name own summary)
+    || (begins_blank rest && b)) || has_parting_blank rest)
+    (IsLast.parting (last_with name own summary)
     ∙ ap (λ b. not (is ListItem name && b)) (bare_over children empty_summary
     ∙ ends_bare-end children))
     ∙ or_assoc (summary.without_items || (is BlankLineEnding name && parts summary.last))
@@ -153,7 +155,8 @@ item_over (Node name start end children rest) summary =
     ∙ ap (λ b. (summary.of_item || (is BlankLineEnding name && loosens summary.last))
     || ((begins_blank rest
     && cond (is SpaceOrTab name) (not_prefix summary.last) (not (is ListItemPrefix name)))
-    || ((begins_space_blank rest && b) || has_inner_blank rest))) (IsLast.prefix (last_with name own summary))
+    || ((begins_space_blank rest && b) || has_inner_blank rest)))
+    (IsLast.prefix (last_with name own summary))
     ∙ ap (λ b. (summary.of_item || (is BlankLineEnding name && loosens summary.last))
     || b) (rearranged (is SpaceOrTab name) (is ListItemPrefix name) (begins_blank rest)
     (begins_space_blank rest) (not_prefix summary.last) (has_inner_blank rest))

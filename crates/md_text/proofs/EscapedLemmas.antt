@@ -57,13 +57,14 @@ completes-append rest more h =
 
 escaped_byte-append : (b : ℕ) (rest more : List ℕ) → is_escaped_byte b rest ≡ true →
     is_escaped_byte b (rest ++ more) ≡ true
-escaped_byte-append b rest more = elim (cases_Bool ((b == 0) || (b == 60) || (b == 62) || (b == 34))) [
-  | inl special ↦ rw special (λ h. h)
-  | inr plain ↦ rw plain (elim (cases_Bool (b == 38)) [
-    | inl is ↦ rw is (completes-append rest more)
-    | inr other ↦ rw other (λ h. h)
-  ])
-]
+escaped_byte-append b rest more =
+    elim (cases_Bool ((b == 0) || (b == 60) || (b == 62) || (b == 34))) [
+      | inl special ↦ rw special (λ h. h)
+      | inr plain ↦ rw plain (elim (cases_Bool (b == 38)) [
+        | inl is ↦ rw is (completes-append rest more)
+        | inr other ↦ rw other (λ h. h)
+      ])
+    ]
 
 pub escaped-append : (x y : List ℕ) → is_escaped x ≡ true → is_escaped y ≡ true →
     is_escaped (x ++ y) ≡ true
