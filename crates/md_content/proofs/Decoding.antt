@@ -1,5 +1,5 @@
 -- Each reference of a document of the grammar decodes, by the mark that stands before its value.
-use Rattle.std.proofs.Common.{◌≡◌, inl, inr, ℕ, zero, suc, Bool, true, false, ◌&&◌, Option, Some}
+use Rattle.std.proofs.Common.{◌≡◌, ℕ, zero, suc, Bool, true, false, ◌&&◌, Option, Some}
 use Rattle.std.proofs.Common.{None, List, [], ◌∷◌, ◌++◌, refl, sym, ap, ◌∙◌, subst, append_assoc}
 use Rattle.std.proofs.Common.{append-nil}
 use Rattle.std.specs.Prelude.{if◌then◌else◌, is_some, replicate, unwrap_or}
@@ -31,14 +31,15 @@ use Rattle.md_tree.specs.Grammar.{IsGrammatical}
 use Rattle.md_base.specs.NameTests.{is_transparent}
 use Rattle.md_base.specs.Children.{spine_names}
 use Rattle.md_tree.proofs.Spines.{spine-names}
-use Rattle.md_meaning.specs.Surroundings.{last_of, spine_inside, spine_after_node}
+use Rattle.md_meaning.specs.Surroundings.{last_of, spine_after_node}
 use Rattle.md_meaning.specs.Meaning.Spans.{marker}
 use Rattle.md_content.specs.References.{EverywhereAfter, Decodes}
-use Rattle.md_content.proofs.Symbols.{Behaves, behaves}
+use Rattle.md_content.proofs.SymbolNames.{symbol_in, is_through, transparent}
+use Rattle.md_content.proofs.Tails.{each-tail}
 use Rattle.md_content.proofs.FineNodes.{IsFine, AreFine, fine, shaped}
 use Rattle.md_content.proofs.RanksAndNumbers.{unless-holds}
 use Rattle.md_content.proofs.Letters.{letters, fits-all}
-use Rattle.md_content.proofs.LastNames.{symbol_in, symbol_of, last-got, last-symbols, solid-here}
+use Rattle.md_content.proofs.LastNames.{symbol_of, is_solid, last-got, last-symbols}
 use Rattle.md_content.proofs.LastNames.{solid-names}
 
 -- ---- values stand after marks
@@ -72,26 +73,18 @@ well-endings : (n : ℕ) (before : Option Symbol) (rest : List Symbol) →
 well-endings zero before rest later = later before
 well-endings (suc n) before rest later = well-endings n (Some symbol.LineEnding) rest later
 
-well-tail : (first : Symbol) (tail rest : List Symbol) → IsTail first tail →
-    ((b : Option Symbol) → are_well b rest ≡ true) → are_well (Some first) (tail ++ rest) ≡ true
-well-tail symbol.ReferenceMarker tail rest is later = elim is [
-  | inl e ↦ ap (λ t. are_well (Some symbol.ReferenceMarker) (t ++ rest)) e
-      ∙ later (Some symbol.ReferenceValue)
-  | inr more ↦ elim more [
-    | inl e ↦ ap (λ t. are_well (Some symbol.ReferenceMarker) (t ++ rest)) e
-        ∙ later (Some symbol.ReferenceValue)
-    | inr e ↦ ap (λ t. are_well (Some symbol.ReferenceMarker) (t ++ rest)) e
-        ∙ later (Some symbol.ReferenceValue)
-  ]
-]
-well-tail symbol.SetextText tail rest is later =
-    ap (λ t. are_well (Some symbol.SetextText) (t ++ rest)) is.1
-    ∙ ap (are_well (Some symbol.SetextText))
-    (append_assoc (replicate is.0 symbol.LineEnding) (symbol.SetextUnderline ∷ []) rest)
-    ∙ well-endings is.0 (Some symbol.SetextText) (symbol.SetextUnderline
-    ∷ rest) (λ b. later (Some symbol.SetextUnderline))
-well-tail first tail rest is later =
-    ap (λ t. are_well (Some first) (t ++ rest)) is ∙ later (Some first)
+well-tail : (rest : List Symbol) → ((b : Option Symbol) → are_well b rest ≡ true) →
+    (first : Symbol) (tail : List Symbol) → IsTail first tail →
+    are_well (Some first) (tail ++ rest) ≡ true
+well-tail rest later =
+    each-tail (λ first tail. are_well (Some first) (tail ++ rest) ≡ true)
+    (later (Some symbol.ReferenceValue)) (later (Some symbol.ReferenceValue))
+    (later (Some symbol.ReferenceValue))
+    (λ endings. ap (are_well (Some symbol.SetextText))
+    (append_assoc (replicate endings symbol.LineEnding) (symbol.SetextUnderline ∷ []) rest)
+    ∙ well-endings endings (Some symbol.SetextText) (symbol.SetextUnderline ∷ rest)
+    (λ b. later (Some symbol.SetextUnderline)))
+    (λ first lone. later (Some first))
 
 well-grouped : (firsts spine : List Symbol) → list_all is_no_value firsts ≡ true →
     IsGrouped firsts spine →
@@ -102,7 +95,7 @@ well-grouped (first ∷ firsts) spine h is before =
     ap (are_well before) is.2
     ∙ and_from (stands_well before first) (are_well (Some first) (is.0 ++ is.1))
     (well-first before first parts.0)
-    (well-tail first is.0 is.1 is.3 (well-grouped firsts is.1 parts.1 is.4))
+    (well-tail is.1 (well-grouped firsts is.1 parts.1 is.4) first is.0 is.3)
 
 pattern-no_value : (around : Role) → letters is_no_value (pattern_of around) ≡ true
 pattern-no_value role.Flow = refl
@@ -170,7 +163,7 @@ node-decodes bytes names earlier _ start end children around before here well e 
 -- what holds of children by themselves holds of them where they stand
 inner-decodes :
     (bytes : List ℕ) (names : List (List ℕ × List ℕ)) (earlier : List Name) (standing : Standing)
-    (n : Name) (children : Forest) (around : Role) (before : Option Symbol) → Behaves standing n →
+    (children : Forest) (around : Role) (before : Option Symbol) →
     IsStanding standing around before children →
     AreFine bytes names children (inner_role standing around before)
     (inner_before standing before) →
@@ -179,18 +172,16 @@ inner-decodes :
     ((a : Role) (b : Option Symbol) (s : List Name) → AreFine bytes names children a b →
     are_well b (spine children) ≡ true → b ≡ symbol_of (last_of s) →
     EverywhereAfter (Decodes bytes names) s children) →
-    EverywhereAfter (Decodes bytes names) (spine_inside n earlier) children
-inner-decodes bytes names earlier Through n children around before says is all well e again =
-    subst (λ t. EverywhereAfter (Decodes bytes names) (if t then earlier else []) children)
-    (sym says) (again around before earlier all well e)
-inner-decodes bytes names earlier Space n children around before says is all well e again =
-    subst (λ c. EverywhereAfter (Decodes bytes names) (spine_inside n earlier) c) (sym is) tt
-inner-decodes bytes names earlier (Solid seen usual reading) n children around before says
-    is all well e again =
-    subst (λ t. EverywhereAfter (Decodes bytes names) (if t then earlier else []) children)
-    (sym says.0) (again (role_for around before usual) None [] all
-    (well-spine (role_for around before usual) (spine children) is) refl)
-inner-decodes bytes names earlier Mdx n children around before says is all well e again = absurd is
+    EverywhereAfter (Decodes bytes names) (if is_through standing then earlier else []) children
+inner-decodes bytes names earlier Through children around before is all well e again =
+    again around before earlier all well e
+inner-decodes bytes names earlier Space children around before is all well e again =
+    subst (EverywhereAfter (Decodes bytes names) earlier) (sym is) tt
+inner-decodes bytes names earlier (Solid seen usual reading) children around before is all well e
+    again =
+    again (role_for around before usual) None [] all
+    (well-spine (role_for around before usual) (spine children) is) refl
+inner-decodes bytes names earlier Mdx children around before is all well e again = absurd is
 
 -- the last symbol after a node is that of the last name there
 after-node :
@@ -207,8 +198,8 @@ after-node n start end children around before earlier shaped_node e =
     ∙ ap symbols_of (append-nil own)
     in
     ap (last_symbol before) same
-    ∙ last-symbols own earlier before (solid-here (standing_of n) n children around before refl
-    (behaves n) shaped_node.0.1 (solid-names children _ _ shaped_node.1)) e
+    ∙ last-symbols own earlier before (subst (λ ns. list_all is_solid ns ≡ true) (append-nil own)
+    (solid-names (Node n start end children Empty) around before shaped_node)) e
 
 decodes : (bytes : List ℕ) (names : List (List ℕ × List ℕ)) (forest : Forest) (around : Role)
     (before : Option Symbol) (earlier : List Name) → AreFine bytes names forest around before →
@@ -219,9 +210,10 @@ decodes bytes names Empty around before earlier all well e = tt
 decodes bytes names (Node n start end children rest) around before earlier all well e =
     let parts = well-split before (shown (standing_of n) (spine children)) (spine rest) well in (
       node-decodes bytes names earlier n start end children around before all.0 parts.0 e,
-      inner-decodes bytes names earlier (standing_of n) n children around before (behaves n)
-          all.0.0.1 all.1 parts.0 e
-          (λ a b s f w i. decodes bytes names children a b s f w i),
+      subst (λ t. EverywhereAfter (Decodes bytes names) (if t then earlier else []) children)
+          (sym (transparent n)) (inner-decodes bytes names earlier (standing_of n) children around
+          before all.0.0.1 all.1 parts.0 e
+          (λ a b s f w i. decodes bytes names children a b s f w i)),
       decodes bytes names rest around (last_symbol before (shown (standing_of n) (spine children)))
           (spine_after_node n children earlier) all.2 parts.1
           (after-node n start end children around before earlier (

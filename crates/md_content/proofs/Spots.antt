@@ -19,9 +19,9 @@ use Rattle.md_pattern.specs.Shape.{inner_before, last_symbol}
 use Rattle.md_base.specs.NameTests.{is_transparent}
 use Rattle.md_content.specs.Built.{Content, may_stand, content_of, content_inside, content_past}
 use Rattle.md_content.specs.Built.{content_after, content_after_node}
-use Rattle.md_content.proofs.Symbols.{may_by, past_by, may_by-names, past_by-names, may_show, past}
-use Rattle.md_content.proofs.Symbols.{admits, pattern_admits, each_content, roles_for, implies}
-use Rattle.md_content.proofs.Symbols.{holds_patterns, Behaves, behaves}
+use Rattle.md_content.proofs.SymbolNames.{is_through, name_for}
+use Rattle.md_content.proofs.Symbols.{may_show, past, admits, pattern_admits, roles_for, implies}
+use Rattle.md_content.proofs.Symbols.{Behaves, behaves}
 use Rattle.md_content.proofs.Admitted.{shown_earlier, matches_admitted}
 
 -- what may stand after some symbols
@@ -50,15 +50,19 @@ node_after :
     (content : Content) → Behaves standing name → IsStanding standing around before children →
     content_after content children ≡ run content (spine children) →
     content_after_node content name children ≡ run content (shown standing (spine children))
-node_after Through name children around before content says stands again =
-    ap (λ t. cond t (content_after content children) (content_past content name)) says ∙ again
-node_after Space name children around before content says stands again =
-    ap (λ t. cond t (content_after content children) (content_past content name)) says
-    ∙ ap (λ c. content_after content c) stands
-node_after (Solid symbol usual reading) name children around before content says stands again =
-    ap (λ t. cond t (content_after content children) (content_past content name)) says.0
-    ∙ (sym (past_by-names content name) ∙ ap (past_by content) says.1)
-node_after Mdx name children around before content says stands again = absurd stands
+node_after standing name children around before content says stands again =
+    ap (λ t. cond t (content_after content children) (content_past content name)) says.through
+    ∙ by standing (says.past content) stands
+  where
+    by : (standing : Standing) →
+        content_past content name ≡ content_past content (name_for standing name) →
+        IsStanding standing around before children →
+        cond (is_through standing) (content_after content children) (content_past content name)
+        ≡ run content (shown standing (spine children))
+    by Through past stands = again
+    by Space past stands = ap (content_after content) stands
+    by (Solid symbol usual reading) past stands = past
+    by Mdx past stands = absurd stands
 
 -- what may stand after nodes is what may stand after their spine
 pub after_spine : (forest : Forest) (around : Role) (before : Option Symbol) (content : Content) →
@@ -117,48 +121,27 @@ pub record Spot (standing : Standing) (name : Name) (children : Forest) (before 
 follows : (test holds : Bool) → implies test holds ≡ true → test ≡ true → holds ≡ true
 follows test holds h t = ap (λ b. implies b holds) (sym t) ∙ h
 
-solid_patterns :
-    (name : Name) (symbol : Symbol) (usual : Role) (around : Role) (before : Option Symbol)
-    (content : Content) → (holds_patterns (is_some before) name symbol usual content ≡ true) →
-    may_show (is_some before) content symbol ≡ true →
-    pattern_admits (pattern_of (role_for around before usual)) false
-    (content_of name content) ≡ true
-solid_patterns name symbol usual around before content holds may =
-    role_listed (λ role. pattern_admits (pattern_of role) false (content_of name content)) around
-    before usual (follows (may_show (is_some before) content symbol) _ holds may)
-
 spot_here :
     (standing : Standing) (name : Name) (children : Forest) (around : Role) (before : Option Symbol)
     (content : Content) (others : List Symbol) → Behaves standing name →
     IsStanding standing around before children →
     admits (is_some before) content (shown standing (spine children) ++ others) ≡ true →
-    ((is_transparent name || may_stand content name) ≡ true)
-    × (admits (is_some (inner_before standing before)) (content_inside content name)
-    (spine children) ≡ true)
+    ((is_through standing || may_stand content name) ≡ true)
+    × (admits (is_some (inner_before standing before))
+    (cond (is_through standing) content (content_of name content)) (spine children) ≡ true)
 spot_here Through name children around before content others says stands h =
-    let whole = admits-split before content (spine children) others h in (
-      ap (λ t. t || may_stand content name) says,
-      ap (λ t. admits (is_some before) (cond t content (content_of name content)) (spine children))
-          says ∙ whole.0,
-    )
-spot_here Space name children around before content others says stands h = (
-  ap (λ t. t || may_stand content name) says,
-  ap (λ c. admits false (content_inside content name) (spine c)) stands,
-)
+    (refl, (admits-split before content (spine children) others h).0)
+spot_here Space name children around before content others says stands h =
+    (refl, ap (λ c. admits false content (spine c)) stands)
 spot_here (Solid symbol usual reading) name children around before content others says stands h =
     let may = (and_parts (may_show (is_some before) content symbol)
-    (admits true (past content symbol) others) h).0 in
-    let holds = elim before as (λ b. holds_patterns (is_some b) name symbol usual content ≡ true) [
-      | None ↦ each_content (holds_patterns false name symbol usual) says.3 content
-      | Some s ↦ each_content (holds_patterns true name symbol usual) says.2 content
-    ] in
-    let fits = solid_patterns name symbol usual around before content holds may in (
-      ap (λ t. t || may_stand content name) says.0
-          ∙ (sym (may_by-names content name) ∙ (ap (may_by content) says.1
-          ∙ shown_earlier (is_some before) content symbol may)),
-      ap (λ t. admits false (cond t content (content_of name content)) (spine children)) says.0
-          ∙ matches_admitted (role_for around before usual) (spine children)
-          (content_of name content) stands fits,
+    (admits true (past content symbol) others) h).0 in (
+      says.may content ∙ shown_earlier (is_some before) content symbol may,
+      matches_admitted (role_for around before usual) (spine children)
+          (content_of name content) stands
+          (role_listed (λ role. pattern_admits (pattern_of role) false (content_of name content))
+          around before usual (follows (may_show (is_some before) content symbol) _
+          (says.patterns (is_some before) content) may)),
     )
 spot_here Mdx name children around before content others says stands h = absurd stands
 
@@ -171,8 +154,10 @@ pub spot : (standing : Standing) (name : Name) (children : Forest) (around : Rol
 spot standing name children around before content others says stands after h =
     let here = spot_here standing name children around before content others says stands h in
     record {
-      stands = here.0;
-      inside = here.1;
+      stands = ap (λ t. t || may_stand content name) says.through ∙ here.0;
+      inside =
+          ap (λ t. admits (is_some (inner_before standing before))
+          (cond t content (content_of name content)) (spine children)) says.through ∙ here.1;
       after =
           subst (λ c.
           admits (is_some (last_symbol before (shown standing (spine children)))) c others
