@@ -39,10 +39,8 @@ admits-earlier : (content : Content) (symbols : List Symbol) → admits false co
     admits true content symbols ≡ true
 admits-earlier content [] h = refl
 admits-earlier content (symbol ∷ symbols) h =
-    let parts =
-    and_parts (may_show false content symbol) (admits true (past content symbol) symbols) h in
-    and_from (may_show true content symbol) (admits true (past content symbol) symbols)
-    (may_show-earlier content symbol parts.0) parts.1
+    let parts = and_parts _ _ h in
+    and_from _ _ (may_show-earlier content symbol parts.0) parts.1
 
 admits-later : (earlier : Bool) (content : Content) (symbols : List Symbol) →
     admits earlier content symbols ≡ true →
@@ -65,7 +63,7 @@ pub taken : (test : Symbol → Bool) (symbols : List Symbol) (symbol : Symbol) �
     list_all test symbols ≡ true → test symbol ≡ true
 taken test [] symbol seen h = lie seen
 taken test (member ∷ symbols) symbol seen h =
-    let parts = and_parts (test member) (list_all test symbols) h in
+    let parts = and_parts _ _ h in
     by (sameb the_type member symbol) refl seen parts.0
     (λ later. taken test symbols symbol later parts.1)
   where
@@ -95,10 +93,9 @@ one : (class : Class) (left : Bool → Content → Bool) (others own : List Symb
 one class left others [] rest count own_taken earlier content h = absurd (omega arith)
 one class left others (symbol ∷ []) rest count own_taken earlier content h =
     let here = taken (one_admits left earlier content) (members class) symbol
-    (and_parts (takes class symbol) true own_taken).0 h in
-    let parts =
-    and_parts (may_show earlier content symbol) (left true (past content symbol)) here in
-    and_from (may_show earlier content symbol) (admits true (past content symbol) others) parts.0
+    (and_parts _ _ own_taken).0 h in
+    let parts = and_parts _ _ here in
+    and_from _ _ parts.0
     (rest true (past content symbol) parts.1)
 one class left others (symbol ∷ another ∷ own) rest count own_taken earlier content h =
     absurd (omega arith)
@@ -111,11 +108,10 @@ several : (class : Class) (others own : List Symbol) (earlier : Bool) (content :
     admits earlier content others ≡ true → admits earlier content (own ++ others) ≡ true
 several class others [] earlier content own_taken h rest = rest
 several class others (symbol ∷ own) earlier content own_taken h rest =
-    let own_parts = and_parts (takes class symbol) (list_all (takes class) own) own_taken in
+    let own_parts = and_parts _ _ own_taken in
     let here = taken (stays earlier content) (members class) symbol own_parts.0 h in
-    let parts = and_parts (may_show earlier content symbol) (keeps content) here in
-    and_from (may_show earlier content symbol)
-    (admits true (past content symbol) (own ++ others)) parts.0
+    let parts = and_parts _ _ here in
+    and_from _ _ parts.0
     (subst (λ c. admits true c (own ++ others) ≡ true)
     (sym (past-kept content symbol parts.1)) (admits-later earlier content
     (own ++ others) (several class others own earlier content own_parts.1 h rest)))
@@ -129,15 +125,12 @@ item_fits : (item : Item) (left : Bool → Content → Bool) (others own : List 
 item_fits (Once class) left others own rest count own_taken earlier content h =
     one class left others own rest count own_taken earlier content h
 item_fits (Maybe class) left others [] rest count own_taken earlier content h =
-    rest earlier content (and_parts (left earlier content)
-    (list_all (one_admits left earlier content) (members class)) h).0
+    rest earlier content (and_parts _ _ h).0
 item_fits (Maybe class) left others (symbol ∷ own) rest count own_taken earlier content h =
     one class left others (symbol ∷ own) rest (omega arith) own_taken earlier content
-    (and_parts (left earlier content)
-    (list_all (one_admits left earlier content) (members class)) h).1
+    (and_parts _ _ h).1
 item_fits (Many class) left others own rest count own_taken earlier content h =
-    let parts =
-    and_parts (left earlier content) (list_all (stays earlier content) (members class)) h in
+    let parts = and_parts _ _ h in
     several class others own earlier content own_taken parts.1 (rest earlier content parts.0)
 
 -- what fits a pattern may stand where the pattern may
@@ -196,11 +189,9 @@ grouped : (firsts spine : List Symbol) (earlier : Bool) (content : Content) →
 grouped [] spine earlier content g h =
     subst (λ symbols. admits earlier content symbols ≡ true) (sym g) refl
 grouped (first ∷ firsts) spine earlier content g h =
-    let parts =
-    and_parts (may_show earlier content first) (admits true (past content first) firsts) h in
+    let parts = and_parts _ _ h in
     subst (λ symbols. admits earlier content symbols ≡ true) (sym g.2)
-    (and_from (may_show earlier content first) (admits true (past content first) (g.0 ++ g.1))
-    parts.0 (tail_admits g.1 content first g.0 g.3 (shown_earlier earlier content first parts.0)
+    (and_from _ _ parts.0 (tail_admits g.1 content first g.0 g.3 (shown_earlier earlier content first parts.0)
     (grouped firsts g.1 true (past content first) g.4 parts.1)))
 
 -- what matches the pattern of a role may stand where the pattern may

@@ -91,10 +91,9 @@ well-grouped : (firsts spine : List Symbol) → list_all is_no_value firsts ≡ 
     (before : Option Symbol) → are_well before spine ≡ true
 well-grouped [] spine h is before = ap (are_well before) is
 well-grouped (first ∷ firsts) spine h is before =
-    let parts = and_parts (is_no_value first) (list_all is_no_value firsts) h in
+    let parts = and_parts _ _ h in
     ap (are_well before) is.2
-    ∙ and_from (stands_well before first) (are_well (Some first) (is.0 ++ is.1))
-    (well-first before first parts.0)
+    ∙ and_from _ _ (well-first before first parts.0)
     (well-tail is.1 (well-grouped firsts is.1 parts.1 is.4) first is.0 is.3)
 
 pattern-no_value : (around : Role) → letters is_no_value (pattern_of around) ≡ true
@@ -111,9 +110,9 @@ well-split : (before : Option Symbol) (symbols others : List Symbol) →
     (are_well before symbols ≡ true) × (are_well (last_symbol before symbols) others ≡ true)
 well-split before [] others h = (refl, h)
 well-split before (seen ∷ symbols) others h =
-    let parts = and_parts (stands_well before seen) (are_well (Some seen) (symbols ++ others)) h in
+    let parts = and_parts _ _ h in
     let rest = well-split (Some seen) symbols others parts.1 in
-    (and_from (stands_well before seen) (are_well (Some seen) symbols) parts.0 rest.0, rest.1)
+    (and_from _ _ parts.0 rest.0, rest.1)
 
 -- ---- references
 mark-name : (n : Name) → is_mark (symbol_in (standing_of n)) ≡ true →
@@ -157,7 +156,7 @@ node-decodes bytes names earlier name.CharacterReferenceValue start end children
     subst (λ last. is_some (decoded names (option_map_or marker last 38)
     (unwrap_or (text_between bytes start end) [])) ≡ true) (last-got earlier)
     (value-decodes names before (text_between bytes start end) (last_of earlier)
-    (and_parts (is_mark before) true well).0 e here.1)
+    (and_parts _ _ well).0 e here.1)
 node-decodes bytes names earlier _ start end children around before here well e = tt
 
 -- what holds of children by themselves holds of them where they stand

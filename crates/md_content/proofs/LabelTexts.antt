@@ -67,7 +67,7 @@ sought-neutral : (nodes : List Stand) (found : Referral) →
     sought nodes found ≡ found
 sought-neutral [] found h = refl
 sought-neutral (node ∷ nodes) found h =
-    let parts = and_parts (is_neutral node.seen) (list_all is_neutral (seen_of nodes)) h in
+    let parts = and_parts _ _ h in
     left-neutral node nodes found parts.0 ∙ sought-neutral nodes found parts.1
 
 grouped-neutral : (firsts spine : List Symbol) → list_all is_neutral firsts ≡ true →
@@ -130,7 +130,7 @@ text-sought around before (node ∷ nodes) stood h =
         (sym e) ∙ ap (sought nodes) (text-is node.seen Missing inner there)
         ∙ sought-neutral nodes (Label there) rest
     by false e rest again =
-        let parts = and_parts (is_neutral node.seen) (has_one_text (seen_of nodes)) rest in
+        let parts = and_parts _ _ rest in
         left-neutral node nodes Missing parts.0 ∙ again parts.1
 
 neutral-no_text : (seen : Symbol) → (if is_neutral seen then is_text seen else false) ≡ false
@@ -142,11 +142,11 @@ one_text-append : (symbols others : List Symbol) → list_all is_neutral symbols
     has_one_text (symbols ++ others) ≡ true
 one_text-append [] others h g = g
 one_text-append (seen ∷ symbols) others h g =
-    let parts = and_parts (is_neutral seen) (list_all is_neutral symbols) h in
+    let parts = and_parts _ _ h in
     ap (λ text. if text then list_all is_neutral (symbols ++ others) else is_neutral seen
     && has_one_text (symbols ++ others))
     (ap (λ b. if b then is_text seen else false) (sym parts.0) ∙ neutral-no_text seen)
-    ∙ and_from (is_neutral seen) (has_one_text (symbols ++ others)) parts.0
+    ∙ and_from _ _ parts.0
     (one_text-append symbols others parts.1 g)
 
 -- so has a spine whose groups begin so
@@ -157,9 +157,9 @@ one-text (symbol.LabelText ∷ firsts) spine h is =
     ap has_one_text (is.2 ∙ ap (λ tail. symbol.LabelText ∷ tail ++ is.1) is.3)
     ∙ grouped-neutral firsts is.1 h is.4
 one-text (first ∷ firsts) spine h is =
-    let parts = and_parts (is_neutral first) (has_one_text firsts) h in
+    let parts = and_parts (is_neutral first) _ h in
     ap has_one_text is.2
-    ∙ and_from (is_neutral first) (has_one_text (is.0 ++ is.1)) parts.0
+    ∙ and_from (is_neutral first) _ parts.0
     (one_text-append is.0 is.1 (tail-all is_neutral first is.0 refl is.3)
     (one-text firsts is.1 parts.1 is.4))
 
@@ -175,7 +175,7 @@ label-firsts before own after neutral count own_taken later =
         subst (λ s. has_one_text s ≡ true) (append-nil after) (one_text-append after [] later refl)
     by (seen ∷ []) count own_taken =
         subst (λ s. has_one_text (s ∷ after) ≡ true) (only-is symbol.LabelText seen
-        (and_parts (takes (Only symbol.LabelText) seen) true own_taken).0) later
+        (and_parts _ _ own_taken).0) later
     by (seen ∷ another ∷ own) count own_taken = absurd (omega arith)
 
 -- the patterns of labels

@@ -46,7 +46,7 @@ pub last-symbols : (names earlier : List Name) (before : Option Symbol) →
 last-symbols [] earlier before h e =
     e ∙ ap (λ ns. symbol_of (last_of ns)) (sym (append-nil earlier))
 last-symbols (n ∷ names) earlier before h e =
-    let parts = and_parts (is_solid n) (list_all is_solid names) h in
+    let parts = and_parts _ _ h in
     solid-shown (standing_of n) before (symbols_of names) parts.0
     ∙ last-symbols names (earlier ++ n ∷ []) (symbol_in (standing_of n)) parts.1
     (ap symbol_of (sym (last-push earlier n)))
@@ -56,8 +56,7 @@ solid-stood : (around : Role) (before : Option Symbol) (nodes : List Stand) →
     EachStood IsShapedNode around before nodes →
     list_all is_solid (map (λ node. node.name) nodes) ≡ true
 solid-stood around before [] stood = refl
-solid-stood around before (node ∷ nodes) stood = and_from (is_solid node.name)
-    (list_all is_solid (map (λ node. node.name) nodes)) (ap is_some (Stood.shows stood.0))
+solid-stood around before (node ∷ nodes) stood = and_from _ _ (ap is_some (Stood.shows stood.0))
     (solid-stood around (Some node.seen) nodes stood.1)
 
 pub solid-names : (forest : Forest) (around : Role) (before : Option Symbol) →

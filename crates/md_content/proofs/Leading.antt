@@ -71,7 +71,7 @@ text-grouped [] spine h is = lie h
 text-grouped (symbol.LabelText ∷ firsts) spine h is = ap (list_any is_text) is.2
 text-grouped (first ∷ firsts) spine h is =
     ap (list_any is_text) is.2 ∙ list_any-append is_text is.0 is.1
-    ∙ or_right (list_any is_text is.0) (list_any is_text is.1) (text-grouped firsts is.1 h is.4)
+    ∙ or_right _ _ (text-grouped firsts is.1 h is.4)
 
 text-there : (around : Role) (before : Option Symbol) (nodes : List Stand) →
     EachStood IsShapedNode around before nodes → list_any is_text (seen_of nodes) ≡ true →
@@ -104,7 +104,7 @@ call-label children shaped match =
     let firsts : list_any is_text inner.0 ≡ true =
     ap (list_any is_text) (fit.2 ∙ ap (λ s. fit.0 ++ s) once.are)
     ∙ list_any-append is_text fit.0 (symbol.LabelText ∷ once.others)
-    ∙ or_right (list_any is_text fit.0) true refl in
+    ∙ or_right _ _ refl in
     let text = text-there role.CallLabel None (stands first.inner)
     (each-stood IsShapedNode first.inner role.CallLabel None first.inside)
     (subst (λ s. list_any is_text s ≡ true) (spine-stands first.inner)

@@ -33,7 +33,7 @@ pub once-is : (one : Symbol) (items : List Item) (own others firsts : List Symbo
     Once one items firsts
 once-is one items [] others firsts count own_taken e fit = absurd (omega arith)
 once-is one items (seen ∷ []) others firsts count own_taken e fit =
-    let is = only-is one seen (and_parts (takes (Only one) seen) true own_taken).0 in
+    let is = only-is one seen (and_parts _ _ own_taken).0 in
     record { others = others; are = e ∙ ap (λ s. s ∷ others) (sym is); fit = fit }
 once-is one items (seen ∷ another ∷ own) others firsts count own_taken e fit = absurd (omega arith)
 

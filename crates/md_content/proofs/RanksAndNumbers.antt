@@ -1,10 +1,9 @@
 -- In nodes that meet the rules a heading's mark has a rank, and a list's number has only digits.
-use Rattle.std.proofs.Common.{◌≡◌, ℕ, ◌^◌, ◌≤◌, Bool, true, false, not, ◌&&◌, ◌==◌}
+use Rattle.std.proofs.Common.{◌≡◌, ℕ, ◌≤◌, Bool, true, false}
 use Rattle.std.proofs.Common.{if◌then◌else◌, Option, Some, None, List, [], ◌∷◌, ◌++◌, length, refl}
 use Rattle.std.proofs.Common.{sym, subst, arith}
-use Rattle.std.specs.Prelude.{nat_lt, nat_le, unwrap_or}
+use Rattle.std.specs.Prelude.{nat_lt, unwrap_or}
 use Rattle.std.specs.Char.{digit_value}
-use Rattle.std.specs.Str.Parse.{digits_value}
 use Rattle.std.specs.Option.{option_map_or}
 use Rattle.std.specs.List.{list_all}
 use Rattle.std.proofs.lemmas.Bool.{and_parts, and_from, ltb-true, leb-true, le-leb}
@@ -53,8 +52,7 @@ mark_fits : (lies : Bool) (length : ℕ) →
     (if lies then unless (is_rank role.Heading None length) rule.HeadingMark
     else Some rule.Place) ≡ None → (1 ≤ length) × (length ≤ 6) × (lies ≡ true)
 mark_fits true length e =
-    let parts = and_parts (nat_le 1 length) (nat_le length 6)
-    (unless-holds (is_rank role.Heading None length) rule.HeadingMark e) in
+    let parts = and_parts _ _ (unless-holds (is_rank role.Heading None length) rule.HeadingMark e) in
     (leb-true 1 length parts.0, leb-true length 6 parts.1, refl)
 mark_fits false length e = cc
 
@@ -82,19 +80,16 @@ digits_fit : (digits : List ℕ) → list_all (λ digit. nat_lt (digit_value dig
     list_all is_digit digits ≡ true
 digits_fit [] h = refl
 digits_fit (digit ∷ digits) h =
-    let parts = and_parts (nat_lt (digit_value digit) 10)
-    (list_all (λ d. nat_lt (digit_value d) 10) digits) h in
+    let parts = and_parts _ _ h in
     let range = digit_from_value digit (ltb-true (digit_value digit) 10 parts.0) in
-    and_from (is_digit digit) (list_all is_digit digits)
-    (and_from (nat_le 48 digit) (nat_le digit 57) (le-leb 48 digit range.0)
+    and_from _ _ (and_from _ _ (le-leb 48 digit range.0)
     (le-leb digit 57 range.1))
     (digits_fit digits parts.1)
 
 number_digits : (text : List ℕ) → is_number 10 text ≡ true → list_all is_digit text ≡ true
 number_digits text h =
     let tests = list_all (λ d. nat_lt (digit_value d) 10) text in
-    digits_fit text (and_parts (not (length text == 0)) tests
-    (and_parts (not (length text == 0) && tests) (nat_lt (digits_value 10 text) (2 ^ 32)) h).0).1
+    digits_fit text (and_parts _ _ (and_parts _ _ h).0).1
 
 -- the number at a place has only digits
 abbrev pub MayHaveDigits : List ℕ → Option Position → Type 0

@@ -1,6 +1,6 @@
 -- A node, its content and what follows it: what is allowed there, from the spine that it belongs
 -- to.
-use Rattle.std.proofs.Common.{◌≡◌, Bool, true, false, ◌&&◌, ◌||◌, cond, Option, Some, None, is_some}
+use Rattle.std.proofs.Common.{arith, ◌≡◌, Bool, true, false, ◌&&◌, ◌||◌, cond, Option, Some, None, is_some}
 use Rattle.std.proofs.Common.{List, [], ◌∷◌, ◌++◌, refl, sym, ap, ◌∙◌, subst}
 use Rattle.std.specs.List.{list_all}
 use Rattle.std.proofs.lemmas.Bool.{and_parts}
@@ -40,8 +40,7 @@ admits-split : (before : Option Symbol) (content : Content) (symbols others : Li
     × (admits (is_some (last_symbol before symbols)) (run content symbols) others ≡ true)
 admits-split before content [] others h = (refl, h)
 admits-split before content (symbol ∷ symbols) others h =
-    let parts = and_parts (may_show (is_some before) content symbol)
-    (admits true (past content symbol) (symbols ++ others)) h in
+    let parts = and_parts _ _ h in
     let rest = admits-split (Some symbol) (past content symbol) symbols others parts.1 in
     (ap (λ t. t && admits true (past content symbol) symbols) parts.0 ∙ rest.0, rest.1)
 
@@ -83,31 +82,26 @@ pub role_listed : (test : Role → Bool) (around : Role) (before : Option Symbol
 role_listed test around before role.Item h = by around before
   where
     by : (around : Role) (before : Option Symbol) → test (item_in around before) ≡ true
-    by role.OrderedList None = (and_parts (test role.FirstOrderedItem) true
-        (and_parts (test role.OrderedItem) _ (and_parts (test role.Item) _ h).1).1).0
-    by role.OrderedList (Some _) =
-        (and_parts (test role.OrderedItem) _ (and_parts (test role.Item) _ h).1).0
-    by _ before = (and_parts (test role.Item) _ h).0
+    by role.OrderedList None = grind (arith, h)
+    by role.OrderedList (Some _) = grind (arith, h)
+    by _ before = grind (arith, h)
 role_listed test around before role.Prefix h = by around
   where
     by : (around : Role) → test (prefix_in around) ≡ true
-    by role.FirstOrderedItem = (and_parts (test role.FirstOrderedPrefix) true
-        (and_parts (test role.OrderedPrefix) _ (and_parts (test role.Prefix) _ h).1).1).0
-    by role.OrderedItem =
-        (and_parts (test role.OrderedPrefix) _ (and_parts (test role.Prefix) _ h).1).0
-    by _ = (and_parts (test role.Prefix) _ h).0
+    by role.FirstOrderedItem = grind (arith, h)
+    by role.OrderedItem = grind (arith, h)
+    by _ = grind (arith, h)
 role_listed test around before role.Label h = by around
   where
     by : (around : Role) → test (label_in around) ≡ true
-    by role.FootnoteCall =
-        (and_parts (test role.CallLabel) true (and_parts (test role.Label) _ h).1).0
-    by _ = (and_parts (test role.Label) _ h).0
-role_listed test around None role.CodeFence h = (and_parts (test role.FirstCodeFence) true h).0
-role_listed test around (Some symbol) role.CodeFence h = (and_parts (test role.CodeFence) true h).0
-role_listed test around None role.MathFence h = (and_parts (test role.FirstMathFence) true h).0
-role_listed test around (Some symbol) role.MathFence h = (and_parts (test role.MathFence) true h).0
-role_listed test around None usual h = (and_parts (test usual) true h).0
-role_listed test around (Some symbol) usual h = (and_parts (test usual) true h).0
+    by role.FootnoteCall = grind (arith, h)
+    by _ = grind (arith, h)
+role_listed test around None role.CodeFence h = grind arith
+role_listed test around (Some symbol) role.CodeFence h = grind arith
+role_listed test around None role.MathFence h = grind arith
+role_listed test around (Some symbol) role.MathFence h = grind arith
+role_listed test around None usual h = grind arith
+role_listed test around (Some symbol) usual h = grind arith
 
 -- a node may stand there, its children in it, and others after it
 pub record Spot (standing : Standing) (name : Name) (children : Forest) (before : Option Symbol)
@@ -134,8 +128,7 @@ spot_here Through name children around before content others says stands h =
 spot_here Space name children around before content others says stands h =
     (refl, ap (λ c. admits false content (spine c)) stands)
 spot_here (Solid symbol usual reading) name children around before content others says stands h =
-    let may = (and_parts (may_show (is_some before) content symbol)
-    (admits true (past content symbol) others) h).0 in (
+    let may = (and_parts _ _ h).0 in (
       says.may content ∙ shown_earlier (is_some before) content symbol may,
       matches_admitted (role_for around before usual) (spine children)
           (content_of name content) stands

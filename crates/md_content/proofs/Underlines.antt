@@ -54,9 +54,9 @@ pub underlined-split : (waits : Bool) (xs ys : List Symbol) → underlined waits
     (underlined waits xs ≡ true) × (underlined (waits_after_symbols waits xs) ys ≡ true)
 underlined-split waits [] ys h = (refl, h)
 underlined-split waits (x ∷ xs) ys h =
-    let parts = and_parts (may_follow waits x) (underlined (next_waits waits x) (xs ++ ys)) h in
+    let parts = and_parts _ _ h in
     let later = underlined-split (next_waits waits x) xs ys parts.1 in
-    (and_from (may_follow waits x) (underlined (next_waits waits x) xs) parts.0 later.0, later.1)
+    (and_from _ _ parts.0 later.0, later.1)
 
 pub waits-append : (waits : Bool) (xs ys : List Symbol) →
     waits_after_symbols waits (xs ++ ys) ≡ waits_after_symbols (waits_after_symbols waits xs) ys
@@ -93,7 +93,7 @@ grouped-underlined : (firsts spine : List Symbol) → IsGrouped firsts spine →
     (waits : Bool) → underlined waits spine ≡ true
 grouped-underlined [] spine g h waits = subst (λ s. underlined waits s ≡ true) (sym g) refl
 grouped-underlined (first ∷ firsts) spine g h waits =
-    let parts = and_parts (no_underline first) (list_all no_underline firsts) h in
+    let parts = and_parts _ _ h in
     subst (λ s. underlined waits s ≡ true) (sym g.2)
     (tail-underlined g.1 (grouped-underlined firsts g.1 g.4 parts.1) first g.0 g.3 parts.0 waits)
 
@@ -160,7 +160,7 @@ awaited : (name : Name) (children : Forest) (around inner : Role)
     → (waits ≡ true) × (spine_names children ≡ [])
 awaited HeadingSetextUnderlineSequence children around inner before first waits
     is all h underline = (
-      (and_parts waits true h).0,
+      (and_parts _ _ h).0,
       no-names children inner first all (empty-spine (spine children) is),
     )
 awaited _ children around inner before first waits is all h underline = lie underline

@@ -65,7 +65,7 @@ texts context c name opened below pieces s allows laid kept = record {
         ≡ laid_after context.ending opened (if b then [] else pieces)
     outer true e l k h = ap (λ u. first_or [] u) k
     outer false e l k h =
-        l (allows.laid (and_from (is_laid c) (not (captures name)) h (ap (λ t. not t) e)))
+        l (allows.laid (and_from _ _ h (ap (λ t. not t) e)))
 
     inner : (b : Bool) → s.text ≡ laid_after context.ending (if b then [] else opened) pieces →
         (if b then s.text else []) ≡ (if b then layout context.ending pieces else [])
@@ -116,8 +116,7 @@ aside-captured c Resource = refl
 aside-captured c _ = refl
 
 pub aside-kept : (c : Content) (name : Name) → is_set_aside name ≡ true → Kept c name
-aside-kept c name h = and_parts (captures name) (is_laid (content_inside c name))
-    (follows (is_set_aside name) _ (aside-captured c name) h)
+aside-kept c name h = and_parts _ _ (follows (is_set_aside name) _ (aside-captured c name) h)
 
 pub footnote-kept : (c : Content) (name : Name) → is GfmFootnoteDefinition name ≡ true → Kept c name
 footnote-kept c GfmFootnoteDefinition h = (refl, refl)

@@ -19,7 +19,7 @@ use Rattle.md_steps.specs.Content.{Content, Blocks, Spans, BeforeLabel, Parts, C
 use Rattle.md_steps.specs.Content.{is_childless, may_stand, content_of, content_inside}
 use Rattle.md_steps.specs.Content.{content_past, content_after, content_after_node}
 use Rattle.md_content.proofs.SymbolNames.{is_through, name_for, transparent}
-use Rattle.md_steps.proofs.ContentSymbols.{may_show, admits, group_of, group_in, may-same}
+use Rattle.md_steps.proofs.ContentSymbols.{admits, group_of, group_in, may-same}
 use Rattle.md_steps.proofs.ContentSymbols.{group-same}
 use Rattle.md_steps.proofs.RoleContents.{matches-admitted}
 
@@ -58,10 +58,9 @@ admits-split : (content : Content) (symbols others : List Symbol) →
     (admits content symbols ≡ true) × (admits (run content symbols) others ≡ true)
 admits-split content [] others h = (refl, h)
 admits-split content (seen ∷ symbols) others h =
-    let parts =
-    and_parts (may_show content seen) (admits (content_past content) (symbols ++ others)) h in
+    let parts = and_parts _ _ h in
     let rest = admits-split (content_past content) symbols others parts.1 in (
-      and_from (may_show content seen) (admits (content_past content) symbols) parts.0 rest.0,
+      and_from _ _ parts.0 rest.0,
       rest.1,
     )
 

@@ -1,5 +1,5 @@
 -- What is known of a node where it is left.
-use Rattle.std.proofs.Common.{◌≡◌, ℕ, Bool, true, false, not, List, [], ◌∷◌, ◌++◌, Option}
+use Rattle.std.proofs.Common.{◌≡◌, ℕ, Bool, true, false, List, [], ◌∷◌, ◌++◌, Option}
 use Rattle.std.proofs.Common.{None, refl, ap, sym, subst, ◌∙◌}
 use Rattle.std.specs.Prelude.{if◌then◌else◌, count_by}
 use Rattle.std.specs.List.{list_any}
@@ -23,7 +23,7 @@ use Rattle.md_steps.specs.Content.{Content, Lines, BeforeLabel, Cells, Nothing, 
 use Rattle.md_steps.specs.Content.{is_allowed}
 use Rattle.md_steps.specs.Content.{content_inside, content_after, content_after_node}
 use Rattle.md_steps.specs.State.{State, facts_of}
-use Rattle.md_steps.specs.Steps.{entered, restored, is_raw, is_row, is_ending, is_value}
+use Rattle.md_steps.specs.Steps.{entered, restored, is_raw, is_row, is_ending}
 use Rattle.md_steps.specs.Steps.{is_labelled}
 use Rattle.md_steps.specs.Claim.{Knows, KnowsEnded, KnowsCells, KnowsLines, TargetAfter}
 use Rattle.md_steps.specs.Claim.{ResourceAfter, Done, noted_all, has_marks, keeps_cells}
@@ -222,7 +222,7 @@ leaves context c waits around before last name start end children state s h fact
     λ e. picked (is_call name) _ _ (call-own name (identifier_of context.bytes children)) e in
     record {
       marker = λ e.
-          let parts = and_parts (is_value name) (not (is_transparent name)) e in
+          let parts = and_parts _ _ e in
           done.marker (picked (is_reference name) _ false (reference-marks c name) e)
           ∙ ap (λ b. if b then state.marker else 38) parts.0
           ∙ knows.marker (marks_at c name facts (not-true (is_transparent name) parts.1));

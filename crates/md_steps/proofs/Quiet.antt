@@ -1,5 +1,5 @@
 -- Where nothing is printed, called or noted, and where no line ending is slurped anew.
-use Rattle.std.proofs.Common.{◌≡◌, Bool, true, false, not, ◌&&◌, cond, List, [], ◌∷◌, ◌++◌}
+use Rattle.std.proofs.Common.{◌≡◌, Bool, true, false, ◌&&◌, cond, List, [], ◌∷◌, ◌++◌}
 use Rattle.std.proofs.Common.{refl, ap, sym, subst, ◌∙◌}
 use Rattle.std.specs.Prelude.{if◌then◌else◌}
 use Rattle.std.proofs.lemmas.Bool.{and_parts, not-true}
@@ -78,7 +78,7 @@ pub quiet : (context : Context) (around : Surroundings) (before : Before) (c : C
     (children : Forest) →
     Says context around before c name children
 quiet context around before c name children fits h =
-    let parts = and_parts (is_nothing (content_of name)) (not (is_transparent name)) h in
+    let parts = and_parts _ _ h in
     let own : content_inside c name ≡ content_of name =
     ap (λ t. cond t c (content_of name)) (not-true (is_transparent name) parts.1) in
     bare-silent context (inside context.options (is_loose children) name around)

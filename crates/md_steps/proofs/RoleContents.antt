@@ -65,14 +65,15 @@ admits-all : (content : Content) (symbols : List Symbol) → content_past conten
     list_all (may_show content) symbols ≡ true → admits content symbols ≡ true
 admits-all content [] same h = refl
 admits-all content (seen ∷ symbols) same h =
-    let parts = and_parts (may_show content seen) (list_all (may_show content) symbols) h in
-    and_from (may_show content seen) (admits (content_past content) symbols) parts.0
+    let parts = and_parts _ _ h in
+    and_from _ _ parts.0
     (subst (λ c. admits c symbols ≡ true) (sym same) (admits-all content symbols same parts.1))
 
 -- a label, and what comes after it
 label-admitted : (items : List Item) (usual : Role) (symbols : List Symbol) →
     letters (may_show AfterLabel) items ≡ true →
-    pattern_of usual ≡ Once (class.Only Label) ∷ items → Matches usual symbols → admits BeforeLabel symbols ≡ true
+    pattern_of usual ≡ Once (class.Only Label) ∷ items →
+    Matches usual symbols → admits BeforeLabel symbols ≡ true
 label-admitted items usual symbols h pattern match =
     let fit = subst (λ is. Fits is match.0) pattern match.2 in
     let once = once-is Label items fit.0 fit.1 match.0 fit.4 fit.3 fit.2 fit.5 in
