@@ -191,7 +191,8 @@ grouped [] spine earlier content g h =
 grouped (first ∷ firsts) spine earlier content g h =
     let parts = and_parts _ _ h in
     subst (λ symbols. admits earlier content symbols ≡ true) (sym g.2)
-    (and_from _ _ parts.0 (tail_admits g.1 content first g.0 g.3 (shown_earlier earlier content first parts.0)
+    (and_from _ _ parts.0 (tail_admits g.1 content first g.0 g.3
+    (shown_earlier earlier content first parts.0)
     (grouped firsts g.1 true (past content first) g.4 parts.1)))
 
 -- what matches the pattern of a role may stand where the pattern may

@@ -40,7 +40,8 @@ fits-all test [] firsts fit h = subst (λ s. list_all test s ≡ true) (sym fit)
 fits-all test (item ∷ items) firsts fit h =
     let parts = and_parts _ _ h in
     subst (λ s. list_all test s ≡ true) (sym fit.2)
-    (list_all-append test fit.0 fit.1 ∙ and_from _ _ (own-all test (class_of item) fit.0 fit.3 parts.0) (fits-all test items fit.1 fit.5 parts.1))
+    (list_all-append test fit.0 fit.1 ∙ and_from _ _
+    (own-all test (class_of item) fit.0 fit.3 parts.0) (fits-all test items fit.1 fit.5 parts.1))
 
 -- what a group has after its first symbol
 abbrev pub followers : List Symbol

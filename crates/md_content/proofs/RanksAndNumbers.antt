@@ -52,7 +52,8 @@ mark_fits : (lies : Bool) (length : ℕ) →
     (if lies then unless (is_rank role.Heading None length) rule.HeadingMark
     else Some rule.Place) ≡ None → (1 ≤ length) × (length ≤ 6) × (lies ≡ true)
 mark_fits true length e =
-    let parts = and_parts _ _ (unless-holds (is_rank role.Heading None length) rule.HeadingMark e) in
+    let parts = and_parts _ _ (unless-holds (is_rank role.Heading None length) rule.HeadingMark e)
+    in
     (leb-true 1 length parts.0, leb-true length 6 parts.1, refl)
 mark_fits false length e = cc
 

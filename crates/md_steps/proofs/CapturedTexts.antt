@@ -1,6 +1,6 @@
 -- A node's captured text and the one around it, and how the surroundings come back.
 use Rattle.std.proofs.Common.{◌≡◌, ℕ, Bool, true, false, not, ◌&&◌, List, [], ◌∷◌, Option, refl, ap}
-use Rattle.std.proofs.Common.{sym, ◌∙◌, unwrap_or}
+use Rattle.std.proofs.Common.{sym, ◌∙◌}
 use Rattle.std.specs.Prelude.{if◌then◌else◌}
 use Rattle.std.proofs.lemmas.Bool.{and_from, and_parts}
 use Rattle.md_base.specs.declared.event.Name.{Name}
@@ -9,32 +9,15 @@ use name_variants.{SpaceOrTab, BlockQuotePrefix, Other, Definition, Resource, Gf
 use name_variants.{GfmFootnoteDefinitionPrefix, HeadingSetextText}
 use Rattle.md_base.proofs.Lies.{lie}
 use Rattle.md_base.specs.Is.{is}
-use Rattle.md_base.specs.Tree.{Forest, Empty, Node}
-use Rattle.md_base.specs.Children.{is_empty}
-use Rattle.md_meaning.specs.declared.surroundings.Surroundings.{Surroundings}
 use Rattle.md_meaning.specs.Meaning.Layout.{Piece, laid_after, layout}
-use Rattle.md_meaning.specs.Meaning.At.{Context, Before}
-use Rattle.md_meaning.specs.Meaning.Nodes.{outcome}
+use Rattle.md_meaning.specs.Meaning.At.{Context}
 use Rattle.md_steps.specs.Content.{Content, content_inside}
 use Rattle.md_steps.specs.State.{State, NodeFacts, Scope, captures}
 use Rattle.md_steps.specs.Sides.{closes}
 use Rattle.md_steps.specs.State.{outside}
 use Rattle.md_steps.specs.Steps.{first_or, others_of}
-use Rattle.md_steps.specs.Claim.{is_laid, node_of, next_before, before_past}
-use Rattle.md_steps.proofs.Past.{unwrap-else}
+use Rattle.md_steps.specs.Claim.{is_laid}
 use Rattle.md_steps.proofs.Standing.{is_set_aside, implies, follows, Facts}
-
--- ---- what a heading's text is after some nodes
-pub past-heading : (context : Context) (around : Surroundings) (before : Before) (forest : Forest) →
-    (before_past context around before forest).heading
-    ≡ unwrap_or (outcome context around before forest).found.heading before.heading
-past-heading context around before Empty = refl
-past-heading context around before (Node name start end children rest) =
-    let last : Bool = around.is_outermost && is_empty rest in
-    let next : Before = next_before context around before last name start end children in
-    past-heading context around next rest
-    ∙ sym (unwrap-else (outcome context around next rest).found.heading
-    (node_of context around before last name start end children).found.heading before.heading)
 
 -- ---- a node's captured text, and the one around it
 pub record Texts (context : Context) (c : Content) (name : Name) (opened : List ℕ)

@@ -29,7 +29,7 @@ use Rattle.md_steps.specs.Claim.{Knows, KnowsEnded, KnowsCells, KnowsLines, Targ
 use Rattle.md_steps.specs.Claim.{ResourceAfter, Done, noted_all, has_marks, keeps_cells}
 use Rattle.md_steps.specs.Claim.{keeps_lines, is_laid, at_node, node_of, inner_of, next_before}
 use Rattle.md_steps.specs.Claim.{before_past}
-use Rattle.md_steps.proofs.Past.{past-spine, past-previous, past-calls, or_else-none}
+use Rattle.md_steps.proofs.Past.{past, or_else-none}
 use Rattle.md_steps.proofs.EachSide.{Leaves, is_reference}
 use Rattle.md_steps.proofs.Standing.{Facts, is_lines, picked}
 use Rattle.md_steps.proofs.Staying.{stays, childless}
@@ -96,52 +96,22 @@ marks_at Childless name facts solid = lie (sym solid ∙ facts.nothing refl)
 marks_at _ name facts solid = refl
 
 -- ---- the content of a node that passes a test, computed for all names
-reference-marks : (c : Content) (name : Name) →
-    (if is_reference name then has_marks (content_inside c name) else false) ≡ false
-reference-marks c Data = refl
-reference-marks c _ = refl
+abbrev Told : Content → Name → Type 0
+Told c name =
+    ((if is_reference name then has_marks (content_inside c name) else false) ≡ false)
+    × ((if is_underline name then has_marks (content_inside c name) else false) ≡ false)
+    × ((if is_ending name then content_inside c name else Childless) ≡ Childless)
+    × ((if is_raw name then content_inside c name else Lines) ≡ Lines)
+    × ((if is_row name then content_inside c name else Cells) ≡ Cells)
+    × ((if is_labelled name then content_inside c name else BeforeLabel) ≡ BeforeLabel)
+    × ((if is_fence name then keeps_lines (content_inside c name) else true) ≡ true)
+    × ((if is_fence name then is_raw name else false) ≡ false)
+    × ((if is_raw name then is_transparent name else false) ≡ false)
+    × ((if is_row name then is_transparent name else false) ≡ false)
 
-underline-marks : (c : Content) (name : Name) →
-    (if is_underline name then has_marks (content_inside c name) else false) ≡ false
-underline-marks c Data = refl
-underline-marks c _ = refl
-
-ending-content : (c : Content) (name : Name) →
-    (if is_ending name then content_inside c name else Childless) ≡ Childless
-ending-content c Data = refl
-ending-content c _ = refl
-
-raw-content : (c : Content) (name : Name) →
-    (if is_raw name then content_inside c name else Lines) ≡ Lines
-raw-content c Data = refl
-raw-content c _ = refl
-
-row-content : (c : Content) (name : Name) →
-    (if is_row name then content_inside c name else Cells) ≡ Cells
-row-content c Data = refl
-row-content c _ = refl
-
-labelled-content : (c : Content) (name : Name) →
-    (if is_labelled name then content_inside c name else BeforeLabel) ≡ BeforeLabel
-labelled-content c Data = refl
-labelled-content c _ = refl
-
-fence-lines : (c : Content) (name : Name) →
-    (if is_fence name then keeps_lines (content_inside c name) else true) ≡ true
-fence-lines c Data = refl
-fence-lines c _ = refl
-
-fence-raw : (name : Name) → (if is_fence name then is_raw name else false) ≡ false
-fence-raw Data = refl
-fence-raw _ = refl
-
-raw-solid : (name : Name) → (if is_raw name then is_transparent name else false) ≡ false
-raw-solid Data = refl
-raw-solid _ = refl
-
-row-solid : (name : Name) → (if is_row name then is_transparent name else false) ≡ false
-row-solid Data = refl
-row-solid _ = refl
+told : (c : Content) (name : Name) → Told c name
+told c Data = (refl, refl, refl, refl, refl, refl, refl, refl, refl, refl)
+told c _ = (refl, refl, refl, refl, refl, refl, refl, refl, refl, refl)
 
 -- the fences before a fence are counted where it is left
 pub fence-counted : (context : Context) (c : Content) (waits : Bool) (around : Surroundings)
@@ -153,8 +123,8 @@ pub fence-counted : (context : Context) (c : Content) (waits : Bool) (around : S
     s.fences ≡ count_by is_fence before.spine
 fence-counted context c waits around before last name start end children state s facts knows done
     h =
-    done.fences (picked (is_fence name) _ true (fence-lines c name) h)
-    ∙ ap (λ b. if b then 0 else state.fences) (picked (is_fence name) _ false (fence-raw name) h)
+    done.fences (picked (is_fence name) _ true (told c name).6 h)
+    ∙ ap (λ b. if b then 0 else state.fences) (picked (is_fence name) _ false (told c name).7 h)
     ∙ lines_at c before.spine state.fences state.has_chunk (facts.fence h) knows.lines
 
 -- what is known of raw flow at its end
@@ -168,9 +138,10 @@ raw_known : (context : Context) (waits : Bool) (c : Content) (name : Name) (arou
     × (s.has_chunk ≡ list_any is_chunk (spine_names children)) × (s.ended ≡ last_name children)
 raw_known context waits c name around first children s raw none before k =
     let same : content_after (content_inside c name) children ≡ Lines =
-    ap (λ c. content_after c children) (picked (is_raw name) _ Lines (raw-content c name) raw)
+    ap (λ c. content_after c children) (picked (is_raw name) _ Lines (told c name).3 raw)
     ∙ stays Lines children refl in
-    let spine = past-spine context around first children ∙ ap (λ l. l ++ spine_names children) none
+    let spine = (past context around first children).spine ∙ ap (λ l. l ++ spine_names children)
+    none
     in
     let lines : KnowsLines Lines (before_past context around first children).spine
     s.fences s.has_chunk =
@@ -181,7 +152,7 @@ raw_known context waits c name around first children s raw none before k =
     same k.ended in (
       lines.0 ∙ ap (λ l. count_by is_fence l) spine,
       lines.1 ∙ ap (λ l. list_any is_chunk l) spine,
-      ended ∙ past-previous context around first children
+      ended ∙ (past context around first children).previous
           ∙ ap (λ o. or_else (last_name children) o) before
           ∙ or_else-none (last_name children),
     )
@@ -223,21 +194,21 @@ leaves context c waits around before last name start end children state s h fact
     record {
       marker = λ e.
           let parts = and_parts _ _ e in
-          done.marker (picked (is_reference name) _ false (reference-marks c name) e)
+          done.marker (picked (is_reference name) _ false (told c name).0 e)
           ∙ ap (λ b. if b then state.marker else 38) parts.0
           ∙ knows.marker (marks_at c name facts (not-true (is_transparent name) parts.1));
       ending = λ e.
           let is = same (childless children (subst (λ c. Fits c children)
-          (picked (is_ending name) _ Childless (ending-content c name) e) fits)) in (
+          (picked (is_ending name) _ Childless (told c name).2 e) fits)) in (
             ap (λ (t : State). t.slurps) is ∙ knows.slurps,
             ap (λ (t : State). t.ended) is ∙ ap (λ b. if b then state.ended else None) e
                 ∙ ended-known c name before.previous state.ended h knows.ended,
           );
       raw = λ e. raw_known context _ c name within first children s e
-          (none (picked (is_raw name) _ false (raw-solid name) e)) refl done.knows;
+          (none (picked (is_raw name) _ false (told c name).8 e)) refl done.knows;
       fences = λ e. fence-counted context c waits around before last name start end children state s
           facts knows done e;
-      heading = λ e. done.heading (picked (is_underline name) _ false (underline-marks c name) e)
+      heading = λ e. done.heading (picked (is_underline name) _ false (told c name).1 e)
           ∙ knows.heading (line e).0;
       cell = λ e.
           let is = cell-is name e in
@@ -249,24 +220,24 @@ leaves context c waits around before last name start end children state s h fact
           );
       row = λ e.
           subst (λ x. KnowsCells x (before_past context within first children).spine s.cells)
-          (ap (λ c. content_after c children) (picked (is_row name) _ Cells (row-content c name) e)
+          (ap (λ c. content_after c children) (picked (is_row name) _ Cells (told c name).4 e)
           ∙ stays Cells children refl) done.knows.cells
           ∙ ap (λ names. count_by (is GfmTableCell) names)
-          (past-spine context within first children ∙ ap (λ l. l ++ spine_names children)
-          (none (picked (is_row name) _ false (row-solid name) e)));
+          ((past context within first children).spine ∙ ap (λ l. l ++ spine_names children)
+          (none (picked (is_row name) _ false (told c name).9 e)));
       resource = λ e.
           let found = (inner_of context around before name children).found in
           let kept : s.resource ≡ or_else found.resource (if is_labelled name then None
           else state.resource) =
           subst (λ x. ResourceAfter x found (if is_labelled name then None else state.resource)
-          s.resource) (picked (is_labelled name) _ BeforeLabel (labelled-content c name) e)
+          s.resource) (picked (is_labelled name) _ BeforeLabel (told c name).5 e)
           done.resource in
           sym (kept ∙ ap (λ b. or_else found.resource (if b then None else state.resource)) e
           ∙ or_else-none found.resource);
       referred = λ lost. resource-found context within first (content_inside c name) children fits
           lost Missing refl;
       calls = λ e. (
-        sym (done.knows.calls ∙ past-calls context within first children),
+        sym (done.knows.calls ∙ (past context within first children).calls),
         later,
         whole ∙ ap (λ l. ((before.calls ++ (inner_of context around before name children).calls)
             ++ l) ++ later) (own e),

@@ -29,7 +29,7 @@ use Rattle.md_steps.specs.Steps.{slurps_after, heading_after, is_value}
 use Rattle.md_meaning.specs.Meaning.Spans.{marker}
 use Rattle.md_steps.specs.Claim.{Knows, KnowsCells, KnowsLines, has_marks, mark_after, at_node}
 use Rattle.md_steps.specs.Claim.{inner_of, seen}
-use Rattle.md_steps.proofs.Past.{past-spine, past-columns, past-calls, past-slurps}
+use Rattle.md_steps.proofs.Past.{Passed, past}
 use Rattle.md_steps.proofs.Laid.{three}
 use Rattle.md_steps.proofs.Sides.{sides-seen}
 use Rattle.md_steps.proofs.Standing.{Facts, allowed-facts, is_nothing}
@@ -40,7 +40,7 @@ use Rattle.md_steps.proofs.Counting.{fences-kept, chunk-kept}
 use Rattle.md_steps.proofs.Targets.{target-known, resource-done, resource-known}
 use Rattle.md_steps.proofs.Leaving.{heading-known, calls-known, footnotes-known, slurps-known}
 use Rattle.md_steps.proofs.Quiet.{quiet}
-use Rattle.md_steps.proofs.CapturedTexts.{past-heading, Texts, texts, read, heading-kept}
+use Rattle.md_steps.proofs.CapturedTexts.{Texts, texts, read, heading-kept}
 use Rattle.md_steps.proofs.CapturedTexts.{aside-kept, footnote-kept, kept-text, Back, back}
 use Rattle.md_steps.proofs.NodeLeaves.{ChildrenDone, NodeDone, fence-counted, own_call, leaves}
 
@@ -118,6 +118,7 @@ node context c waits around before last name start end children state s h fits l
     let within : Surroundings = inside context.options (is_loose children) name around in
     let first : Before = before_children name children before in
     let inner : Outcome = inner_of context around before name children in
+    let after_them : Passed context within first children = past context within first children in
     let opened : List ℕ =
     laid_after context.ending state.text (opens context state.scope state.cells facts name) in
     let t : Texts context c name opened state.below inner.pieces s =
@@ -127,7 +128,7 @@ node context c waits around before last name start end children state s h fits l
     state.scopes
     s.scope s.scopes done.scopes
     (done.knows.sees
-    ∙ ap (λ columns. seen within columns) (past-columns context within first children)
+    ∙ ap (λ columns. seen within columns) after_them.columns
     ∙ sym (children_know context c waits around before last name start end children
     state knows).sees) in
     let left : State = restored name s in
@@ -136,7 +137,6 @@ node context c waits around before last name start end children state s h fits l
     let mid : List Piece = if captures name then [] else inner.pieces in
     let own : List ℕ = if captures name then layout context.ending inner.pieces else [] in
     let spine : List Name = if is_transparent name then before.spine else [] in
-    let past = past-spine context within first children in
     record {
       text = λ laid.
           ap (λ x. laid_after context.ending x (closes context left s.ended facts captured name))
@@ -163,33 +163,34 @@ node context c waits around before last name start end children state s h fits l
         slurps =
             ap (λ a. slurps_after name (record left { scope = a })) sees
             ∙ slurps-known name at left inner.slurps
-            (done.knows.slurps ∙ past-slurps context within first children) (fence-counted context c
+            (done.knows.slurps ∙ after_them.slurps) (fence-counted context c
             waits around before last name start end children state s allows knows done);
         ended = any_ended (content_after_node c name children) (Some name);
         marker = marker-after c name before.spine children s.marker (λ m. done.knows.marker m
-            ∙ ap (λ l. mark_after l) past);
+            ∙ ap (λ l. mark_after l) after_them.spine);
         lines =
             lines-known c name before.spine children state.fences s.fences state.has_chunk
             s.has_chunk allows knows.lines
             (subst (λ l. KnowsLines (content_after (content_inside c name) children) l s.fences
-            s.has_chunk) past done.knows.lines) done.fences done.chunk;
+            s.has_chunk) after_them.spine done.knows.lines) done.fences done.chunk;
         heading =
             heading-known name at waits (waits_after waits children) captured
             (layout context.ending inner.pieces) s.heading (λ e. kept-text context c name opened
             state.below inner.pieces s t (heading-kept c name e)) (λ e w.
             done.knows.heading (ap (λ b. waits_after (if b then waits else false) children) e ∙ w)
-            ∙ past-heading context within first children
+            ∙ after_them.heading
             ∙ ap (λ b. unwrap_or inner.found.heading (if b then before.heading else [])) e)
             (λ e w. line_heading context c name last start end children state s h fits same e
             ∙ knows.heading w);
         cells =
             cells-known c name before.spine children state.cells s.cells allows knows.cells
-            (subst (λ l. KnowsCells (content_after (content_inside c name) children) l s.cells) past
+            (subst (λ l. KnowsCells (content_after (content_inside c name) children) l s.cells)
+            after_them.spine
             done.knows.cells) done.cells;
         resource = resource-known c name children left.target left.resource done.knows.resource;
         calls =
             calls-known name facts.identifier before.calls inner.calls s.calls
-            (done.knows.calls ∙ past-calls context within first children);
+            (done.knows.calls ∙ after_them.calls);
       };
       cells = cells-kept c name state.cells s.cells allows done.cells;
       fences = fences-kept c name state.fences s.fences allows done.fences;

@@ -29,7 +29,7 @@ use Rattle.md_steps.specs.Claim.{has_marks, keeps_cells, keeps_lines, is_laid, n
 use Rattle.md_steps.specs.Claim.{next_before}
 use Rattle.md_steps.proofs.Laid.{laid-append}
 use Rattle.md_steps.proofs.Noted.{noted-append}
-use Rattle.md_steps.proofs.Staying.{node-same, past-cells, past-lines, past-marks, past-laid}
+use Rattle.md_steps.proofs.Staying.{node-same, past-as}
 use Rattle.md_steps.proofs.Inside.{children_know}
 use Rattle.md_steps.proofs.NodeLeaves.{ChildrenDone, NodeDone, own_call}
 use Rattle.md_steps.proofs.NodeRuns.{node}
@@ -165,7 +165,7 @@ nodes context c waits around before (Node name start end children rest) state fi
     ) in
     record {
       text = λ laid.
-          later.text (node-same is_laid past-laid c name children ∙ laid)
+          later.text (node-same is_laid (past-as is_laid refl) c name children ∙ laid)
           ∙ ap (λ t. laid_after context.ending t (outcome context around next rest).pieces)
           (here.text laid) ∙ sym (laid-append context.ending state.text
           (node_of context around before
@@ -174,15 +174,20 @@ nodes context c waits around before (Node name start end children rest) state fi
       scopes = later.scopes ∙ here.scopes;
       knows = later.knows;
       cells = λ keeps.
-          later.cells (node-same keeps_cells past-cells c name children ∙ keeps) ∙ here.cells keeps;
-      fences = λ keeps. later.fences (node-same keeps_lines past-lines c name children ∙ keeps)
+          later.cells (node-same keeps_cells (past-as keeps_cells refl) c name children ∙ keeps) ∙
+          here.cells keeps;
+      fences = λ keeps. later.fences (node-same keeps_lines (past-as keeps_lines refl) c name
+          children ∙ keeps)
           ∙ here.fences keeps;
       chunk = λ keeps.
-          later.chunk (node-same keeps_lines past-lines c name children ∙ keeps) ∙ here.chunk keeps;
+          later.chunk (node-same keeps_lines (past-as keeps_lines refl) c name children ∙ keeps) ∙
+          here.chunk keeps;
       marker = λ none.
-          later.marker (node-same has_marks past-marks c name children ∙ none) ∙ here.marker none;
+          later.marker (node-same has_marks (past-as has_marks refl) c name children ∙ none) ∙
+          here.marker none;
       heading = λ none.
-          later.heading (node-same has_marks past-marks c name children ∙ none) ∙ here.heading none;
+          later.heading (node-same has_marks (past-as has_marks refl) c name children ∙ none) ∙
+          here.heading none;
       target =
           target-both c name children
           (node_of context around before last name start end children).found

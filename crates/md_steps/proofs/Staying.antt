@@ -5,9 +5,8 @@ use Rattle.md_base.specs.declared.event.Name.{Name}
 use Rattle.md_base.proofs.Lies.{lie}
 use Rattle.md_base.specs.Tree.{Forest, Empty, Node}
 use Rattle.md_base.specs.NameTests.{is_transparent}
-use Rattle.md_steps.specs.Content.{Content, BeforeLabel, Childless, Fits, content_past}
+use Rattle.md_steps.specs.Content.{Content, BeforeLabel, AfterLabel, Childless, Fits, content_past}
 use Rattle.md_steps.specs.Content.{content_after, content_after_node}
-use Rattle.md_steps.specs.Claim.{is_laid, keeps_cells, keeps_lines, has_marks}
 
 pub one_or_other : {A : Type 0} (b : Bool) {x y z : A} → x ≡ z → y ≡ z → (if b then x else y) ≡ z
 one_or_other true h k = h
@@ -47,21 +46,10 @@ node-same p past content name children =
     either p (is_transparent name) (content_after content children) (content_past content)
     (p content) (after-same p past content children) (past content)
 
-pub past-cells : (c : Content) → keeps_cells (content_past c) ≡ keeps_cells c
-past-cells BeforeLabel = refl
-past-cells _ = refl
-
-pub past-lines : (c : Content) → keeps_lines (content_past c) ≡ keeps_lines c
-past-lines BeforeLabel = refl
-past-lines _ = refl
-
-pub past-marks : (c : Content) → has_marks (content_past c) ≡ has_marks c
-past-marks BeforeLabel = refl
-past-marks _ = refl
-
-pub past-laid : (c : Content) → is_laid (content_past c) ≡ is_laid c
-past-laid BeforeLabel = refl
-past-laid _ = refl
+pub past-as : (p : Content → Bool) → p AfterLabel ≡ p BeforeLabel → (c : Content) →
+    p (content_past c) ≡ p c
+past-as p same BeforeLabel = same
+past-as p same _ = refl
 
 -- nothing stands there
 pub childless : (forest : Forest) → Fits Childless forest → forest ≡ Empty

@@ -30,7 +30,7 @@ use Rattle.md_meaning.specs.Meaning.Footnotes.{section}
 use Rattle.md_steps.proofs.Laid.{laid-append}
 use Rattle.md_steps.proofs.Noted.{section-noted}
 use Rattle.md_steps.proofs.ContentFits.{shaped-fits}
-use Rattle.md_steps.proofs.Past.{past-calls}
+use Rattle.md_steps.proofs.Past.{past}
 use Rattle.md_steps.proofs.Runs.{nodes, begins}
 use Rattle.md_steps.proofs.Defined.{defined-known}
 use Rattle.md_steps.proofs.Running.{run-over}
@@ -66,7 +66,7 @@ prints-meant context document grammatical calls =
     ([], calls ∙ sym (append-nil (outcome context outermost nothing_before document).calls)) in (
       ap (λ (s : State). s.text) ran ∙ done.text refl,
       ap (λ (s : State). s.calls) ran ∙ done.knows.calls
-          ∙ past-calls context outermost nothing_before document,
+          ∙ (past context outermost nothing_before document).calls,
       ap (λ (s : State). s.footnotes) ran ∙ done.footnotes,
     )
 
