@@ -23,7 +23,7 @@ use Rattle.md_meaning.specs.Meaning.At.{Defined, identifier_of}
 use Rattle.md_content.specs.References.{Everywhere, ResolvesAlike, defined_in, footnotes_defined_in}
 use Rattle.md_content.specs.References.{first_of}
 use Rattle.md_content.specs.References.{found_at}
-use Rattle.md_content.proofs.Identifiers.{definitions-known, footnotes-known, known}
+use Rattle.md_content.proofs.Identifiers.{identifiers-known, known}
 
 which_first : (identifiers : List (List ℕ)) (wanted : List ℕ) →
     which (map Some identifiers) (Some wanted) ≡ first_of identifiers wanted
@@ -84,11 +84,11 @@ each bytes names document is (Node name start end children rest) around before m
         looked_up (defined bytes (mentions_of document)) (defined_in bytes document)
             (label_identifier bytes label)
             (identifier_of bytes children) (defined-texts bytes (mentions_of document) mentions)
-            (definitions-known bytes document _ _ (IsGrammatical.shape is).0) text,
+            (identifiers-known bytes document _ _ (IsGrammatical.shape is).0).0 text,
         looked_up (footnoted bytes (mentions_of document)) (footnotes_defined_in bytes document)
             (label_identifier bytes label)
             (identifier_of bytes children) (footnoted-texts bytes (mentions_of document) mentions)
-            (footnotes-known bytes document _ _ (IsGrammatical.shape is).0) text,
+            (identifiers-known bytes document _ _ (IsGrammatical.shape is).0).1 text,
       ),
   each bytes names document is children _ _ meets.1,
   each bytes names document is rest _ _ meets.2,

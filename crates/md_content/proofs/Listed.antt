@@ -50,47 +50,38 @@ own-one : {A : Type 0} (of : A → List ℕ) (test : Bool) (own : A) →
 own-one of true own = refl
 own-one of false own = refl
 
+pub listed :
+    (context : Context) (around : Surroundings) (before : Before) (forest : Forest) →
+    (map (λ defined. defined.identifier) (outcome context around before forest).definitions
+    ≡ defined_in context.bytes forest)
+    × (map (λ footnote. footnote.identifier) (outcome context around before forest).footnotes
+    ≡ footnotes_defined_in context.bytes forest)
+listed context around before Empty = (refl, refl)
+listed context around before (Node name start end children rest) =
+    let nested : Surroundings = inside context.options (is_loose children) name around in
+    let within : Before = before_children name children before in
+    let inner : Outcome = outcome context nested within children in
+    let at : At =
+    node_at around before children start end (around.is_outermost && is_empty rest) inner in
+    let next : Before = before_next at name (node context at name inner) in
+    let later : Outcome = outcome context around next rest in
+    let identifier = identifier_of context.bytes children in
+    let own : Defined = record { identifier = identifier; target = target_in at.found } in
+    let note : Footnote =
+    record { identifier = identifier; text = layout context.ending inner.pieces } in
+    let in_it = listed context nested within children in
+    let after_it = listed context around next rest in (
+      in_a_row (λ (d : Defined). d.identifier) inner.definitions
+          (when (is Definition name) (own ∷ [])) later.definitions _ _ _ in_it.0
+          (own-one (λ (d : Defined). d.identifier) (is Definition name) own) after_it.0,
+      in_a_row (λ (f : Footnote). f.identifier) inner.footnotes
+          (when (is GfmFootnoteDefinition name) (note ∷ [])) later.footnotes _ _ _ in_it.1
+          (own-one (λ (f : Footnote). f.identifier) (is GfmFootnoteDefinition name) note)
+          after_it.1,
+    )
+
 pub definitions-listed :
     (context : Context) (around : Surroundings) (before : Before) (forest : Forest) →
     map (λ defined. defined.identifier) (outcome context around before forest).definitions
     ≡ defined_in context.bytes forest
-definitions-listed context around before Empty = refl
-definitions-listed context around before (Node name start end children rest) =
-    let of : Defined → List ℕ = λ defined. defined.identifier in
-    let nested : Surroundings = inside context.options (is_loose children) name around in
-    let within : Before = before_children name children before in
-    let inner : Outcome = outcome context nested within children in
-    let at : At =
-    node_at around before children start end (around.is_outermost && is_empty rest) inner in
-    let next : Before = before_next at name (node context at name inner) in
-    let identifier = identifier_of context.bytes children in
-    let own : Defined = record { identifier = identifier; target = target_in at.found } in
-    in_a_row of inner.definitions (when (is Definition name) (own ∷ []))
-    (outcome context around next rest).definitions (defined_in context.bytes children)
-    (when (is Definition name) (identifier ∷ [])) (defined_in context.bytes rest)
-    (definitions-listed context nested within children) (own-one of (is Definition name) own)
-    (definitions-listed context around next rest)
-
-pub footnotes-listed : (context : Context) (around : Surroundings) (before : Before)
-    (forest : Forest) →
-    map (λ footnote. footnote.identifier) (outcome context around before forest).footnotes
-    ≡ footnotes_defined_in context.bytes forest
-footnotes-listed context around before Empty = refl
-footnotes-listed context around before (Node name start end children rest) =
-    let of : Footnote → List ℕ = λ footnote. footnote.identifier in
-    let nested : Surroundings = inside context.options (is_loose children) name around in
-    let within : Before = before_children name children before in
-    let inner : Outcome = outcome context nested within children in
-    let at : At =
-    node_at around before children start end (around.is_outermost && is_empty rest) inner in
-    let next : Before = before_next at name (node context at name inner) in
-    let identifier = identifier_of context.bytes children in
-    let own : Footnote =
-    record { identifier = identifier; text = layout context.ending inner.pieces } in
-    in_a_row of inner.footnotes (when (is GfmFootnoteDefinition name) (own ∷ []))
-    (outcome context around next rest).footnotes (footnotes_defined_in context.bytes children)
-    (when (is GfmFootnoteDefinition name) (identifier ∷ []))
-    (footnotes_defined_in context.bytes rest)
-    (footnotes-listed context nested within children)
-    (own-one of (is GfmFootnoteDefinition name) own)
-    (footnotes-listed context around next rest)
+definitions-listed context around before forest = (listed context around before forest).0

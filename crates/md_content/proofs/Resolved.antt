@@ -34,7 +34,7 @@ use Rattle.md_content.proofs.FineNodes.{IsFine, fine, shaped}
 use Rattle.md_content.proofs.Referring.{media-refers, call-refers}
 use Rattle.md_content.proofs.Leading.{call-label, definition-label, footnote-label}
 use Rattle.md_content.proofs.TextsThere.{everywhere}
-use Rattle.md_content.proofs.Identifiers.{known, named, definitions-known, footnotes-known}
+use Rattle.md_content.proofs.Identifiers.{known, named, identifiers-known}
 
 both : (holds others more : Name → Point → Point → Forest → Type 0) →
     ((name : Name) (start end : Point) (children : Forest) → holds name start end children →
@@ -190,8 +190,7 @@ pub leads-somewhere : (bytes : List ℕ) (names : List (List ℕ × List ℕ)) (
     IsGrammatical bytes names document → Everywhere (RefersSomewhere bytes document) document
 leads-somewhere bytes names document grammatical =
     let mentions = mentions_of document in
-    let d = definitions-known bytes document role.Flow None grammatical.shape.0 in
-    let f = footnotes-known bytes document role.Flow None grammatical.shape.0 in
+    let lists = identifiers-known bytes document role.Flow None grammatical.shape.0 in
     both (λ name start end children. IsResolved bytes mentions
     (mention_of (reading_of (standing_of name)) (target_of children Missing)))
     (Refers bytes mentions document)
@@ -201,7 +200,7 @@ leads-somewhere bytes names document grammatical =
     (mention-everywhere (IsResolved bytes mentions) document grammatical.resolved)
     (everywhere bytes names (Refers bytes mentions document)
     (λ around before name start end children here inner. node-leads bytes names mentions
-    document d f around before
+    document lists.0 lists.1 around before
     name start end children here (shaped bytes names children _ _ inner))
     document role.Flow None
     (fine bytes names document role.Flow None grammatical.shape.0 grammatical.rules))
