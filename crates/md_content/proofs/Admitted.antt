@@ -1,10 +1,10 @@
 -- A node that matches the pattern of a role may occur in each node with that role: by computing
 -- over the patterns, once for each name. The proof that documents are built so depends on it.
 use denote.Enum.Bare.{sameb}
-use Rattle.std.proofs.Common.{◌≡◌, ℕ, zero, suc, Bool, true, false, ◌&&◌, ◌||◌, List, []}
+use Rattle.std.proofs.Common.{inl, inr, ◌≡◌, ℕ, zero, suc, Bool, true, false, ◌&&◌, ◌||◌, List, []}
 use Rattle.std.proofs.Common.{◌∷◌, ◌++◌, length, replicate, refl, sym, subst, arith}
 use Rattle.std.specs.List.{list_all, list_any}
-use Rattle.std.proofs.lemmas.Bool.{and_parts, and_from}
+use Rattle.std.proofs.lemmas.Bool.{or_cases, and_parts, and_from}
 use denote.Enum.Bare.{same_true}
 use Rattle.md_base.proofs.Lies.{lie}
 use Rattle.md_pattern.specs.contracts.kinds.Symbol.{the_type}
@@ -64,16 +64,11 @@ pub taken : (test : Symbol → Bool) (symbols : List Symbol) (symbol : Symbol) �
 taken test [] symbol seen h = lie seen
 taken test (member ∷ symbols) symbol seen h =
     let parts = and_parts _ _ h in
-    by (sameb the_type member symbol) refl seen parts.0
-    (λ later. taken test symbols symbol later parts.1)
-  where
-    by : (same : Bool) → sameb the_type member symbol ≡ same →
-        (same || list_any (λ m. sameb the_type m symbol) symbols) ≡ true → test member ≡ true →
-        (list_any (λ m. sameb the_type m symbol) symbols ≡ true → test symbol ≡ true) →
-        test symbol ≡ true
-    by true e seen here later =
-        subst (λ s. test s ≡ true) (same_true the_type tt member symbol e) here
-    by false e seen here later = later seen
+    elim (or_cases _ _ seen) [
+      | inl same ↦
+          subst (λ s. test s ≡ true) (same_true the_type tt member symbol same) parts.0
+      | inr later ↦ taken test symbols symbol later parts.1
+    ]
 
 -- one symbol of an item, and the rest of the pattern after it
 abbrev pub one_admits : (Bool → Content → Bool) → Bool → Content → Symbol → Bool

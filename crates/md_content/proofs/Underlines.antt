@@ -1,6 +1,6 @@
 -- Where underlines stand on the spines of the grammar, and in its documents: a heading that is
 -- printed at its underline is printed once.
-use Rattle.std.proofs.Common.{◌≡◌, ℕ, zero, suc, Bool, true, false, ◌&&◌, cond, List, []}
+use Rattle.std.proofs.Common.{arith, ◌≡◌, ℕ, zero, suc, Bool, true, false, ◌&&◌, cond, List, []}
 use Rattle.std.proofs.Common.{◌∷◌, ◌++◌, refl, sym, ap, subst, ◌∙◌, Option, None}
 use Rattle.std.specs.Prelude.{replicate, map}
 use Rattle.std.specs.List.{list_all}
@@ -117,12 +117,7 @@ node-waits :
 node-waits (Other number) children around before waits is same = same
 node-waits BlockQuotePrefix children around before waits is same = same
 node-waits SpaceOrTab children around before waits is same = ap (λ f. waits_after waits f) is
-node-waits MdxEsm children around before waits is same = absurd is
-node-waits MdxFlowExpression children around before waits is same = absurd is
-node-waits MdxTextExpression children around before waits is same = absurd is
-node-waits MdxJsxFlowTag children around before waits is same = absurd is
-node-waits MdxJsxTextTag children around before waits is same = absurd is
-node-waits _ children around before waits is same = refl
+node-waits _ children around before waits is same = grind arith
 
 -- and after some nodes as after their spine
 same-waits : (forest : Forest) (around : Role) (before : Option Symbol) (waits : Bool) →

@@ -4,7 +4,7 @@ use Rattle.std.proofs.Common.{◌∙◌, unwrap_or}
 use Rattle.std.specs.Prelude.{if◌then◌else◌}
 use Rattle.md_base.specs.declared.event.Name.{Name}
 use Rattle.md_base.specs.declared.event.Name.TheVariants as name_variants
-use name_variants.{LineEnding, SpaceOrTab, BlockQuotePrefix, Other}
+use name_variants.{Data, LineEnding, SpaceOrTab, BlockQuotePrefix, Other}
 use Rattle.md_base.specs.declared.event.Point.{Point}
 use Rattle.md_base.proofs.Lies.{lie}
 use Rattle.md_base.specs.Is.{is}
@@ -32,7 +32,7 @@ use Rattle.md_steps.specs.Claim.{inner_of, seen}
 use Rattle.md_steps.proofs.Past.{Passed, past}
 use Rattle.md_steps.proofs.Laid.{three}
 use Rattle.md_steps.proofs.Sides.{sides-seen}
-use Rattle.md_steps.proofs.Standing.{Facts, allowed-facts, is_nothing}
+use Rattle.md_steps.proofs.Standing.{Facts, allowed-facts, is_nothing, picked}
 use Rattle.md_steps.proofs.Staying.{childless}
 use Rattle.md_steps.proofs.Inside.{children_know, any_ended}
 use Rattle.md_steps.proofs.Counting.{marker-after, cells-known, cells-kept, lines-known}
@@ -61,39 +61,11 @@ nothing_is Nothing e = refl
 nothing_is Childless e = refl
 nothing_is _ e = lie (sym e)
 
-through-marks : (c : Content) (name : Name) → Facts c name → has_marks c ≡ false →
-    has_marks (content_inside c name) ≡ false
-through-marks c name allows e =
-    ap (λ b. has_marks (if b then c else content_of name)) (allows.nothing (nothing_is c e)) ∙ e
-
-through-marker : (c : Content) (name : Name) (m : ℕ) → Facts c name → has_marks c ≡ false →
-    (if is_transparent name then m else marker name) ≡ m
-through-marker c name m allows e =
-    ap (λ b. if b then m else marker name) (allows.nothing (nothing_is c e))
-
-value-through : (name : Name) (m : ℕ) → is_transparent name ≡ true →
-    (if is_value name then m else 38) ≡ m
-value-through SpaceOrTab m h = refl
-value-through BlockQuotePrefix m h = refl
-value-through (Other number) m h = refl
-value-through _ m h = lie h
-
-through-value : (c : Content) (name : Name) (m : ℕ) → Facts c name → has_marks c ≡ false →
-    (if is_value name then m else 38) ≡ m
-through-value c name m allows e = value-through name m (allows.nothing (nothing_is c e))
-
-heading-through : (name : Name) (inner heading : List ℕ) → is_transparent name ≡ true →
-    heading_after name inner heading ≡ heading
-heading-through SpaceOrTab inner heading h = refl
-heading-through BlockQuotePrefix inner heading h = refl
-heading-through (Other number) inner heading h = refl
-heading-through _ inner heading h = lie h
-
-through-heading : (c : Content) (name : Name) (inner heading : List ℕ) → Facts c name →
-    has_marks c ≡ false →
-    heading_after name inner heading ≡ heading
-through-heading c name inner heading allows e =
-    heading-through name inner heading (allows.nothing (nothing_is c e))
+through : (name : Name) (m : ℕ) (inner heading : List ℕ) →
+    ((if is_transparent name then (if is_value name then m else 38) else m) ≡ m)
+    × ((if is_transparent name then heading_after name inner heading else heading) ≡ heading)
+through Data m inner heading = (refl, refl)
+through _ m inner heading = (refl, refl)
 
 pub node : (context : Context) (c : Content) (waits : Bool) (around : Surroundings)
     (before : Before)
@@ -195,11 +167,15 @@ node context c waits around before last name start end children state s h fits l
       cells = cells-kept c name state.cells s.cells allows done.cells;
       fences = fences-kept c name state.fences s.fences allows done.fences;
       chunk = chunk-kept c name state.has_chunk s.has_chunk allows done.chunk;
-      marker =
-          λ e. through-marker c name s.marker allows e ∙ done.marker (through-marks c name allows e)
-          ∙ through-value c name state.marker allows e;
-      heading = λ e. through-heading c name captured s.heading allows e
-          ∙ done.heading (through-marks c name allows e);
+      marker = λ e.
+          let clear = allows.nothing (nothing_is c e) in
+          ap (λ b. if b then s.marker else marker name) clear
+          ∙ done.marker (ap (λ b. has_marks (if b then c else content_of name)) clear ∙ e)
+          ∙ picked (is_transparent name) _ _ (through name state.marker [] []).0 clear;
+      heading = λ e.
+          let clear = allows.nothing (nothing_is c e) in
+          picked (is_transparent name) _ _ (through name 0 captured s.heading).1 clear
+          ∙ done.heading (ap (λ b. has_marks (if b then c else content_of name)) clear ∙ e);
       target =
           target-known c name at captured (layout context.ending inner.pieces)
           state.target s.target allows h

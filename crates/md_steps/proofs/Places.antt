@@ -4,6 +4,7 @@ use Rattle.std.proofs.Common.{ap, sym, ◌∙◌, subst, bytes_eq, filter}
 use Rattle.std.specs.Prelude.{if◌then◌else◌}
 use Rattle.std.specs.List.{list_any}
 use Rattle.std.proofs.lemmas.Slice.Eq.{bytes_eq-Decides}
+use Rattle.std.proofs.lemmas.List.Elements.{filter-append}
 use Rattle.md_base.proofs.Lies.{lie}
 use Rattle.md_meaning.specs.Meaning.Footnotes.{distinct, place_among}
 
@@ -16,16 +17,6 @@ is_other first other = not (bytes_eq other first)
 -- an identifier is among others
 abbrev among : List Identifier → Identifier → Bool
 among xs x = list_any (λ y. bytes_eq y x) xs
-
-filter-append : (p : Identifier → Bool) (xs ys : List Identifier) →
-    filter p (xs ++ ys) ≡ filter p xs ++ filter p ys
-filter-append p [] ys = refl
-filter-append p (x ∷ xs) ys =
-    elim (p x) as (λ b. (if b then x ∷ filter p (xs ++ ys) else filter p (xs ++ ys))
-    ≡ (if b then x ∷ filter p xs else filter p xs) ++ filter p ys) [
-      | true ↦ ap (λ l. x ∷ l) (filter-append p xs ys)
-      | false ↦ filter-append p xs ys
-    ]
 
 -- the distinct ones of more begin with those of fewer
 distinct-append : (xs ys : List Identifier) →

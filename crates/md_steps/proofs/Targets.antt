@@ -1,5 +1,6 @@
 -- The target of a node at its exit: the target so far, and the resource after a label.
-use Rattle.std.proofs.Common.{◌≡◌, ℕ, Bool, true, false, not, ◌||◌, List, [], Option, Some, None}
+use Rattle.std.proofs.Common.{arith, ◌≡◌, ℕ, Bool, true, false, not, ◌||◌, List, [], Option, Some}
+use Rattle.std.proofs.Common.{None}
 use Rattle.std.proofs.Common.{refl, ap, sym, ◌∙◌, unwrap_or}
 use Rattle.std.specs.Prelude.{if◌then◌else◌}
 use Rattle.md_base.specs.declared.event.Name.{Name}
@@ -165,20 +166,14 @@ in-media : (name : Name) (at : At) (text : List ℕ) (state resource : Option Ta
 in-media Resource at text state resource before target h solid t k =
     ap (λ x. Some x) (target-gathered at.found target t)
 in-media ReferenceString at text state resource before target h solid t k = k
-in-media SpaceOrTab at text state resource before target h solid t k = lie (sym solid)
-in-media BlockQuotePrefix at text state resource before target h solid t k = lie (sym solid)
-in-media (Other number) at text state resource before target h solid t k = lie (sym solid)
-in-media _ at text state resource before target h solid t k = lie h
+in-media _ at text state resource before target h solid t k = grind arith
 
 at-label :
     (name : Name) (at : At) (text : List ℕ) (state resource : Option Target) (target : Target) →
     is_allowed BeforeLabel name ≡ true → is_transparent name ≡ false → state ≡ None →
     resource_after name target resource ≡ or_else (found_at at name text).resource state
 at-label Label at text state resource target h solid k = sym k
-at-label SpaceOrTab at text state resource target h solid k = lie (sym solid)
-at-label BlockQuotePrefix at text state resource target h solid k = lie (sym solid)
-at-label (Other number) at text state resource target h solid k = lie (sym solid)
-at-label _ at text state resource target h solid k = lie h
+at-label _ at text state resource target h solid k = grind arith
 
 resource-solid :
     (c : Content) (name : Name) (at : At) (text : List ℕ) (state resource : Option Target)
