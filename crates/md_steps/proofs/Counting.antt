@@ -6,7 +6,6 @@ use Rattle.std.specs.Option.{option_map_or}
 use Rattle.std.specs.List.{list_any}
 use Rattle.std.proofs.lemmas.List.Sums.{sum_by-append}
 use Rattle.std.proofs.lemmas.List.Folds.{list_any-append}
-use Rattle.std.proofs.Math.Bool.{or-false}
 use Rattle.md_base.specs.declared.event.Name.{Name}
 use Rattle.md_base.specs.declared.event.Name.TheVariants as name_variants
 use name_variants.{SpaceOrTab, BlockQuotePrefix, Other, GfmTableCell}
@@ -44,11 +43,7 @@ marker-after c name spine children inner k h = sym (mark-push spine name)
 -- ---- cells
 count-push : (p : Name → Bool) (xs : List Name) (x : Name) →
     count_by p (xs ++ x ∷ []) ≡ count_by p xs + cond (p x) 1 0
-count-push p xs x = sum_by-append (λ y. cond (p y) 1 0) xs (x ∷ [])
-    ∙ ap (λ n. count_by p xs + n) (zero_plus (cond (p x) 1 0))
-  where
-    zero_plus : (n : ℕ) → 0 + n ≡ n
-    zero_plus n = omega arith
+count-push p xs x = omega (arith, sum_by-append (λ y. cond (p y) 1 0) xs (x ∷ []))
 
 in_row : (name : Name) (spine : List Name) (start inner : ℕ) → is_cell name ≡ true →
     start ≡ count_by (is GfmTableCell) spine → inner ≡ start →
@@ -101,20 +96,11 @@ abbrev fences_after : Name → ℕ → ℕ
 fences_after name fences = if is_fence name then fences + 1 else fences
 
 plus_if : (b : Bool) (n : ℕ) → (if b then n + 1 else n) ≡ n + cond b 1 0
-plus_if true n = refl
-plus_if false n = omega arith
-
-or_comm : (a b : Bool) → a || b ≡ b || a
-or_comm true true = refl
-or_comm true false = refl
-or_comm false true = refl
-or_comm false false = refl
+plus_if b n = grind arith
 
 chunk-push : (p : Name → Bool) (xs : List Name) (x : Name) →
     list_any p (xs ++ x ∷ []) ≡ p x || list_any p xs
-chunk-push p xs x =
-    list_any-append p xs (x ∷ []) ∙ ap (λ b. list_any p xs || b) (or-false (p x))
-    ∙ or_comm (list_any p xs) (p x)
+chunk-push p xs x = grind (arith, list_any-append p xs (x ∷ []))
 
 in-lines : (c : Content) (name : Name) (spine : List Name) (fences inner : ℕ)
     (chunk within : Bool) → Facts c name →

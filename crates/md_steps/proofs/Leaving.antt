@@ -1,5 +1,6 @@
 -- The other parts of a state where a node is left: headings, calls, footnotes, endings to slurp.
-use Rattle.std.proofs.Common.{◌≡◌, ℕ, ◌==◌, Bool, true, false, ◌&&◌, ◌||◌, List, [], ◌∷◌, ◌++◌}
+use Rattle.std.proofs.Common.{arith, ◌≡◌, ℕ, ◌==◌, Bool, true, false, ◌&&◌, ◌||◌, List, [], ◌∷◌}
+use Rattle.std.proofs.Common.{◌++◌}
 use Rattle.std.proofs.Common.{refl, ap, sym, ◌∙◌, append_assoc, append-nil, unwrap_or}
 use Rattle.std.specs.Prelude.{if◌then◌else◌, count_by}
 use Rattle.md_base.specs.declared.event.Name.{Name}
@@ -76,9 +77,7 @@ fence-lets LineEnding at slurps = refl
 fence-lets _ at slurps = refl
 
 or_falses : (a s : Bool) → a || s ≡ a || false || false || false || s && true
-or_falses true s = refl
-or_falses false true = refl
-or_falses false false = refl
+or_falses a s = grind arith
 
 -- any other name by the surroundings alone
 abbrev slurping : At → Bool → Bool → Name → Bool → Bool
@@ -96,16 +95,11 @@ SlurpsSo defines code slurps name at left =
 
 slurps-so : (defines code slurps : Bool) (name : Name) (at : At) (left : State) →
     SlurpsSo defines code slurps name at left
-slurps-so true code slurps LineEnding at left = refl
-slurps-so true code slurps _ at left = refl
-slurps-so false true true LineEnding at left = refl
-slurps-so false true true _ at left = refl
-slurps-so false true false LineEnding at left = refl
-slurps-so false true false _ at left = refl
-slurps-so false false true LineEnding at left = refl
-slurps-so false false true _ at left = refl
-slurps-so false false false LineEnding at left = refl
-slurps-so false false false _ at left = refl
+slurps-so true true true LineEnding at left = refl
+slurps-so _ true true LineEnding at left = refl
+slurps-so _ _ true LineEnding at left = refl
+slurps-so _ _ _ LineEnding at left = refl
+slurps-so _ _ _ _ at left = refl
 
 pub slurps-known : (name : Name) (at : At) (left : State) (inner : Bool) → left.slurps ≡ inner →
     (is_fence name ≡ true → left.fences ≡ count_by is_fence at.before.spine) →

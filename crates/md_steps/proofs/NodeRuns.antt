@@ -4,7 +4,7 @@ use Rattle.std.proofs.Common.{◌∙◌, unwrap_or}
 use Rattle.std.specs.Prelude.{if◌then◌else◌}
 use Rattle.md_base.specs.declared.event.Name.{Name}
 use Rattle.md_base.specs.declared.event.Name.TheVariants as name_variants
-use name_variants.{Data, LineEnding, SpaceOrTab, BlockQuotePrefix, Other}
+use name_variants.{Data, LineEnding}
 use Rattle.md_base.specs.declared.event.Point.{Point}
 use Rattle.md_base.proofs.Lies.{lie}
 use Rattle.md_base.specs.Is.{is}

@@ -4,6 +4,7 @@ use Rattle.std.proofs.Common.{ap, sym, ◌∙◌, subst, bytes_eq, filter}
 use Rattle.std.specs.Prelude.{if◌then◌else◌}
 use Rattle.std.specs.List.{list_any}
 use Rattle.std.proofs.lemmas.Slice.Eq.{bytes_eq-Decides}
+use Rattle.std.proofs.lemmas.Bool.{or_left, or_right}
 use Rattle.std.proofs.lemmas.List.Elements.{filter-append}
 use Rattle.md_base.proofs.Lies.{lie}
 use Rattle.md_meaning.specs.Meaning.Footnotes.{distinct, place_among}
@@ -50,10 +51,10 @@ filter-keeps p (y ∷ xs) x h k =
     elim (bytes_eq y x) as (λ b. bytes_eq y x ≡ b → (b || among xs x) ≡ true →
     among (if p y then y ∷ filter p xs else filter p xs) x ≡ true) [
       | true ↦ λ e g. subst (λ c. among (if c then y ∷ filter p xs else filter p xs) x ≡ true)
-          (sym (ap p ((bytes_eq-Decides y x).0 e) ∙ k)) (ap (λ b. b || among (filter p xs) x) e)
+          (sym (ap p ((bytes_eq-Decides y x).0 e) ∙ k)) (or_left _ _ e)
       | false ↦
           λ e g. elim (p y) as (λ c. among (if c then y ∷ filter p xs else filter p xs) x ≡ true) [
-            | true ↦ ap (λ b. b || among (filter p xs) x) e ∙ filter-keeps p xs x g k
+            | true ↦ or_right _ _ (filter-keeps p xs x g k)
             | false ↦ filter-keeps p xs x g k
           ]
     ] refl h
@@ -78,10 +79,7 @@ distinct-has (y ∷ xs) x h =
 
 last-among : (xs : List Identifier) (x : Identifier) → among (xs ++ x ∷ []) x ≡ true
 last-among [] x = ap (λ b. b || false) (same-self x)
-last-among (y ∷ xs) x = elim (bytes_eq y x) as (λ b. (b || among (xs ++ x ∷ []) x) ≡ true) [
-  | true ↦ refl
-  | false ↦ last-among xs x
-]
+last-among (y ∷ xs) x = or_right _ _ (last-among xs x)
 
 pub place-so-far : (calls : List Identifier) (x : Identifier) (later : List Identifier) →
     place_among (distinct ((calls ++ x ∷ []) ++ later)) x

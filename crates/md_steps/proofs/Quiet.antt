@@ -21,7 +21,7 @@ use Rattle.md_meaning.specs.Meaning.Layout.{when}
 use Rattle.md_meaning.specs.Meaning.At.{Context, Before}
 use Rattle.md_meaning.specs.Meaning.Before.{before_children, lets_slurp}
 use Rattle.md_meaning.specs.Meaning.Nodes.{outcome}
-use Rattle.md_steps.specs.Content.{Content, Blocks, Nothing, Fits, is_allowed, content_of}
+use Rattle.md_steps.specs.Content.{Content, Blocks, Fits, is_allowed, content_of}
 use Rattle.md_steps.specs.Content.{content_inside}
 use Rattle.md_steps.specs.Content.{content_past, content_after_node}
 use Rattle.md_steps.specs.Claim.{at_node, inner_of, node_of, next_before}
@@ -85,11 +85,7 @@ callless-names _ Data = refl
 callless-names _ _ = refl
 
 pub past-callless : (c : Content) → is_callless (content_past c) ≡ is_callless c
-past-callless c = by c
-  where
-    by : (x : Content) → is_callless (content_past x) ≡ is_callless x
-    by Nothing = refl
-    by _ = refl
+past-callless c = past-as is_callless refl c
 
 no_more : {A : Type 0} (a b : List A) (t : Bool) (x : A) → a ≡ [] → t ≡ false → b ≡ [] →
     (a ++ when t (x ∷ [])) ++ b ≡ []
