@@ -42,18 +42,13 @@ use Rattle.md_steps.proofs.Leaving.{heading-known, calls-known, footnotes-known,
 use Rattle.md_steps.proofs.Quiet.{quiet}
 use Rattle.md_steps.proofs.CapturedTexts.{Texts, texts, read, heading-kept}
 use Rattle.md_steps.proofs.CapturedTexts.{aside-kept, footnote-kept, kept-text, Back, back}
-use Rattle.md_steps.proofs.NodeLeaves.{ChildrenDone, NodeDone, fence-counted, own_call, leaves}
+use Rattle.md_steps.proofs.NodeLeaves.{Reached, NodeDone, fence-counted, leaves}
 
 -- a line ending has no children
-line_heading : (context : Context) (c : Content) (name : Name) (last : Bool)
-    (start end : Point) (children : Forest)
-    (state s : State) → is_allowed c name ≡ true → Fits (content_inside c name) children →
-    (children ≡ Empty →
-    s ≡ entered context (facts_of context.bytes last children start end) name state) →
-    is LineEnding name ≡ true → s.heading ≡ state.heading
-line_heading context c LineEnding last start end children state s h fits same e =
-    ap (λ (t : State). t.heading) (same (childless children fits))
-line_heading context c _ last start end children state s h fits same e = lie e
+line_ending : (c : Content) (name : Name) → is LineEnding name ≡ true →
+    content_inside c name ≡ Childless
+line_ending c LineEnding e = refl
+line_ending c _ e = lie e
 
 -- where marks of references aren't allowed, only transparent nodes are
 nothing_is : (c : Content) → has_marks c ≡ false → is_nothing c ≡ true
@@ -67,26 +62,18 @@ through : (name : Name) (m : ℕ) (inner heading : List ℕ) →
 through Data m inner heading = (refl, refl)
 through _ m inner heading = (refl, refl)
 
-pub node : (context : Context) (c : Content) (waits : Bool) (around : Surroundings)
-    (before : Before)
-    (last : Bool) (name : Name) (start end : Point) (children : Forest) (state s : State) →
-    is_allowed c name ≡ true →
-    Fits (content_inside c name) children →
-    (is_underline name ≡ true → (waits ≡ true) × (spine_names children ≡ [])) →
-    Knows c waits around before state →
-    ChildrenDone context c waits around before last name start end children state s →
-    (children ≡ Empty →
-    s ≡ entered context (facts_of context.bytes last children start end) name state) →
-    (later : List (List ℕ)) →
-    context.calls ≡ ((before.calls ++ (inner_of context around before name children).calls)
-    ++ own_call name (identifier_of context.bytes children)) ++ later →
+pub node : {context : Context} {c : Content} {waits : Bool} {around : Surroundings}
+    {before : Before} {last : Bool} {name : Name} {start end : Point} {children : Forest}
+    {state s : State} → Reached context c waits around before last name start end children state s →
     NodeDone context c waits around before last name start end children state
     (exited context (facts_of context.bytes last children start end) name s)
-node context c waits around before last name start end children state s h fits line knows
-    done same later whole =
+node {context} {c} {waits} {around} {before} {last} {name} {start} {end} {children} {state} {s}
+    here =
+    let done = here.done in
+    let knows = here.knows in
     let facts : NodeFacts = facts_of context.bytes last children start end in
     let at : At = at_node context around before last name start end children in
-    let allows : Facts c name = allowed-facts c name h in
+    let allows : Facts c name = allowed-facts c name here.allowed in
     let within : Surroundings = inside context.options (is_loose children) name around in
     let first : Before = before_children name children before in
     let inner : Outcome = inner_of context around before name children in
@@ -125,9 +112,7 @@ node context c waits around before last name start end children state s h fits l
           ++ closes context (record left { scope = seen around before.columns }) s.ended facts own
           name))) knows.sees ∙ ap (λ ps. laid_after context.ending state.text ps)
           (sym (sides-seen context at state.cells left s.ended inner.pieces name (allows.aside laid)
-          (quiet context around before c name children fits)
-          (leaves context c waits around before last
-          name start end children state s h allows fits line knows done same later whole)));
+          (quiet context around before c name children here.fits) (leaves here)));
       below = t.under;
       scopes = came.others;
       knows = record {
@@ -135,8 +120,7 @@ node context c waits around before last name start end children state s h fits l
         slurps =
             ap (λ a. slurps_after name (record left { scope = a })) sees
             ∙ slurps-known name at left inner.slurps
-            (done.knows.slurps ∙ after_them.slurps) (fence-counted context c
-            waits around before last name start end children state s allows knows done);
+            (done.knows.slurps ∙ after_them.slurps) (fence-counted here);
         ended = any_ended (content_after_node c name children) (Some name);
         marker = marker-after c name before.spine children s.marker (λ m. done.knows.marker m
             ∙ ap (λ l. mark_after l) after_them.spine);
@@ -152,8 +136,8 @@ node context c waits around before last name start end children state s h fits l
             done.knows.heading (ap (λ b. waits_after (if b then waits else false) children) e ∙ w)
             ∙ after_them.heading
             ∙ ap (λ b. unwrap_or inner.found.heading (if b then before.heading else [])) e)
-            (λ e w. line_heading context c name last start end children state s h fits same e
-            ∙ knows.heading w);
+            (λ e w. ap (λ (t : State). t.heading) (here.same (childless children
+            (subst (λ x. Fits x children) (line_ending c name e) here.fits))) ∙ knows.heading w);
         cells =
             cells-known c name before.spine children state.cells s.cells allows knows.cells
             (subst (λ l. KnowsCells (content_after (content_inside c name) children) l s.cells)
@@ -178,13 +162,13 @@ node context c waits around before last name start end children state s h fits l
           ∙ done.heading (ap (λ b. has_marks (if b then c else content_of name)) clear ∙ e);
       target =
           target-known c name at captured (layout context.ending inner.pieces)
-          state.target s.target allows h
+          state.target s.target allows here.allowed
           (λ e. kept-text context c name opened state.below inner.pieces s t (aside-kept c name e))
           done.target;
       resource =
           resource-done c name at (layout context.ending inner.pieces) state.resource s.resource
           state.target s.target allows
-          h knows.resource done.target done.resource;
+          here.allowed knows.resource done.target done.resource;
       footnotes =
           footnotes-known name facts.identifier (layout context.ending inner.pieces) captured
           state.footnotes inner.footnotes

@@ -31,7 +31,7 @@ use Rattle.md_steps.proofs.Laid.{laid-append}
 use Rattle.md_steps.proofs.Noted.{noted-append}
 use Rattle.md_steps.proofs.Staying.{node-same, past-as}
 use Rattle.md_steps.proofs.Inside.{children_know}
-use Rattle.md_steps.proofs.NodeLeaves.{ChildrenDone, NodeDone, own_call}
+use Rattle.md_steps.proofs.NodeLeaves.{Reached, NodeDone, own_call}
 use Rattle.md_steps.proofs.NodeRuns.{node}
 use Rattle.md_steps.proofs.PassedOver.{definition-node}
 use Rattle.md_steps.proofs.FoundInBoth.{target-both, resource-both}
@@ -58,31 +58,20 @@ never_outermost options loose BlockQuote around = refl
 never_outermost options loose _ around = refl
 
 -- a node, skipped or not
-one-node : (context : Context) (c : Content) (waits : Bool) (around : Surroundings)
-    (before : Before)
-    (last : Bool) (name : Name) (start end : Point) (children : Forest) (state s : State) →
-    is_allowed c name ≡ true →
-    Fits (content_inside c name) children →
-    (is_underline name ≡ true → (waits ≡ true) × (spine_names children ≡ [])) →
-    Knows c waits around before state →
-    ChildrenDone context c waits around before last name start end children state s →
-    (children ≡ Empty →
-    s ≡ entered context (facts_of context.bytes last children start end) name state) →
-    (later : List (List ℕ)) →
-    context.calls ≡ ((before.calls ++ (inner_of context around before name children).calls)
-    ++ own_call name (identifier_of context.bytes children)) ++ later →
+one-node : {context : Context} {c : Content} {waits : Bool} {around : Surroundings}
+    {before : Before} {last : Bool} {name : Name} {start end : Point} {children : Forest}
+    {state s : State} → Reached context c waits around before last name start end children state s →
     NodeDone context c waits around before last name start end children state (if is_passed name
     then passed state else exited context (facts_of context.bytes last children start end) name s)
-one-node context c waits around before last name start end children state s h fits line knows
-    done same later whole =
+one-node {context} {c} {waits} {around} {before} {last} {name} {start} {end} {children} {state} {s}
+    here =
     elim (is_passed name) as (λ b. is_passed name ≡ b →
     NodeDone context c waits around before last name start end children state
     (if b then passed state
     else exited context (facts_of context.bytes last children start end) name s)) [
       | true ↦ λ p. definition-node context c waits around before last name start end children
-          state p h fits knows
-      | false ↦ λ p. node context c waits around before last name start end children state s h fits
-          line knows done same later whole
+          state p here.allowed here.fits here.knows
+      | false ↦ λ p. node here
     ] refl
 
 -- the steps over some nodes print what they mean
@@ -138,23 +127,28 @@ nodes context c waits around before (Node name start end children rest) state fi
     let waits_next : Bool =
     if is_transparent name then waits_after waits children else waits_past waits name in
     let here : NodeDone context c waits around before last name start end children state after =
-    one-node context c waits around before last name start end children state s fits.0
-    fits.1 lines.0 knows
-    (subst (λ b. Done context (content_inside c name) (if is_transparent name then waits else false)
-    within first children begun (over context b children begun))
-    (never_outermost context.options (is_loose children) name around)
-    (nodes context (content_inside c name) (if is_transparent name then waits else false) within
-    first
-    children begun fits.1 lines.1
-    (children_know context c waits around before last name start end children state knows) (
-      (own ++ (outcome context around next rest).calls) ++ whole.0,
-      in_children context before.calls inner.calls own
-          (outcome context around next rest).calls whole.0 whole.1,
-    )))
-    (λ e. ap (λ f. over context false f begun) e)
-    ((outcome context around next rest).calls ++ whole.0)
-    (in_own context before.calls inner.calls own
-    (outcome context around next rest).calls whole.0 whole.1) in
+    one-node {s = s} (record {
+      allowed = fits.0;
+      fits = fits.1;
+      line = lines.0;
+      knows = knows;
+      done =
+          subst (λ b. Done context (content_inside c name)
+          (if is_transparent name then waits else false) within first children begun
+          (over context b children begun))
+          (never_outermost context.options (is_loose children) name around)
+          (nodes context (content_inside c name) (if is_transparent name then waits else false)
+          within first children begun fits.1 lines.1
+          (children_know context c waits around before last name start end children state knows) (
+            (own ++ (outcome context around next rest).calls) ++ whole.0,
+            in_children context before.calls inner.calls own
+                (outcome context around next rest).calls whole.0 whole.1,
+          ));
+      same = λ e. ap (λ f. over context false f begun) e;
+      later = (outcome context around next rest).calls ++ whole.0;
+      whole = in_own context before.calls inner.calls own
+          (outcome context around next rest).calls whole.0 whole.1;
+    }) in
     let later : Done context (content_after_node c name children) waits_next around next rest after
     (over context around.is_outermost rest after) =
     nodes context (content_after_node c name children) waits_next around next rest after
