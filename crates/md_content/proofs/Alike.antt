@@ -79,7 +79,7 @@ each bytes names document is (Node name start end children rest) around before m
   λ label leads.
       let mentions = mentions-there bytes names document _ _ (IsGrammatical.rules is) in
       let there = target-there bytes names children _ _ Missing meets.1 tt in
-      let has = has_label (target_of children Missing) label leads there in
+      let has = subst (HasIdentifier bytes) leads there in
       let text = named bytes children label has.0 leads has.1 in (
         looked_up (defined bytes (mentions_of document)) (defined_in bytes document)
             (label_identifier bytes label)
@@ -93,11 +93,6 @@ each bytes names document is (Node name start end children rest) around before m
   each bytes names document is children _ _ meets.1,
   each bytes names document is rest _ _ meets.2,
 )
-  where
-    has_label : (target : Referral) (label : Position) → target ≡ Label label →
-        HasIdentifier bytes target →
-        HasIdentifier bytes (Label label)
-    has_label target label leads has = subst (λ t. HasIdentifier bytes t) leads has
 
 pub leads-alike : (bytes : List ℕ) (names : List (List ℕ × List ℕ)) (document : Forest) →
     IsGrammatical bytes names document → Everywhere (ResolvesAlike bytes document) document

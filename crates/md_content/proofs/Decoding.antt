@@ -115,35 +115,24 @@ well-split before (seen ∷ symbols) others h =
     (and_from _ _ parts.0 rest.0, rest.1)
 
 -- ---- references
-mark-name : (n : Name) → is_mark (symbol_in (standing_of n)) ≡ true →
-    marker_after (symbol_in (standing_of n)) ≡ Some (marker n)
-mark-name name.CharacterReferenceMarker h = refl
-mark-name name.CharacterReferenceMarkerNumeric h = refl
-mark-name name.CharacterReferenceMarkerHexadecimal h = refl
-mark-name _ h = lie h
-
-decodable : (names : List (List ℕ × List ℕ)) (before : Option Symbol) (text : List ℕ) (m : ℕ) →
-    marker_after before ≡ Some m → is_decodable names before text ≡ true →
-    is_some (decoded names m text) ≡ true
-decodable names before text m e h =
-    ap (λ o. option_map_or (λ k. is_some (decoded names k text)) o true) (sym e) ∙ h
-
-after_name :
-    (names : List (List ℕ × List ℕ)) (before : Option Symbol) (text : List ℕ) (last : Option Name) →
-    is_mark before ≡ true → before ≡ symbol_of last → is_decodable names before text ≡ true →
-    is_some (decoded names (option_map_or marker last 38) text) ≡ true
-after_name names before text None h e d = lie (ap is_mark (sym e) ∙ h)
-after_name names before text (Some n) h e d =
-    decodable names before text (marker n)
-    (ap marker_after e ∙ mark-name n (ap is_mark (sym e) ∙ h)) d
+mark-name : (n : Name) → (if is_mark (symbol_in (standing_of n))
+    then marker_after (symbol_in (standing_of n)) else Some (marker n)) ≡ Some (marker n)
+mark-name name.Data = refl
+mark-name _ = refl
 
 value-decodes : (names : List (List ℕ × List ℕ)) (before : Option Symbol) (text : Option (List ℕ))
     (last : Option Name) → is_mark before ≡ true → before ≡ symbol_of last →
     broken_by text (λ t. unless (is_decodable names before t) rule.CharacterReference) ≡ None →
     is_some (decoded names (option_map_or marker last 38) (unwrap_or text [])) ≡ true
-value-decodes names before None last h e rules = cc
-value-decodes names before (Some text) last h e rules = after_name names before text last h e
-    (unless-holds (is_decodable names before text) rule.CharacterReference rules)
+value-decodes names before text None h e rules = lie (ap is_mark (sym e) ∙ h)
+value-decodes names before None (Some n) h e rules = cc
+value-decodes names before (Some text) (Some n) h e rules =
+    let symbol = symbol_in (standing_of n) in
+    let after : marker_after before ≡ Some (marker n) =
+    ap marker_after e ∙ sym (ap (λ b. if b then marker_after symbol else Some (marker n))
+    (ap is_mark (sym e) ∙ h)) ∙ mark-name n in
+    ap (λ o. option_map_or (λ k. is_some (decoded names k text)) o true) (sym after)
+    ∙ unless-holds (is_decodable names before text) rule.CharacterReference rules
 
 node-decodes : (bytes : List ℕ) (names : List (List ℕ × List ℕ)) (earlier : List Name) (n : Name)
     (start end : Point) (children : Forest) (around : Role) (before : Option Symbol) →

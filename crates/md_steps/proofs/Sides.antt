@@ -67,18 +67,13 @@ informed-is : (context : Context) (name : Name) (at : At) (cells : ℕ) (left : 
 informed-is context name at cells left ended k =
     let slurps = chosen (is_ending name) at.before.slurps left.slurps (λ e. (k.ending e).0) in
     let previous = chosen (is_ending name) at.before.previous left.ended (λ e. (k.ending e).1) in
-    let marker = chosen (is_reference name) (mark_after at.before.spine) left.marker k.marker in
-    let fences = chosen (is_raw name) (count_by is_fence (spine_names at.children)) left.fences
-    (λ e. (k.raw e).0) in
-    let chunk = chosen (is_raw name) (list_any is_chunk (spine_names at.children)) left.has_chunk
-    (λ e. (k.raw e).1) in
+    let marker = chosen (is_reference name) _ left.marker k.marker in
+    let fences = chosen (is_raw name) _ left.fences (λ e. (k.raw e).0) in
+    let chunk = chosen (is_raw name) _ left.has_chunk (λ e. (k.raw e).1) in
     let heading = chosen (is_underline name) at.before.heading left.heading k.heading in
-    let row = chosen (is_row name) (count_by (is GfmTableCell) (spine_names at.children))
-    left.cells k.row in
-    let cell = chosen (is_cell name) (count_by (is GfmTableCell) at.before.spine) left.cells
-    (λ e. (k.cell e).1) in
-    let resource = chosen (is_labelled name) at.found.resource left.resource
-    (λ e. sym (k.resource e)) in
+    let row = chosen (is_row name) _ left.cells k.row in
+    let cell = chosen (is_cell name) _ left.cells (λ e. (k.cell e).1) in
+    let resource = chosen (is_labelled name) _ left.resource (λ e. sym (k.resource e)) in
     cc
 
 -- ---- both sides, name by name

@@ -91,17 +91,12 @@ calls-in : (context : Context) (around : Surroundings) (before : Before) (forest
     (outcome context around before forest).calls ≡ calls_in context.bytes forest
 calls-in context around before Empty = refl
 calls-in context around before (Node name start end children rest) =
-    ap (λ l. (l ++ when (is GfmFootnoteCall name) (identifier_of context.bytes children ∷ []))
-    ++ (outcome context around (next_before context around before
-    (around.is_outermost && is_empty rest)
-    name start end children) rest).calls)
-    (calls-in context (inside context.options (is_loose children) name around)
-    (before_children name children before) children) ∙ ap (λ l. (calls_in context.bytes children
-    ++ when (is GfmFootnoteCall name) (identifier_of context.bytes children ∷ []))
-    ++ l) (calls-in context around
-    (next_before context around before (around.is_outermost && is_empty rest) name start end
-    children)
-    rest)
+    rw (
+      calls-in context around (next_before context around before
+          (around.is_outermost && is_empty rest) name start end children) rest,
+      calls-in context (inside context.options (is_loose children) name around)
+          (before_children name children before) children,
+    ) refl
 
 -- no step reads the calls of the document
 over-same :
@@ -109,40 +104,24 @@ over-same :
     (state : State) →
     over (record context { calls = calls }) outermost forest state ≡ over context outermost forest
     state
-over-same context calls outermost Empty state = refl
-over-same context calls outermost (Node name start end children rest) state =
-    let facts : NodeFacts = facts_of context.bytes (outermost && is_empty rest) children start end
-    in
-    over-same context calls outermost rest (if is_passed name then passed state else exited context
-    facts
-    name (over (record context { calls = calls }) false children
-    (entered context facts name state)))
-    ∙ ap (λ s. over context outermost rest
-    (if is_passed name then passed state else exited context facts name s))
-    (over-same context calls false children (entered context facts name state))
+over-same context calls outer Empty state = refl
+over-same context calls outer (Node name start end children rest) state =
+    let facts : NodeFacts = facts_of context.bytes (outer && is_empty rest) children start end in
+    rw (over-same context calls false children (entered context facts name state))
+    (over-same context calls outer rest (if is_passed name then passed state
+    else exited context facts name (over context false children
+    (entered context facts name state))))
 
 defined-same : (context : Context) (calls : List (List ℕ)) (forest : Forest) →
     defined (record context { calls = calls }) forest ≡ defined context forest
 defined-same context calls Empty = refl
 defined-same context calls (Node name start end children rest) =
-    ap (λ s. (if is_passed name then record {
-      identifier = identifier_of context.bytes children;
-      target = s.target;
-    } ∷ [] else defined (record context { calls = calls }) children)
-    ++ defined (record context { calls = calls }) rest) (over-same context calls false children
-    (entered context (facts_of context.bytes false children start end) Definition beginning))
-    ∙ ap (λ l. (if is_passed name then record {
-      identifier = identifier_of context.bytes children;
-      target = (over context false children (entered context
-          (facts_of context.bytes false children start end) Definition beginning)).target;
-    } ∷ []
-    else l) ++ defined (record context { calls = calls }) rest)
-    (defined-same context calls children)
-    ∙ ap (λ l. (if is_passed name then record {
-      identifier = identifier_of context.bytes children;
-      target = (over context false children (entered context
-          (facts_of context.bytes false children start end) Definition beginning)).target;
-    } ∷ [] else defined context children) ++ l) (defined-same context calls rest)
+    rw (
+      over-same context calls false children
+          (entered context (facts_of context.bytes false children start end) Definition beginning),
+      defined-same context calls children,
+      defined-same context calls rest,
+    ) refl
 
 run-same : (context : Context) (calls : List (List ℕ)) (left : ℕ)
     (events : List Event) (seen : List Noticed) (state : State) →
