@@ -100,9 +100,7 @@ node-adds bytes name children around before start end is inner ds fs =
 -- the identifiers of two parts, by those of each
 in_parts : (all inner later : List (Option (List ℕ))) (xs ys : List (List ℕ)) →
     all ≡ inner ++ later → map known inner ≡ xs → map known later ≡ ys → map known all ≡ xs ++ ys
-in_parts all inner later xs ys a b c =
-    ap (map known) a ∙ map-append known inner later ∙ ap (λ l. l ++ map known later) b
-    ∙ ap (λ l. xs ++ l) c
+in_parts all inner later xs ys a b c = rw (a, map-append known inner later, b, c) refl
 
 -- the identifiers of definitions are the same to both, and those of footnote definitions
 pub identifiers-known :

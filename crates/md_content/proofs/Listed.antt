@@ -37,12 +37,8 @@ in_a_row : {A : Type 0} (of : A → List ℕ) (inner own later : List A) (xs ys 
     map of inner ≡ xs → map of own ≡ ys → map of later ≡ zs →
     map of ((inner ++ own) ++ later) ≡ xs ++ (ys ++ zs)
 in_a_row of inner own later xs ys zs a b c =
-    map-append of (inner ++ own) later
-    ∙ ap (λ is. is ++ map of later) (map-append of inner own)
-    ∙ append_assoc (map of inner) (map of own) (map of later)
-    ∙ ap (λ is. is ++ (map of own ++ map of later)) a
-    ∙ ap (λ is. xs ++ (is ++ map of later)) b
-    ∙ ap (λ is. xs ++ (ys ++ is)) c
+    rw (map-append of (inner ++ own) later, map-append of inner own, a, b, c)
+    (append_assoc xs ys zs)
 
 -- the one of a node, if it is one
 own-one : {A : Type 0} (of : A → List ℕ) (test : Bool) (own : A) →

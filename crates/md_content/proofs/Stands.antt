@@ -67,12 +67,11 @@ symbols_here _ name start end children inner = refl
 pub spine-stands : (forest : Forest) → spine forest ≡ seen_of (stands forest)
 spine-stands Empty = refl
 spine-stands (Node name start end children rest) =
-    let here : List Stand =
-    stand_here (standing_of name) name start end children (stands children) in
-    ap (λ symbols. symbols ++ spine rest)
-    (symbols_here (standing_of name) name start end children (spine-stands children))
-    ∙ ap (λ symbols. seen_of here ++ symbols) (spine-stands rest)
-    ∙ sym (map-append (λ (node : Stand). node.seen) here (stands rest))
+    rw (
+      symbols_here (standing_of name) name start end children (spine-stands children),
+      spine-stands rest,
+      map-append,
+    ) refl
 
 -- ---- a claim that holds for each node
 pub record Stood (holds : Claim) (around : Role) (before : Option Symbol) (node : Stand) : Type 0
@@ -178,12 +177,12 @@ pub target-stands : (forest : Forest) (found : Referral) →
     target_of forest found ≡ sought (stands forest) found
 target-stands Empty found = refl
 target-stands (Node name start end children rest) found =
-    let here : List Stand =
-    stand_here (standing_of name) name start end children (stands children) in
-    ap (target_of rest) (leaves name found (target_of children) (place start end)
-    ∙ target_here (standing_of name) name start end children found (target-stands children found))
-    ∙ target-stands rest (sought here found)
-    ∙ sym (sought-append here (stands rest) found)
+    rw (
+      leaves name found (target_of children) (place start end),
+      target_here (standing_of name) name start end children found (target-stands children found),
+      target-stands rest _,
+      sought-append,
+    ) refl
 
 -- ---- their names
 names_here : (standing : Standing) (name : Name) (start end : Point) (children : Forest)
@@ -200,13 +199,13 @@ pub names-stand : (forest : Forest) (around : Role) (before : Option Symbol) →
     AreShaped forest around before → spine_names forest ≡ map (λ node. node.name) (stands forest)
 names-stand Empty around before shaped = refl
 names-stand (Node name start end children rest) around before shaped =
-    let here : List Stand =
-    stand_here (standing_of name) name start end children (stands children) in
-    ap (λ t. cond t (spine_names children) (name ∷ []) ++ spine_names rest) (transparent name)
-    ∙ ap (λ names. names ++ spine_names rest) (names_here (standing_of name) name start end children
-    around before shaped.0.1 (names-stand children _ _ shaped.1))
-    ∙ ap (λ names. map (λ (node : Stand). node.name) here ++ names) (names-stand rest _ _ shaped.2)
-    ∙ sym (map-append (λ (node : Stand). node.name) here (stands rest))
+    rw (
+      transparent name,
+      names_here (standing_of name) name start end children around before
+          shaped.0.1 (names-stand children _ _ shaped.1),
+      names-stand rest _ _ shaped.2,
+      map-append,
+    ) refl
 
 -- ---- the first whose name passes a test, which no transparent one does
 abbrev pub IsSolid : (Name → Bool) → Type 0
@@ -262,13 +261,10 @@ module _ {A : Type 0} (test : Name → Bool) (tell : Point → Point → Forest 
       first_on_spine test tell forest ≡ first_seen (stands forest)
   first-stands solid Empty around before shaped = refl
   first-stands solid (Node name start end children rest) around before shaped =
-      let here : List Stand =
-      stand_here (standing_of name) name start end children (stands children) in
-      ap (λ t. or_else (if test name then Some (tell start end children)
-      else (if t then first_on_spine test tell children else None))
-      (first_on_spine test tell rest)) (transparent name)
-      ∙ ap (λ o. or_else o (first_on_spine test tell rest))
-      (first_here (standing_of name) name start end children around before (passes_not name solid)
-      shaped.0.1 (first-stands solid children _ _ shaped.1))
-      ∙ ap (λ o. or_else (first_seen here) o) (first-stands solid rest _ _ shaped.2)
-      ∙ first_seen-append here (stands rest)
+      rw (
+        transparent name,
+        first_here (standing_of name) name start end children around before
+            (passes_not name solid) shaped.0.1 (first-stands solid children _ _ shaped.1),
+        first-stands solid rest _ _ shaped.2,
+        first_seen-append,
+      ) refl

@@ -69,8 +69,7 @@ cell_sides head (Some kind) text = refl
 
 pub list_sides : (a b c inner d : List Piece) →
     a ++ (b ++ (c ++ (inner ++ d))) ≡ (a ++ (b ++ c)) ++ (inner ++ d)
-list_sides a b c inner d =
-    sym (append_assoc a (b ++ c) (inner ++ d) ∙ ap (λ l. a ++ l) (append_assoc b c (inner ++ d)))
+list_sides a b c inner d = simp append_assoc
 
 -- no fence among names is none counted
 pub none-counted : (test : Name → Bool) (names : List Name) →

@@ -40,19 +40,15 @@ target-both Nothing name children one two a b d k l =
 target-both Childless name children one two a b d k l =
     subst (λ c. TargetAfter c two b d) (node-stays Childless name children refl) l ∙ k
 target-both Sources name children one two a b d k l =
-    subst (λ c. TargetAfter c two b d) (node-stays Sources name children refl) l
+    rw (
+      unwrap-else two.destination one.destination a.destination,
+      or_else-assoc two.title one.title a.title,
+    )
+    (subst (λ c. TargetAfter c two b d) (node-stays Sources name children refl) l
     ∙ ap (λ (t : Target). record {
       destination = unwrap_or two.destination t.destination;
       title = or_else two.title t.title;
-    }) k
-    ∙ ap (λ x. record {
-      destination = x;
-      title = or_else two.title (or_else one.title a.title);
-    }) (sym (unwrap-else two.destination one.destination a.destination))
-    ∙ ap (λ x. record {
-      destination = unwrap_or (or_else two.destination one.destination) a.destination;
-      title = x;
-    }) (sym (or_else-assoc two.title one.title a.title))
+    }) k)
 target-both _ name children one two a b d k l = tt
 
 pub resource-both : (c : Content) (name : Name) (children : Forest) (one two : Found)

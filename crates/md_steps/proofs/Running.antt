@@ -15,17 +15,7 @@ pub noticed-length : (bytes : List ℕ) (outermost : Bool) (forest : Forest) →
     length (noticed bytes outermost forest) ≡ length (flatten forest)
 noticed-length bytes outermost Empty = refl
 noticed-length bytes outermost (Node name start end children rest) =
-    let here : Noticed = record {
-      facts = facts_of bytes (outermost && is_empty rest) children start end;
-      inside = suc (length (flatten children));
-    }
-    in
-    ap (λ n. suc n)
-    (length-append (noticed bytes false children) (here ∷ noticed bytes outermost rest)
-    ∙ ap (λ n. n + suc (length (noticed bytes outermost rest)))
-    (noticed-length bytes false children)
-    ∙ ap (λ n. length (flatten children) + suc n) (noticed-length bytes outermost rest)
-    ∙ sym (length-append (flatten children) (exiting name end ∷ flatten rest)))
+    simp (length-append, noticed-length bytes false children, noticed-length bytes outermost rest)
 
 -- events that are skipped, and the one after them
 run-passes : (context : Context) (events : List Event) (seen : List Noticed) (event : Event)

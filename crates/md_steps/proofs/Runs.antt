@@ -40,16 +40,13 @@ use Rattle.md_steps.proofs.FoundInBoth.{target-both, resource-both}
 module _ (context : Context) (a i o r l : List (List ℕ))
     (whole : context.calls ≡ (a ++ ((i ++ o) ++ r)) ++ l) where
   in_children : context.calls ≡ (a ++ i) ++ ((o ++ r) ++ l)
-  in_children =
-      whole ∙ ap (λ x. (a ++ x) ++ l) (append_assoc i o r)
-      ∙ ap (λ x. x ++ l) (sym (append_assoc a i (o ++ r))) ∙ append_assoc (a ++ i) (o ++ r) l
+  in_children = whole ∙ simp append_assoc
 
   in_own : context.calls ≡ ((a ++ i) ++ o) ++ (r ++ l)
-  in_own = in_children ∙ ap (λ x. (a ++ i) ++ x) (append_assoc o r l)
-      ∙ sym (append_assoc (a ++ i) o (r ++ l))
+  in_own = whole ∙ simp append_assoc
 
   in_rest : context.calls ≡ ((a ++ (i ++ o)) ++ r) ++ l
-  in_rest = whole ∙ ap (λ x. x ++ l) (sym (append_assoc a (i ++ o) r))
+  in_rest = whole ∙ simp append_assoc
 
 -- ---- one node after another
 never_outermost : (options : CompileOptions) (loose : Bool) (name : Name) (around : Surroundings) →
