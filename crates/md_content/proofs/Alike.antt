@@ -53,12 +53,7 @@ find-first of (one ∷ found) wanted =
 named : (bytes : List ℕ) (children : Forest) (label : Position) (text : List ℕ) →
     target_of children Missing ≡ Label label → label_identifier bytes label ≡ Some text →
     label_identifier bytes label ≡ Some (identifier_of bytes children)
-named bytes children label text is there =
-    there ∙ sym (ap (λ (target : Referral). Some (elim target [
-      | Label at ↦ known (label_identifier bytes at)
-      | _ ↦ []
-    ])) is
-    ∙ ap (λ o. Some (known o)) there)
+named bytes children label text is there = rw (is, identifier_of, there) refl
 
 looked_up : (found : List (Option (List ℕ))) (identifiers : List (List ℕ))
     (wanted : Option (List ℕ)) (text : List ℕ) →
@@ -66,8 +61,7 @@ looked_up : (found : List (Option (List ℕ))) (identifiers : List (List ℕ))
     map known found ≡ identifiers → wanted ≡ Some text →
     which found wanted ≡ first_of identifiers text
 looked_up found identifiers wanted text texts known_are is =
-    ap (λ w. which found w) is ∙ ap (λ xs. which xs (Some text)) (texts ∙ ap (map Some) known_are)
-    ∙ which_first identifiers text
+    rw (is, texts, known_are) (which_first identifiers text)
 
 each : (bytes : List ℕ) (names : List (List ℕ × List ℕ)) (document : Forest) →
     IsGrammatical bytes names document →

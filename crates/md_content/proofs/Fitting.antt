@@ -59,10 +59,11 @@ fence_first : (one : Symbol) {items : List Item} (around : Role) (bytes : List �
     Head (IsFine bytes names) one items around (stands children) →
     list_any is_fence (spine_names children) ≡ true
 fence_first one around bytes names children h all first =
-    ap (list_any is_fence)
-    (names-stand children around None (shaped bytes names children around None all)
-    ∙ ap (map (λ (node : Stand). node.name)) first.are)
-    ∙ ap (λ b. b || list_any is_fence (map (λ (node : Stand). node.name) first.rest)) h
+    rw (
+      names-stand children around None (shaped bytes names children around None all),
+      first.are,
+      h,
+    ) refl
 
 -- the other conditions on a node
 pub fit : (bytes : List ℕ) (names : List (List ℕ × List ℕ)) (name : Name) (around : Role)

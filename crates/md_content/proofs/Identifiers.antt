@@ -79,20 +79,15 @@ node-adds :
     ≡ adds (is Definition name) (identifier_of bytes children) ++ map known ds)
     × (map known (footnoted_by bytes own fs)
     ≡ adds (is GfmFootnoteDefinition name) (identifier_of bytes children) ++ map known fs)
-node-adds bytes Definition children around before start end is inner ds fs =
-    let found = (definition-label children inner is.1).2 in (
-      ap (λ target. map known (defined_by bytes (mention_of reading.Definition target) ds)) found
-          ∙ ap (λ target. named bytes target ∷ map known ds) (sym found),
-      ap (map known) (by-others bytes reading.Definition (target_of children Missing) ds fs).1,
-    )
-node-adds bytes GfmFootnoteDefinition children around before start end is inner ds fs =
-    let found = (footnote-label children inner is.1).2 in (
-      ap (map known)
-          (by-others bytes reading.FootnoteDefinition (target_of children Missing) ds fs).0,
-      ap (λ target. map known
-          (footnoted_by bytes (mention_of reading.FootnoteDefinition target) fs)) found
-          ∙ ap (λ target. named bytes target ∷ map known fs) (sym found),
-    )
+node-adds bytes Definition children around before start end is inner ds fs = (
+  rw ((definition-label children inner is.1).2, identifier_of) refl,
+  ap (map known) (by-others bytes reading.Definition (target_of children Missing) ds fs).1,
+)
+node-adds bytes GfmFootnoteDefinition children around before start end is inner ds fs = (
+  ap (map known)
+      (by-others bytes reading.FootnoteDefinition (target_of children Missing) ds fs).0,
+  rw ((footnote-label children inner is.1).2, identifier_of) refl,
+)
 node-adds bytes name children around before start end is inner ds fs =
     let others = by-others bytes (reading_of (standing_of name)) (target_of children Missing) ds fs
     in (ap (map known) others.0, ap (map known) others.1)

@@ -55,11 +55,9 @@ rest-of-media : (own spine : List Symbol) → length own ≤ 1 →
     (spine ≡ []) ⊎ ((spine ≡ symbol.Resource ∷ []) ⊎ (spine ≡ symbol.ReferenceString ∷ []))
 rest-of-media [] spine count own_taken is = inl is
 rest-of-media (symbol.Resource ∷ []) spine count own_taken is =
-    inr (inl (is.2 ∙ ap (λ tail. symbol.Resource ∷ tail ++ is.1) is.3
-    ∙ ap (λ s. symbol.Resource ∷ s) is.4))
+    inr (inl (rw (is.3, is.4) at is.2))
 rest-of-media (symbol.ReferenceString ∷ []) spine count own_taken is =
-    inr (inr (is.2 ∙ ap (λ tail. symbol.ReferenceString ∷ tail ++ is.1) is.3
-    ∙ ap (λ s. symbol.ReferenceString ∷ s) is.4))
+    inr (inr (rw (is.3, is.4) at is.2))
 rest-of-media (_ ∷ []) spine count own_taken is = lie own_taken
 rest-of-media (_ ∷ _ ∷ own) spine count own_taken is = absurd (omega arith)
 

@@ -69,12 +69,12 @@ pub after_spine : (forest : Forest) (around : Role) (before : Option Symbol) (co
     AreShaped forest around before → content_after content forest ≡ run content (spine forest)
 after_spine Empty around before content shaped = refl
 after_spine (Node name start end children rest) around before content shaped =
-    let again = after_spine children _ _ content shaped.1 in
-    let here = node_after (standing_of name) name children around before content
-    (behaves name) shaped.0.1 again in
-    after_spine rest _ _ (content_after_node content name children) shaped.2
-    ∙ (ap (λ c. run c (spine rest)) here
-    ∙ sym (run-append content (shown (standing_of name) (spine children)) (spine rest)))
+    rw (
+      node_after (standing_of name) name children around before content (behaves name) shaped.0.1
+          (after_spine children _ _ content shaped.1),
+      after_spine rest _ _ _ shaped.2,
+      run-append,
+    ) refl
 
 -- what holds of all roles that a name may have holds of its role
 pub role_listed : (test : Role → Bool) (around : Role) (before : Option Symbol) (usual : Role) →

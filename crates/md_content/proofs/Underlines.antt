@@ -124,12 +124,11 @@ same-waits : (forest : Forest) (around : Role) (before : Option Symbol) (waits :
     waits_after waits forest ≡ waits_after_symbols waits (spine forest)
 same-waits Empty around before waits all = refl
 same-waits (Node name start end children rest) around before waits all =
-    let here =
-    node-waits name children around before waits all.0.1 (same-waits children _ _ waits all.1) in
-    ap (λ b. waits_after b rest) here
-    ∙ same-waits rest _ _
-    (waits_after_symbols waits (shown (standing_of name) (spine children))) all.2
-    ∙ sym (waits-append waits (shown (standing_of name) (spine children)) (spine rest))
+    rw (
+      node-waits name children around before waits all.0.1 (same-waits children _ _ waits all.1),
+      same-waits rest _ _ _ all.2,
+      waits-append,
+    ) refl
 
 -- on an empty spine there are no names
 no-names : (forest : Forest) (around : Role) (before : Option Symbol) →
