@@ -137,15 +137,6 @@ module _ (context : Context) (at other : At) (place : at.place ≡ other.place)
       ∙ ap (λ f. found_at (record other { found = f }) name (layout context.ending p)) found
       ∙ ap (λ l. found_at other name (layout context.ending l)) same
 
--- of two findings, what each gives
-abbrev later_found : Found → Found → Found
-later_found one two = record {
-  heading = or_else two.heading one.heading;
-  destination = or_else two.destination one.destination;
-  title = or_else two.title one.title;
-  resource = or_else two.resource one.resource;
-}
-
 pub outcomes-alike :
     (context : Context) (a b : Surroundings) (x y : Before) (c : Content) (forest : Forest) →
     is_callless c ≡ true → Fits c forest → Alike a b x y →
@@ -175,15 +166,12 @@ outcomes-alike context a b x y c (Node name start end children rest) h fits alik
           alike.spine;
       previous = refl;
     }) in
-    let is : _ = plain c name h fits.0 in
-    let found = found-alike context at other refl alike (inner_of context a x name children).pieces
-    (inner_of context b y name children).pieces inner.0 name inner.1 in (
-      ap (λ l. l ++ (outcome context a next rest).pieces)
-          (prints-alike context at other refl alike (inner_of context a x name children).pieces
-          (inner_of context b y name children).pieces inner.0 name is inner.1)
-          ∙ ap (λ l. prints context other name (inner_of context b y name children).pieces ++ l)
-          later.0,
-      ap (λ f. later_found f (outcome context a next rest).found) found
-          ∙ ap (λ f. later_found (node_of context b y lastt name start end children).found f)
-          later.1,
+    let ps = (inner_of context a x name children).pieces in
+    let qs = (inner_of context b y name children).pieces in (
+      rw (
+        prints-alike context at other refl alike ps qs inner.0 name (plain c name h fits.0)
+            inner.1,
+        later.0,
+      ) refl,
+      rw (later.1, found-alike context at other refl alike ps qs inner.0 name inner.1) refl,
     )

@@ -88,10 +88,12 @@ after_spine : (forest : Forest) (around : Role) (before : Option Symbol) (conten
     AreShaped forest around before → content_after content forest ≡ run content (spine forest)
 after_spine Empty around before content shaped = refl
 after_spine (Node name start end children rest) around before content shaped =
-    after_spine rest _ _ (content_after_node content name children) shaped.2
-    ∙ (ap (λ c. run c (spine rest)) (after_node name children around before content shaped.0.1
-    (after_spine children _ _ content shaped.1))
-    ∙ sym (run-append content (shown (standing_of name) (spine children)) (spine rest)))
+    rw (
+      after_node name children around before content shaped.0.1
+          (after_spine children _ _ content shaped.1),
+      after_spine rest _ _ _ shaped.2,
+      run-append,
+    ) refl
 
 -- ---- a node may stand there, its children in it, and others after it
 record Spot (through : Bool) (standing : Standing) (name : Name) (children : Forest) (around : Role)

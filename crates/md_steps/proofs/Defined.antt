@@ -111,13 +111,10 @@ defined-known context around before c waits (Node name start end children rest)
               (facts_of context.bytes false children start end) Definition beginning)).target;
         } ∷ [] else defined context children)
     here Definition h f l again =
-        ap (λ ds. ds ++ record {
-          identifier = identifier_of context.bytes children;
-          target = target_in (inner_of context around before Definition children).found;
-        } ∷ []) (no-calls context
-        (inside context.options (is_loose children) Definition around)
-        (before_children Definition children before) Sources children refl f).2
-        ∙ ap (λ t. record { identifier = identifier_of context.bytes children; target = t } ∷ [])
-        (target-defined context around before start end children (plain_there (defined_at c h)).0
-        (plain_there (defined_at c h)).1 f l)
+        rw (
+          (no-calls context (inside context.options (is_loose children) Definition around)
+              (before_children Definition children before) Sources children refl f).2,
+          target-defined context around before start end children (plain_there (defined_at c h)).0
+              (plain_there (defined_at c h)).1 f l,
+        ) refl
     here _ h f l again = append-nil _ ∙ again

@@ -100,31 +100,17 @@ pub call-sides : (context : Context) (at : At) (left : State) → at.calls ≡ l
     (facts_at context at)
 call-sides context at left calls later whole =
     let id : List ℕ = identifier_of context.bytes at.children in
-    ap (λ n. pieces n at.calls)
-    (ap (λ l. place_among (distinct l) id) whole ∙ place-so-far at.calls id later)
-    ∙ ap (λ cs. pieces (place_among (distinct (cs ++ id ∷ [])) id) cs) calls
-  where
-    pieces : ℕ → List (List ℕ) → List Piece
-    pieces number calls = when (not at.around.in_image) (Text (codes "<sup><a href=\"#")
-        ∷ Text (id_of context.options (codes "fn-") (identifier_of context.bytes at.children)
-        number)
-        ∷ Text (codes "\" id=\"")
-        ∷ Text (call_id context.options (identifier_of context.bytes at.children) number
-        (suc (count_of calls (identifier_of context.bytes at.children))))
-        ∷ Text (codes "\" data-footnote-ref=\"\" aria-describedby=\"footnote-label\">")
-        ∷ Text (decimal number) ∷ Text (codes "</a></sup>") ∷ [])
+    rw (ap (λ l. place_among (distinct l) id) whole ∙ place-so-far at.calls id later, calls) refl
 
 -- a resource that the meaning found, or the definition to which the node refers
 pub led-sides : (context : Context) (at : At) →
     (at.found.resource ≡ None → is_resource (target_of at.children Missing) ≡ false) →
     leads_to context at ≡ unwrap_or at.found.resource (referred context (facts_at context at))
 led-sides context at refers =
-    by at.found.resource (is_resource (target_of at.children Missing)) refers
-  where
-    by : (o : Option Target) (b : Bool) → (o ≡ None → b ≡ false) →
-        unwrap_or o (target_defined context (identifier_of context.bytes at.children))
-        ≡ unwrap_or o (if b then target_in nothing_found
-        else target_defined context (identifier_of context.bytes at.children))
-    by None b h = ap (λ t. if t then target_in nothing_found
-        else target_defined context (identifier_of context.bytes at.children)) (sym (h refl))
-    by (Some target) b h = refl
+    elim at.found.resource as (λ o.
+    (o ≡ None → is_resource (target_of at.children Missing) ≡ false) →
+    unwrap_or o (target_defined context (identifier_of context.bytes at.children))
+    ≡ unwrap_or o (referred context (facts_at context at))) [
+      | None ↦ λ h. rw (h refl) refl
+      | Some target ↦ λ h. refl
+    ] refers

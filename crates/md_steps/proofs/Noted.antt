@@ -62,21 +62,10 @@ items-same : (context : Context) (xs ys : List Footnote) →
     flat_map (item context xs) identifiers ≡ flat_map (item context ys) identifiers
 items-same context xs ys found [] = refl
 items-same context xs ys found (identifier ∷ identifiers) =
-    ap (λ ps. item context xs identifier ++ ps) (items-same context xs ys found identifiers)
-    ∙ ap (λ ps. ps ++ flat_map (item context ys) identifiers) (item-same identifier)
-  where
-    item-same : (q : List ℕ) → item context xs q ≡ item context ys q
-    item-same q =
-        let number : ℕ = place_among (distinct context.calls) q in
-        ap (λ o. Forced ∷ Text (codes "<li id=\"")
-        ∷ Text (id_of context.options (codes "fn-") q number) ∷ Text (codes "\">") ∷ Forced
-        ∷ (body (option_map_or (λ footnote. footnote.text) o []) (backreferences context.options q
-        number (count_of context.calls q)) ++ on_own_line (codes "</li>"))) (found q)
+    rw (found identifier, items-same context xs ys found identifiers) refl
 
 pub section-noted : (context : Context) (footnotes : List Footnote) →
     section context (noted_all [] footnotes) ≡ section context footnotes
 section-noted context footnotes =
-    ap (λ ps. when (not (length context.calls == 0)) (section_start context.options
-    ++ (ps ++ (Forced ∷ Text (codes "</ol>") ∷ Forced ∷ Text (codes "</section>") ∷ Forced ∷ []))))
-    (items-same context (noted_all [] footnotes) footnotes (λ q. found-all [] footnotes q)
-    (distinct context.calls))
+    rw (items-same context (noted_all [] footnotes) footnotes (λ q. found-all [] footnotes q)
+    (distinct context.calls)) refl
