@@ -1,5 +1,6 @@
 -- A node's captured text and the one around it, and how the surroundings come back.
-use Rattle.std.proofs.Common.{◌≡◌, ℕ, Bool, true, false, not, ◌&&◌, List, [], ◌∷◌, Option, refl, ap}
+use Rattle.std.proofs.Common.{arith, ◌≡◌, ℕ, Bool, true, false, not, ◌&&◌, List, [], ◌∷◌, Option}
+use Rattle.std.proofs.Common.{refl, ap}
 use Rattle.std.proofs.Common.{sym, ◌∙◌}
 use Rattle.std.specs.Prelude.{if◌then◌else◌}
 use Rattle.std.proofs.lemmas.Bool.{and_from, and_parts}
@@ -68,10 +69,7 @@ unread : (context : Context) (left : State) (ended : Option Name) (facts : NodeF
 unread context left ended facts x y c Resource h k = refl
 unread context left ended facts x y c Definition h k = refl
 unread context left ended facts x y c GfmFootnoteDefinitionPrefix h k = refl
-unread context left ended facts x y c SpaceOrTab h k = lie (sym h ∙ k)
-unread context left ended facts x y c BlockQuotePrefix h k = lie (sym h ∙ k)
-unread context left ended facts x y c (Other number) h k = lie (sym h ∙ k)
-unread context left ended facts x y c _ h k = lie (sym h)
+unread context left ended facts x y c _ h k = grind arith
 
 pub read : (context : Context) (left : State) (ended : Option Name) (facts : NodeFacts)
     (x y : List ℕ)

@@ -155,15 +155,10 @@ raw_known context waits c name around first children s raw none before k =
     let spine = (past context around first children).spine ∙ ap (λ l. l ++ spine_names children)
     none
     in
-    let lines : KnowsLines Lines (before_past context around first children).spine
-    s.fences s.has_chunk =
-    subst (λ c. KnowsLines c (before_past context around first children).spine s.fences s.has_chunk)
-    same k.lines in
-    let ended : KnowsEnded Lines (before_past context around first children).previous s.ended =
-    subst (λ c. KnowsEnded c (before_past context around first children).previous s.ended)
-    same k.ended in (
-      lines.0 ∙ ap (λ l. count_by is_fence l) spine,
-      lines.1 ∙ ap (λ l. list_any is_chunk l) spine,
+    let lines = rw (same, spine) at k.lines in
+    let ended = rw same at k.ended in (
+      lines.0,
+      lines.1,
       ended ∙ (past context around first children).previous
           ∙ ap (λ o. or_else (last_name children) o) before
           ∙ or_else-none (last_name children),

@@ -245,19 +245,7 @@ pub scope_inside-seen :
     else seen around columns) ≡ seen (inside context.options (is_loose at.children) name around)
     (table_or name (alignments at.children) columns)
 scope_inside-seen context around columns at ListUnordered =
-    ap (λ b. record (seen around columns) { is_contained = true; is_tight = b })
-    (tight_is (is_loose at.children)) ∙ ap (λ b. record (seen around columns) {
-      is_contained = b;
-      is_tight =
-          is_tight (if is_loose at.children then container.Another else container.TightList);
-    })
-    (contained_list (is_loose at.children))
+    rw (← tight_is (is_loose at.children), ← contained_list (is_loose at.children)) refl
 scope_inside-seen context around columns at ListOrdered =
-    ap (λ b. record (seen around columns) { is_contained = true; is_tight = b })
-    (tight_is (is_loose at.children)) ∙ ap (λ b. record (seen around columns) {
-      is_contained = b;
-      is_tight =
-          is_tight (if is_loose at.children then container.Another else container.TightList);
-    })
-    (contained_list (is_loose at.children))
+    rw (← tight_is (is_loose at.children), ← contained_list (is_loose at.children)) refl
 scope_inside-seen context around columns at _ = refl
