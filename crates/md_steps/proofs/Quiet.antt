@@ -132,12 +132,11 @@ pub definition-slurps :
     around.in_definition ≡ true → (outcome context around before forest).slurps ≡ before.slurps
 definition-slurps context around before Empty h = refl
 definition-slurps context around before (Node name start end children rest) h =
-    let last : Bool = around.is_outermost && is_empty rest in
-    definition-slurps context around
-    (next_before context around before last name start end children) rest h
-    ∙ (ap (λ b. if b then (inner_of context around before name children).slurps
-    else lets_slurp (at_node context around before last name start end children) name
-    (inner_of context around before name children).slurps) h
-    ∙ definition-slurps context (inside context.options (is_loose children) name around)
-    (before_children name children before) children
-    (defines-inside context.options (is_loose children) name around h))
+    rw (
+      definition-slurps context around (here_before context around before name start end children
+          rest) rest h,
+      definition-slurps context (inside context.options (is_loose children) name around)
+          (before_children name children before) children
+          (defines-inside context.options (is_loose children) name around h),
+      h,
+    ) refl

@@ -14,7 +14,7 @@ use Rattle.md_meaning.specs.Meaning.Inherited.{inside, outermost}
 use Rattle.md_meaning.specs.Meaning.Layout.{laid_after, layout, when}
 use Rattle.md_meaning.specs.Meaning.At.{Context, Before, identifier_of}
 use Rattle.md_meaning.specs.Meaning.Before.{before_children, nothing_before}
-use Rattle.md_meaning.specs.Meaning.Nodes.{outcome}
+use Rattle.md_meaning.specs.Meaning.Nodes.{Outcome, outcome}
 use Rattle.md_content.proofs.Underlines.{grammatical-underlined}
 use Rattle.md_steps.specs.Content.{Blocks}
 use Rattle.md_steps.specs.State.{State, NodeFacts, facts_of}
@@ -162,18 +162,7 @@ printed-meant options names bytes document grammatical =
     let same : after mine ≡ after context =
     sym (run-same mine calls 0 (flatten document) (noticed bytes true document) beginning)
     ∙ ap (λ ds. after (record called { definitions = ds })) (sym defines) in
-    ap (λ s. laid_after ending s.text (section (record mine { calls = s.calls }) s.footnotes)) same
-    ∙ ap (λ t. laid_after ending t
-    (section (record mine { calls = (after context).calls }) (after context).footnotes)) says.0
-    ∙ ap (λ cs. laid_after ending
-    (layout ending (outcome context outermost nothing_before document).pieces)
-    (section (record mine { calls = cs }) (after context).footnotes))
-    (says.1 ∙ sym (counted context refl))
-    ∙ ap (λ fs. laid_after ending
-    (layout ending (outcome context outermost nothing_before document).pieces)
-    (section (record mine { calls = calls }) fs)) says.2
-    ∙ ap (λ ps. laid_after ending
-    (layout ending (outcome context outermost nothing_before document).pieces) ps)
-    (section-noted context (outcome context outermost nothing_before document).footnotes)
-    ∙ sym (laid-append ending [] (outcome context outermost nothing_before document).pieces
-    (section context (outcome context outermost nothing_before document).footnotes))
+    let out : Outcome = outcome context outermost nothing_before document in
+    rw (same, says.0, says.1, sym (counted context refl), says.2)
+    (ap (laid_after ending (layout ending out.pieces)) (section-noted context out.footnotes)
+    ∙ sym (laid-append ending [] out.pieces (section context out.footnotes)))
