@@ -1,11 +1,10 @@
 -- The other conditions on a node, such as a heading's rank or a list's number, hold for each node
 -- that has its shape and fulfils the rules.
 use Rattle.std.specs.Str.{bytes_eq}
-use Rattle.std.proofs.Common.{◌≡◌, ℕ, Bool, true, false, ◌||◌, cond}
-use Rattle.std.proofs.Common.{Option, Some, None, is_some, List, [], ◌∷◌, refl, ap, ◌∙◌}
+use Rattle.std.proofs.Common.{◌≡◌, ℕ, Bool, true, false, cond}
+use Rattle.std.proofs.Common.{Option, Some, None, is_some, List, [], ◌∷◌, refl}
 use Rattle.std.proofs.Common.{subst}
 use Rattle.std.specs.List.{list_any}
-use Rattle.std.specs.Prelude.{map}
 use Rattle.md_pattern.specs.declared.kinds.Item.{Item}
 use Rattle.std.specs.Cmp.Lexicographic.{bytes_decides}
 use Rattle.md_base.proofs.Lies.{lie}
@@ -28,7 +27,7 @@ use Rattle.md_base.specs.Children.{spine_names}
 use Rattle.md_content.specs.Built.{is_fence, IsFit}
 use Rattle.md_content.proofs.FineNodes.{IsFine, AreFine, shaped}
 use Rattle.md_content.proofs.SymbolNames.{name_of}
-use Rattle.md_content.proofs.Stands.{Stand, stands, names-stand}
+use Rattle.md_content.proofs.Stands.{stands, names-stand}
 use Rattle.md_content.proofs.Heads.{Head, head}
 use Rattle.md_content.proofs.RanksAndNumbers.{text_fits, heading_fits}
 use Rattle.md_content.proofs.RanksAndNumbers.{list_fits}

@@ -7,7 +7,7 @@ use Rattle.md_base.specs.declared.event.Name.TheVariants.{Data}
 use Rattle.md_base.specs.declared.event.Position.{Position}
 use Rattle.std.proofs.lemmas.Bool.{and_from}
 use Rattle.md_base.specs.Tree.{Forest, Empty, Node}
-use Rattle.md_base.specs.Children.{is_empty, or_else, spine_names}
+use Rattle.md_base.specs.Children.{is_empty, spine_names}
 use Rattle.md_base.specs.NameTests.{is_transparent}
 use Rattle.md_pattern.specs.Looseness.{is_loose}
 use Rattle.md_text.specs.declared.options.CompileOptions.{CompileOptions}
@@ -21,7 +21,7 @@ use Rattle.md_meaning.specs.Meaning.Nodes.{outcome, found_at}
 use Rattle.md_steps.specs.Content.{Content, Blocks, Fits, is_string}
 use Rattle.md_steps.specs.Content.{is_code_data, is_source, is_allowed}
 use Rattle.md_steps.specs.Content.{content_inside, content_after_node}
-use Rattle.md_steps.specs.Claim.{at_node, inner_of, next_before, node_of}
+use Rattle.md_steps.specs.Claim.{at_node, inner_of, next_before}
 use Rattle.md_steps.proofs.Standing.{implies, follows, picked, allowed-facts, is_callless}
 use Rattle.md_steps.proofs.Staying.{node-same}
 use Rattle.md_steps.proofs.Quiet.{past-callless, defines-inside}

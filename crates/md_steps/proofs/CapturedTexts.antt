@@ -1,12 +1,12 @@
 -- A node's captured text and the one around it, and how the surroundings come back.
 use Rattle.std.proofs.Common.{arith, ◌≡◌, ℕ, Bool, true, false, not, ◌&&◌, List, [], ◌∷◌, Option}
 use Rattle.std.proofs.Common.{refl, ap}
-use Rattle.std.proofs.Common.{sym, ◌∙◌}
+use Rattle.std.proofs.Common.{◌∙◌}
 use Rattle.std.specs.Prelude.{if◌then◌else◌}
 use Rattle.std.proofs.lemmas.Bool.{and_from, and_parts}
 use Rattle.md_base.specs.declared.event.Name.{Name}
 use Rattle.md_base.specs.declared.event.Name.TheVariants as name_variants
-use name_variants.{SpaceOrTab, BlockQuotePrefix, Other, Definition, Resource, GfmFootnoteDefinition}
+use name_variants.{Definition, Resource, GfmFootnoteDefinition}
 use name_variants.{GfmFootnoteDefinitionPrefix, HeadingSetextText}
 use Rattle.md_base.proofs.Lies.{lie}
 use Rattle.md_base.specs.Is.{is}

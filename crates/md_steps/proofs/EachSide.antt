@@ -1,28 +1,26 @@
 -- What a state knows of a node where it is left, and what is printed at the two ends of nodes whose
 -- ends look at more than the node.
-use Rattle.std.proofs.Common.{◌≡◌, ℕ, ◌+◌, ◌==◌, suc, Bool, true, false, not, ◌&&◌, ◌||◌, List, []}
+use Rattle.std.proofs.Common.{◌≡◌, ℕ, ◌+◌, ◌==◌, Bool, true, false, not, ◌&&◌, ◌||◌, List, []}
 use Rattle.std.proofs.Common.{◌∷◌, ◌++◌, Option, Some, None, refl, ap, sym, ◌∙◌, append_assoc}
 use Rattle.std.proofs.Common.{arith, ne_eqb, codes, cond}
 use Rattle.std.proofs.lemmas.List.Sums.{sum_by-cons}
-use Rattle.std.specs.Prelude.{count_by, unwrap_or, if◌then◌else◌}
+use Rattle.std.specs.Prelude.{count_by, unwrap_or}
 use Rattle.std.specs.Option.{option_map_or}
 use Rattle.std.specs.List.{list_any}
-use Rattle.std.specs.Fmt.{decimal}
 use Rattle.md_base.specs.declared.event.AlignKind.{AlignKind}
 use Rattle.md_base.specs.declared.event.Name.{Name}
 use Rattle.md_base.specs.declared.event.Name.TheVariants.{GfmTableCell}
 use Rattle.md_base.specs.Is.{is}
 use Rattle.md_base.specs.Children.{spine_names, last_name}
 use Rattle.md_base.specs.NameTests.{is_transparent, is_fence, is_chunk, is_cell, is_call}
-use Rattle.md_meaning.specs.Meaning.Layout.{Piece, Text, said, when}
-use Rattle.md_meaning.specs.Meaning.At.{Context, At, Target, identifier_of, target_in}
-use Rattle.md_meaning.specs.Meaning.At.{nothing_found}
+use Rattle.md_meaning.specs.Meaning.Layout.{Piece, said, when}
+use Rattle.md_meaning.specs.Meaning.At.{Context, At, identifier_of}
 use Rattle.md_meaning.specs.Meaning.Media.{leads_to, target_defined}
 use Rattle.md_tree.specs.declared.mention.Referral.TheVariants.{Missing}
 use Rattle.md_tree.specs.Rules.{target_of}
 use Rattle.md_meaning.specs.Meaning.Before.{is_first_fence}
 use Rattle.md_meaning.specs.Meaning.Tables.{cell_of}
-use Rattle.md_meaning.specs.Meaning.Footnotes.{call, call_id, count_of, distinct, id_of}
+use Rattle.md_meaning.specs.Meaning.Footnotes.{call, distinct}
 use Rattle.md_meaning.specs.Meaning.Footnotes.{place_among}
 use Rattle.md_content.specs.Underlined.{is_underline}
 use Rattle.md_steps.specs.State.{State, NodeFacts, facts_of, is_resource}

@@ -8,26 +8,25 @@ use name_variants.{Data, LineEnding}
 use Rattle.md_base.specs.declared.event.Point.{Point}
 use Rattle.md_base.proofs.Lies.{lie}
 use Rattle.md_base.specs.Is.{is}
-use Rattle.md_base.specs.Tree.{Forest, Empty}
-use Rattle.md_base.specs.Children.{spine_names}
+use Rattle.md_base.specs.Tree.{Forest}
 use Rattle.md_base.specs.NameTests.{is_transparent}
 use Rattle.md_pattern.specs.Looseness.{is_loose}
 use Rattle.md_meaning.specs.declared.surroundings.Surroundings.{Surroundings}
 use Rattle.md_meaning.specs.Meaning.Inherited.{inside}
 use Rattle.md_meaning.specs.Meaning.Layout.{Piece, laid_after, layout}
-use Rattle.md_meaning.specs.Meaning.At.{Context, At, Before, identifier_of}
+use Rattle.md_meaning.specs.Meaning.At.{Context, At, Before}
 use Rattle.md_meaning.specs.Meaning.Before.{before_children}
 use Rattle.md_meaning.specs.Meaning.Nodes.{Outcome}
-use Rattle.md_content.specs.Underlined.{is_underline, waits_after}
-use Rattle.md_steps.specs.Content.{Content, Nothing, Childless, Fits, is_allowed, content_of}
+use Rattle.md_content.specs.Underlined.{waits_after}
+use Rattle.md_steps.specs.Content.{Content, Nothing, Childless, Fits, content_of}
 use Rattle.md_steps.specs.Content.{content_inside, content_after, content_after_node}
 use Rattle.md_steps.specs.State.{State, NodeFacts, facts_of}
-use Rattle.md_steps.specs.Steps.{entered, exited, restored}
+use Rattle.md_steps.specs.Steps.{exited, restored}
 use Rattle.md_steps.specs.State.{captures, opens_scope, scope_inside}
 use Rattle.md_steps.specs.Sides.{opens, closes}
 use Rattle.md_steps.specs.Steps.{slurps_after, heading_after, is_value}
 use Rattle.md_meaning.specs.Meaning.Spans.{marker}
-use Rattle.md_steps.specs.Claim.{Knows, KnowsCells, KnowsLines, has_marks, mark_after, at_node}
+use Rattle.md_steps.specs.Claim.{KnowsCells, KnowsLines, has_marks, mark_after, at_node}
 use Rattle.md_steps.specs.Claim.{inner_of, seen}
 use Rattle.md_steps.proofs.Past.{Passed, past}
 use Rattle.md_steps.proofs.Laid.{three}

@@ -1,13 +1,11 @@
 -- The first footnote with each identifier is kept, and no other one is read.
-use Rattle.std.proofs.Common.{◌≡◌, ℕ, true, false, not, List, [], ◌∷◌, ◌++◌, length, Option, Some}
-use Rattle.std.proofs.Common.{refl, ap, sym, ◌∙◌, append-nil, bytes_eq, codes}
-use Rattle.std.specs.Prelude.{◌==◌, if◌then◌else◌, find}
+use Rattle.std.proofs.Common.{◌≡◌, ℕ, true, false, List, [], ◌∷◌, ◌++◌, Option, Some}
+use Rattle.std.proofs.Common.{refl, ap, sym, ◌∙◌, append-nil, bytes_eq}
+use Rattle.std.specs.Prelude.{if◌then◌else◌, find}
 use Rattle.std.specs.List.{flat_map}
-use Rattle.std.specs.Option.{option_map_or}
-use Rattle.md_meaning.specs.Meaning.Layout.{Text, Forced, on_own_line, when}
 use Rattle.md_meaning.specs.Meaning.At.{Footnote, Context}
-use Rattle.md_meaning.specs.Meaning.Footnotes.{distinct, item, body, id_of, place_among, count_of}
-use Rattle.md_meaning.specs.Meaning.Footnotes.{backreferences, section, section_start}
+use Rattle.md_meaning.specs.Meaning.Footnotes.{distinct, item}
+use Rattle.md_meaning.specs.Meaning.Footnotes.{section}
 use Rattle.md_meaning.proofs.Identifiers.{same}
 use Rattle.md_steps.specs.Steps.{noted}
 use Rattle.md_steps.specs.Claim.{noted_all}

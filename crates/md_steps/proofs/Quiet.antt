@@ -19,12 +19,12 @@ use Rattle.md_meaning.specs.declared.surroundings.Surroundings.{Surroundings}
 use Rattle.md_meaning.specs.Meaning.Inherited.{inside}
 use Rattle.md_meaning.specs.Meaning.Layout.{when}
 use Rattle.md_meaning.specs.Meaning.At.{Context, Before}
-use Rattle.md_meaning.specs.Meaning.Before.{before_children, lets_slurp}
+use Rattle.md_meaning.specs.Meaning.Before.{before_children}
 use Rattle.md_meaning.specs.Meaning.Nodes.{outcome}
 use Rattle.md_steps.specs.Content.{Content, Blocks, Fits, is_allowed, content_of}
 use Rattle.md_steps.specs.Content.{content_inside}
 use Rattle.md_steps.specs.Content.{content_past, content_after_node}
-use Rattle.md_steps.specs.Claim.{at_node, inner_of, node_of, next_before}
+use Rattle.md_steps.specs.Claim.{inner_of, node_of, next_before}
 use Rattle.md_steps.proofs.Standing.{allowed-facts, is_callless, is_nothing, is_quiet, implies}
 use Rattle.md_steps.proofs.Staying.{node-same, past-as}
 

@@ -1,5 +1,5 @@
 -- The steps over some nodes print what these mean: one induction.
-use Rattle.std.proofs.Common.{◌≡◌, ℕ, Bool, true, false, ◌&&◌, List, [], ◌++◌, Option, refl, ap}
+use Rattle.std.proofs.Common.{◌≡◌, ℕ, Bool, true, false, ◌&&◌, List, ◌++◌, Option, refl, ap}
 use Rattle.std.proofs.Common.{sym, subst, ◌∙◌, append_assoc}
 use Rattle.std.specs.Prelude.{if◌then◌else◌}
 use Rattle.md_base.specs.declared.event.Name.{Name}
@@ -8,7 +8,7 @@ use name_variants.{BlockQuote}
 use Rattle.md_base.specs.declared.event.Point.{Point}
 use Rattle.md_base.proofs.Lies.{lie}
 use Rattle.md_base.specs.Tree.{Forest, Empty, Node}
-use Rattle.md_base.specs.Children.{is_empty, spine_names}
+use Rattle.md_base.specs.Children.{is_empty}
 use Rattle.md_base.specs.NameTests.{is_transparent}
 use Rattle.md_pattern.specs.Looseness.{is_loose}
 use Rattle.md_text.specs.declared.options.CompileOptions.{CompileOptions}
@@ -18,9 +18,9 @@ use Rattle.md_meaning.specs.Meaning.Layout.{laid_after}
 use Rattle.md_meaning.specs.Meaning.At.{Target, Context, Before, identifier_of}
 use Rattle.md_meaning.specs.Meaning.Before.{before_children, nothing_before}
 use Rattle.md_meaning.specs.Meaning.Nodes.{Outcome, outcome}
-use Rattle.md_content.specs.Underlined.{is_underline, waits_past, waits_after, IsUnderlined}
+use Rattle.md_content.specs.Underlined.{waits_past, waits_after, IsUnderlined}
 use Rattle.md_steps.specs.Content.{Content, Blocks, Strings, BeforeLabel, AfterLabel, Sources}
-use Rattle.md_steps.specs.Content.{Nothing, Childless, Fits, is_allowed, content_inside}
+use Rattle.md_steps.specs.Content.{Nothing, Childless, Fits, content_inside}
 use Rattle.md_steps.specs.Content.{content_after_node}
 use Rattle.md_steps.specs.State.{State, NodeFacts, facts_of}
 use Rattle.md_steps.specs.Steps.{entered, exited, over, passed, is_passed, beginning}
