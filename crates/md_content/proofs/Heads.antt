@@ -36,9 +36,7 @@ named holds around before node one stood e alone =
         let same : seen ≡ one = cc in
         ap (λ s. if is_shared s then node.name else name_of s) same
         ∙ ap (λ b. if b then node.name else name_of one) alone
-    by Through shows = cc
-    by Space shows = cc
-    by Mdx shows = cc
+    by _ shows = cc
 
 -- the first node, and the others
 pub record Head (holds : Claim) (one : Symbol) (items : List Item) (around : Role)

@@ -35,9 +35,7 @@ solid-shown : (standing : Standing) (before : Option Symbol) (symbols : List Sym
     is_some (symbol_in standing) ≡ true →
     last_symbol before (shown standing [] ++ symbols) ≡ last_symbol (symbol_in standing) symbols
 solid-shown (Solid seen usual reading) before symbols h = refl
-solid-shown Through before symbols h = lie h
-solid-shown Space before symbols h = lie h
-solid-shown Mdx before symbols h = lie h
+solid-shown _ before symbols h = lie h
 
 -- names that stand on a spine follow others
 pub last-symbols : (names earlier : List Name) (before : Option Symbol) →

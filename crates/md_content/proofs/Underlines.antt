@@ -113,8 +113,6 @@ node-waits :
     waits_after waits children ≡ waits_after_symbols waits (spine children)
     → cond (is_transparent name) (waits_after waits children) (waits_past waits name)
     ≡ waits_after_symbols waits (shown (standing_of name) (spine children))
-node-waits (Other number) children around before waits is same = same
-node-waits BlockQuotePrefix children around before waits is same = same
 node-waits SpaceOrTab children around before waits is same = ap (λ f. waits_after waits f) is
 node-waits _ children around before waits is same = grind arith
 

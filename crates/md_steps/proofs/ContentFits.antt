@@ -21,6 +21,7 @@ use Rattle.md_steps.specs.Content.{content_past, content_after, content_after_no
 use Rattle.md_content.proofs.SymbolNames.{is_through, name_for, transparent}
 use Rattle.md_steps.proofs.ContentSymbols.{admits, group_of, group_in, may-same}
 use Rattle.md_steps.proofs.ContentSymbols.{group-same}
+use Rattle.md_steps.proofs.Staying.{node-same, past-as}
 use Rattle.md_steps.proofs.RoleContents.{matches-admitted}
 
 -- the role that a name has in its place is of the group of its usual one
@@ -154,36 +155,10 @@ fitting (Node name start end children rest) around before content shaped childle
           (λ c. shaped.0.0 (childless c)))) here.stands,
       fitting children _ _ (content_inside content name) shaped.1 here.childless here.inside,
       fitting rest _ _ (content_after_node content name children) shaped.2
-          (λ c. childless (still-childless content name children c))
+          (λ c. childless
+          (sym (node-same is_childless (past-as is_childless refl) content name children) ∙ c))
           (subst (λ c. admits c (spine rest) ≡ true) (sym after) here.after),
     )
-  where
-    kept : (c : Content) → is_childless (content_past c) ≡ true → is_childless c ≡ true
-    kept Childless h = refl
-    kept BeforeLabel h = lie h
-    kept _ h = lie h
-
-    still : (c : Content) (f : Forest) → is_childless (content_after c f) ≡ true →
-        is_childless c ≡ true
-    still c Empty h = h
-    still c (Node n s e inner more) h =
-        elim (is_transparent n) as (λ t. is_childless (content_after (if t
-        then content_after c inner else content_past c) more) ≡ true → is_childless c ≡ true) [
-          | true ↦ λ g. still c inner (still (content_after c inner) more g)
-          | false ↦ λ g. kept c (still (content_past c) more g)
-        ] h
-
-    still-childless : (c : Content) (n : Name) (f : Forest) →
-        is_childless (content_after_node c n f) ≡ true →
-        is_childless c ≡ true
-    still-childless c n f h =
-        elim (is_transparent n) as
-        (λ t. is_childless (if t then content_after c f else content_past c) ≡ true →
-        is_childless c ≡ true) [
-          | true ↦ λ g. still c f g
-          | false ↦ λ g. kept c g
-        ]
-        h
 
 pub shaped-fits : (forest : Forest) → IsShaped forest → Fits Blocks forest
 shaped-fits forest shaped =

@@ -158,20 +158,16 @@ both-sides context at cells left ended inner name k =
     ]
 
 -- the end of a fence depends on the fences before it
-fence-meant : (context : Context) (at : At) (inner : List Piece) (name : Name) →
-    (if is_fence name then Meant context at inner name
-    else inner ++ when (is_first_fence at) (said (codes ">")))
-    ≡ inner ++ when (is_first_fence at) (said (codes ">"))
-fence-meant context at inner Paragraph = refl
-fence-meant context at inner _ = refl
-
-fence-ends : (context : Context) (at : At) (cells : ℕ) (left : State) (ended : Option Name)
+fence-told : (context : Context) (at : At) (cells : ℕ) (left : State) (ended : Option Name)
     (inner : List Piece) (name : Name) →
-    (if is_fence name then Ends context at cells left ended inner name
+    ((if is_fence name then Meant context at inner name
+    else inner ++ when (is_first_fence at) (said (codes ">")))
+    ≡ inner ++ when (is_first_fence at) (said (codes ">")))
+    × ((if is_fence name then Ends context at cells left ended inner name
     else inner ++ when (left.fences == 0) (said (codes ">")))
-    ≡ inner ++ when (left.fences == 0) (said (codes ">"))
-fence-ends context at cells left ended inner Paragraph = refl
-fence-ends context at cells left ended inner _ = refl
+    ≡ inner ++ when (left.fences == 0) (said (codes ">")))
+fence-told context at cells left ended inner Paragraph = (refl, refl)
+fence-told context at cells left ended inner _ = (refl, refl)
 
 ends-meant : (context : Context) (at : At) (cells : ℕ) (left : State) (ended : Option Name)
     (inner : List Piece) (name : Name) → is_set_aside name ≡ false →
@@ -184,9 +180,9 @@ ends-meant context at cells left ended inner name aside k =
         (if is_set_aside name || b then Ends context at cells left ended inner name
         else Meant context at inner name) ≡ Ends context at cells left ended inner name →
         Meant context at inner name ≡ Ends context at cells left ended inner name
-    by true e h = picked (is_fence name) _ _ (fence-meant context at inner name) e
+    by true e h = picked (is_fence name) _ _ (fence-told context at cells left ended inner name).0 e
         ∙ fence-sides at left inner (k.fences e)
-        ∙ sym (picked (is_fence name) _ _ (fence-ends context at cells left ended inner name) e)
+        ∙ sym (picked (is_fence name) _ _ (fence-told context at cells left ended inner name).1 e)
     by false e h = ap (λ a. if a || false then Ends context at cells left ended inner name
         else Meant context at inner name) (sym aside) ∙ h
 
