@@ -18,8 +18,8 @@ use Rattle.md_pattern.specs.declared.kinds.Item.{Item}
 use Rattle.md_pattern.specs.declared.kinds.Item.TheVariants.{Once, Maybe, Many}
 use Rattle.md_pattern.specs.Pattern.{members, class_of, takes, pattern_of, Fits, IsCount}
 use Rattle.md_pattern.specs.Spine.{IsTail, IsGrouped, Matches}
-use Rattle.md_content.specs.Built.{Content, Blocks, Spans, Strings, FirstFence, FirstMathFence}
-use Rattle.md_content.specs.Built.{Chunks, InfoAndMeta, MetaAlone, Done}
+use Rattle.md_content.specs.Built.{Content, Blocks, Spans, Strings, FirstFence}
+use Rattle.md_content.specs.Built.{Chunks}
 use Rattle.md_content.proofs.Symbols.{may_show, past, admits, keeps, item_admits, pattern_admits}
 use Rattle.md_content.proofs.Tails.{each-tail}
 
@@ -51,11 +51,7 @@ admits-later false content symbols h = admits-earlier content symbols h
 past-kept : (content : Content) (symbol : Symbol) → keeps content ≡ true →
     past content symbol ≡ content
 past-kept FirstFence symbol h = lie h
-past-kept FirstMathFence symbol h = lie h
-past-kept InfoAndMeta symbol h = lie h
-past-kept MetaAlone symbol h = lie h
-past-kept Done symbol h = lie h
-past-kept _ symbol h = refl
+past-kept _ symbol h = grind arith
 
 -- what holds of each member of a class holds of each symbol that it takes
 pub taken : (test : Symbol → Bool) (symbols : List Symbol) (symbol : Symbol) →

@@ -10,7 +10,7 @@ use Rattle.md_pattern.specs.declared.kinds.Item.{Item}
 use Rattle.md_pattern.specs.declared.kinds.Item.TheVariants as item
 use Rattle.md_pattern.specs.declared.kinds.Role.{Role}
 use Rattle.md_pattern.specs.declared.kinds.Standing.{Standing}
-use Rattle.md_pattern.specs.declared.kinds.Standing.TheVariants.{Through, Space, Solid, Mdx}
+use Rattle.md_pattern.specs.declared.kinds.Standing.TheVariants.{Solid}
 use Rattle.md_base.specs.Tree.{Forest}
 use Rattle.md_base.specs.Children.{first_on_spine}
 use Rattle.md_pattern.specs.Standing.{standing_of}

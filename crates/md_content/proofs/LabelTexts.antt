@@ -49,10 +49,11 @@ is_neutral symbol.FootnotePrefix = false
 is_neutral symbol.Resource = false
 is_neutral _ = true
 
-neutral-leaves : (seen : Symbol) (found inner : Referral) (there : Position) →
-    (if is_neutral seen then target_by seen found inner there else found) ≡ found
-neutral-leaves symbol.Text found inner there = refl
-neutral-leaves _ found inner there = refl
+symbol-told : (seen : Symbol) (found inner : Referral) (there : Position) →
+    ((if is_neutral seen then target_by seen found inner there else found) ≡ found)
+    × ((if is_text seen then target_by seen found inner there else Label there) ≡ Label there)
+symbol-told symbol.Text found inner there = (refl, refl)
+symbol-told _ found inner there = (refl, refl)
 
 left-neutral : (node : Stand) (nodes : List Stand) (found : Referral) →
     is_neutral node.seen ≡ true → sought (node ∷ nodes) found ≡ sought nodes found
@@ -60,7 +61,7 @@ left-neutral node nodes found h =
     let inner = target_of node.children Missing in
     let there = place node.start node.end in
     ap (λ b. sought nodes (if b then target_by node.seen found inner there else found)) (sym h)
-    ∙ ap (sought nodes) (neutral-leaves node.seen found inner there)
+    ∙ ap (sought nodes) (symbol-told node.seen found inner there).0
 
 sought-neutral : (nodes : List Stand) (found : Referral) →
     list_all is_neutral (seen_of nodes) ≡ true →
@@ -101,11 +102,6 @@ text-named node stood = text-agree node.name ∙ ap (λ o. option_map_or is_text
 abbrev pub text_seen : List Stand → Option Position
 text_seen nodes = first_seen is_label_text position nodes
 
-text-is : (seen : Symbol) (found inner : Referral) (there : Position) →
-    (if is_text seen then target_by seen found inner there else Label there) ≡ Label there
-text-is symbol.Text found inner there = refl
-text-is _ found inner there = refl
-
 text-sought : (around : Role) (before : Option Symbol) (nodes : List Stand) →
     EachStood IsShapedNode around before nodes → has_one_text (seen_of nodes) ≡ true →
     sought nodes Missing ≡ label_target (text_seen nodes)
@@ -127,7 +123,7 @@ text-sought around before (node ∷ nodes) stood h =
         let inner = target_of node.children Missing in
         let there = place node.start node.end in
         ap (λ b. sought nodes (if b then target_by node.seen Missing inner there else Label there))
-        (sym e) ∙ ap (sought nodes) (text-is node.seen Missing inner there)
+        (sym e) ∙ ap (sought nodes) (symbol-told node.seen Missing inner there).1
         ∙ sought-neutral nodes (Label there) rest
     by false e rest again =
         let parts = and_parts _ _ rest in
@@ -142,12 +138,10 @@ one_text-append : (symbols others : List Symbol) → list_all is_neutral symbols
     has_one_text (symbols ++ others) ≡ true
 one_text-append [] others h g = g
 one_text-append (seen ∷ symbols) others h g =
-    let parts = and_parts _ _ h in
-    ap (λ text. if text then list_all is_neutral (symbols ++ others) else is_neutral seen
-    && has_one_text (symbols ++ others))
-    (ap (λ b. if b then is_text seen else false) (sym parts.0) ∙ neutral-no_text seen)
-    ∙ and_from _ _ parts.0
-    (one_text-append symbols others parts.1 g)
+    let later : has_one_text (symbols ++ others) ≡ true =
+    one_text-append symbols others
+    (and_parts (is_neutral seen) (list_all is_neutral symbols) h).1 g in
+    grind (arith, neutral-no_text seen)
 
 -- so has a spine whose groups begin so
 one-text : (firsts spine : List Symbol) → has_one_text firsts ≡ true → IsGrouped firsts spine →

@@ -9,7 +9,7 @@ use Rattle.md_base.specs.declared.event.Name.{Name}
 use Rattle.md_pattern.specs.declared.kinds.Symbol.{Symbol}
 use Rattle.md_pattern.specs.declared.kinds.Role.{Role}
 use Rattle.md_pattern.specs.declared.kinds.Standing.{Standing}
-use Rattle.md_pattern.specs.declared.kinds.Standing.TheVariants.{Through, Space, Solid, Mdx}
+use Rattle.md_pattern.specs.declared.kinds.Standing.TheVariants.{Solid}
 use Rattle.md_base.specs.Tree.{Forest}
 use Rattle.md_pattern.specs.Standing.{standing_of}
 use Rattle.md_pattern.specs.Spine.{shown}

@@ -2,7 +2,7 @@
 -- to.
 use Rattle.std.proofs.Common.{arith, ◌≡◌, Bool, true, false, ◌&&◌, ◌||◌, cond, Option, Some, None}
 use Rattle.std.proofs.Common.{is_some}
-use Rattle.std.proofs.Common.{List, [], ◌∷◌, ◌++◌, refl, sym, ap, ◌∙◌, subst}
+use Rattle.std.proofs.Common.{List, [], ◌∷◌, ◌++◌, refl, sym, ap, ◌∙◌}
 use Rattle.std.specs.List.{list_all}
 use Rattle.std.proofs.lemmas.Bool.{and_parts}
 use Rattle.md_base.specs.declared.event.Name.{Name}
@@ -152,9 +152,6 @@ spot standing name children around before content others says stands after h =
       inside =
           ap (λ t. admits (is_some (inner_before standing before))
           (cond t content (content_of name content)) (spine children)) says.through ∙ here.1;
-      after =
-          subst (λ c.
-          admits (is_some (last_symbol before (shown standing (spine children)))) c others
-          ≡ true) (sym (node_after standing name children around before content says stands after))
+      after = rw (node_after standing name children around before content says stands after)
           (admits-split before content (shown standing (spine children)) others h).1;
     }

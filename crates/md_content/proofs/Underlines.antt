@@ -8,7 +8,7 @@ use Rattle.std.proofs.lemmas.Bool.{and_parts, and_from}
 use Rattle.md_base.proofs.Lies.{lie}
 use Rattle.md_base.specs.declared.event.Name.{Name}
 use Rattle.md_base.specs.declared.event.Name.TheVariants as name_variants
-use name_variants.{HeadingSetextUnderlineSequence, BlockQuotePrefix, SpaceOrTab, Other}
+use name_variants.{HeadingSetextUnderlineSequence, SpaceOrTab}
 use Rattle.md_base.specs.Tree.{Forest, Empty, Node}
 use Rattle.md_base.specs.NameTests.{is_transparent}
 use Rattle.md_base.specs.Children.{spine_names}

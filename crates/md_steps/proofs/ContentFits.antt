@@ -1,5 +1,5 @@
 -- Each document of the grammar fits: the content of each place allows its nodes.
-use Rattle.std.proofs.Common.{◌≡◌, Bool, true, false, ◌||◌, Option, Some, None, List, []}
+use Rattle.std.proofs.Common.{◌≡◌, Bool, true, ◌||◌, Option, Some, None, List, []}
 use Rattle.std.proofs.Common.{◌∷◌, ◌++◌}
 use Rattle.std.proofs.Common.{refl, sym, ap, ◌∙◌, subst, if◌then◌else◌}
 use Rattle.std.proofs.lemmas.Bool.{not_from_false, false_from_ne_true, and_parts, and_from}
@@ -15,7 +15,7 @@ use Rattle.md_pattern.specs.declared.kinds.Standing.TheVariants.{Through, Space,
 use Rattle.md_pattern.specs.Standing.{standing_of}
 use Rattle.md_pattern.specs.Spine.{spine, shown}
 use Rattle.md_pattern.specs.Shape.{AreShaped, IsStanding, role_for, inner_role, IsShaped}
-use Rattle.md_steps.specs.Content.{Content, Blocks, Spans, BeforeLabel, Parts, Childless, Fits}
+use Rattle.md_steps.specs.Content.{Content, Blocks, Spans, Parts, Fits}
 use Rattle.md_steps.specs.Content.{is_childless, may_stand, content_of, content_inside}
 use Rattle.md_steps.specs.Content.{content_past, content_after, content_after_node}
 use Rattle.md_content.proofs.SymbolNames.{is_through, name_for, transparent}

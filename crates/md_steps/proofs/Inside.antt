@@ -1,6 +1,6 @@
 -- What a state knows where a node's children begin.
-use Rattle.std.proofs.Common.{◌≡◌, ℕ, Bool, true, false, not, ◌&&◌, List, [], Option, None}
-use Rattle.std.proofs.Common.{refl, ap, sym, ◌∙◌}
+use Rattle.std.proofs.Common.{arith, ◌≡◌, ℕ, Bool, true, false, not, ◌&&◌, List, [], Option, None}
+use Rattle.std.proofs.Common.{refl, ap, ◌∙◌}
 use Rattle.std.specs.Prelude.{if◌then◌else◌}
 use Rattle.md_base.specs.declared.event.Name.{Name}
 use Rattle.md_base.specs.declared.event.Name.TheVariants as name_variants
@@ -44,17 +44,9 @@ told _ = (refl, refl, refl, refl)
 marker-inside : (c : Content) (name : Name) (spine : List Name) (m : ℕ) →
     (has_marks c ≡ true → m ≡ mark_after spine) → has_marks (content_inside c name) ≡ true →
     (if is_value name then m else 38) ≡ mark_after (if is_transparent name then spine else [])
-marker-inside c name spine m k =
-    by (is_transparent name) (is_value name) (told name).0 (told name).1
-  where
-    by : (t v : Bool) → implies t v ≡ true →
-        implies (not t && v) (not (has_marks (content_of name))) ≡ true →
-        has_marks (if t then c else content_of name) ≡ true →
-        (if v then m else 38) ≡ mark_after (if t then spine else [])
-    by true true h l e = k e
-    by true false h l e = lie h
-    by false true h l e = lie (ap (λ b. not b) (sym e) ∙ l)
-    by false false h l e = refl
+marker-inside c name spine m k h =
+    let t = told name in
+    grind arith
 
 begin-lines : (c : Content) (raw : Bool) (fences : ℕ) (chunk : Bool) →
     implies (is_lines c) raw ≡ true →
