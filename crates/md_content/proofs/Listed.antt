@@ -1,6 +1,6 @@
 -- The definitions and footnotes of the meaning are those of the document, in the order of their
 -- exits: the targets of references.
-use Rattle.std.proofs.Common.{◌≡◌, ℕ, Bool, true, false, List, [], ◌∷◌, ◌++◌, refl}
+use Rattle.std.proofs.Common.{arith, ◌≡◌, ℕ, Bool, true, false, List, [], ◌∷◌, ◌++◌, refl}
 use Rattle.std.proofs.Common.{append_assoc}
 use Rattle.std.specs.Prelude.{map, if◌then◌else◌, ◌&&◌}
 use Rattle.std.proofs.lemmas.List.{map-append}
@@ -43,8 +43,7 @@ in_a_row of inner own later xs ys zs a b c =
 -- the one of a node, if it is one
 own-one : {A : Type 0} (of : A → List ℕ) (test : Bool) (own : A) →
     map of (if test then own ∷ [] else []) ≡ (if test then of own ∷ [] else [])
-own-one of true own = refl
-own-one of false own = refl
+own-one of test own = grind arith
 
 pub listed :
     (context : Context) (around : Surroundings) (before : Before) (forest : Forest) →

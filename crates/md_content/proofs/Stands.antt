@@ -1,6 +1,6 @@
 -- The nodes on a spine as a list: facts about a spine are stated for this list, which is easier to
 -- iterate over than the tree.
-use Rattle.std.proofs.Common.{◌≡◌, ℕ, Bool, true, false, cond, Option, Some, None, List, []}
+use Rattle.std.proofs.Common.{arith, ◌≡◌, ℕ, Bool, true, false, cond, Option, Some, None, List, []}
 use Rattle.std.proofs.Common.{◌∷◌, ◌++◌}
 use Rattle.std.proofs.Common.{refl, sym, ap, ◌∙◌, subst}
 use Rattle.std.specs.Prelude.{map, if◌then◌else◌}
@@ -222,15 +222,7 @@ module _ {A : Type 0} (test : Name → Bool) (tell : Point → Point → Forest 
   first_seen-append : (nodes others : List Stand) → or_else (first_seen nodes) (first_seen others)
       ≡ first_seen (nodes ++ others)
   first_seen-append [] others = refl
-  first_seen-append (node ∷ nodes) others = by (test node.name)
-      (Some (tell node.start node.end node.children)) refl (first_seen-append nodes others)
-    where
-      by : (passes : Bool) (here : Option A) → or_else here (first_seen others) ≡ here →
-          or_else (first_seen nodes) (first_seen others) ≡ first_seen (nodes ++ others) →
-          or_else (if passes then here else first_seen nodes) (first_seen others)
-          ≡ (if passes then here else first_seen (nodes ++ others))
-      by true here e later = e
-      by false here e later = later
+  first_seen-append (node ∷ nodes) others = grind (arith, first_seen-append nodes others)
 
   passes_not : (name : Name) → IsSolid test →
       (if is_through (standing_of name) then test name else false) ≡ false
