@@ -1,5 +1,5 @@
 -- The first footnote with each identifier is kept, and no other one is read.
-use Rattle.std.proofs.Common.{◌≡◌, ℕ, true, false, List, [], ◌∷◌, ◌++◌, Option, Some}
+use Rattle.std.proofs.Common.{arith, ◌≡◌, ℕ, true, false, List, [], ◌∷◌, ◌++◌, Option, Some}
 use Rattle.std.proofs.Common.{refl, ap, sym, ◌∙◌, append-nil, bytes_eq}
 use Rattle.std.specs.Prelude.{if◌then◌else◌, find}
 use Rattle.std.specs.List.{flat_map}
@@ -24,9 +24,8 @@ first_with footnotes identifier =
 found-beside : (xs : List Footnote) (y : Footnote) (ys : List Footnote) (q : List ℕ) →
     bytes_eq y.identifier q ≡ false →
     first_with (xs ++ ys) q ≡ first_with (xs ++ y ∷ ys) q
-found-beside [] y ys q h = ap (λ b. if b then Some y else first_with ys q) (sym h)
-found-beside (x ∷ xs) y ys q h =
-    ap (λ o. if bytes_eq x.identifier q then Some x else o) (found-beside xs y ys q h)
+found-beside [] y ys q h = grind arith
+found-beside (x ∷ xs) y ys q h = grind (arith, found-beside xs y ys q h)
 
 -- the first with an identifier is the same one, before any others
 found-noted : (xs : List Footnote) (y : Footnote) (ys : List Footnote) (q : List ℕ) →

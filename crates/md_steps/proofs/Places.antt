@@ -1,5 +1,6 @@
 -- A call's number is its place among the calls so far: later ones don't change it.
-use Rattle.std.proofs.Common.{◌≡◌, ℕ, suc, Bool, true, false, not, ◌||◌, List, [], ◌∷◌, ◌++◌, refl}
+use Rattle.std.proofs.Common.{arith, ◌≡◌, ℕ, suc, Bool, true, false, not, ◌||◌, List, [], ◌∷◌, ◌++◌}
+use Rattle.std.proofs.Common.{refl}
 use Rattle.std.proofs.Common.{ap, sym, ◌∙◌, subst, bytes_eq, filter}
 use Rattle.std.specs.Prelude.{if◌then◌else◌}
 use Rattle.std.specs.List.{list_any}
@@ -33,12 +34,7 @@ distinct-append (x ∷ xs) ys =
 place-append : (xs more : List Identifier) (x : Identifier) → among xs x ≡ true →
     place_among (xs ++ more) x ≡ place_among xs x
 place-append [] more x h = lie h
-place-append (y ∷ xs) more x h = elim (bytes_eq y x) as (λ b. (b || among xs x) ≡ true →
-    (if b then 1 else suc (place_among (xs ++ more) x))
-    ≡ (if b then 1 else suc (place_among xs x))) [
-      | true ↦ λ e. refl
-      | false ↦ λ e. ap (λ n. suc n) (place-append xs more x e)
-    ] h
+place-append (y ∷ xs) more x h = grind (arith, place-append xs more x)
 
 same-self : (x : Identifier) → bytes_eq x x ≡ true
 same-self x = (bytes_eq-Decides x x).1 refl

@@ -1,7 +1,8 @@
 -- What is printed at a node's two ends is what the node means, and its surroundings change as those
 -- of the meaning. For most names both sides compute to the same, once the facts in the state are
 -- substituted.
-use Rattle.std.proofs.Common.{◌≡◌, ℕ, ◌==◌, Bool, true, false, not, ◌||◌, List, [], ◌∷◌, ◌++◌}
+use Rattle.std.proofs.Common.{arith, ◌≡◌, ℕ, ◌==◌, Bool, true, false, not, ◌||◌, List, [], ◌∷◌}
+use Rattle.std.proofs.Common.{◌++◌}
 use Rattle.std.proofs.Common.{Option, refl, ap, sym, ◌∙◌, append-nil, codes}
 use Rattle.std.specs.Prelude.{if◌then◌else◌, count_by, slice_get}
 use Rattle.std.specs.List.{list_any}
@@ -127,8 +128,7 @@ BothSides context at cells left ended inner name =
 tight_sides : (b : Bool) (inner start : List Piece) (piece : Piece) (pieces : List Piece) →
     (if b then inner else start ++ (inner ++ (piece ∷ pieces)))
     ≡ when (not b) start ++ joined inner (when (not b) (piece ∷ pieces))
-tight_sides true inner start piece pieces = refl
-tight_sides false inner start piece pieces = refl
+tight_sides b inner start piece pieces = grind arith
 
 both-sides : (context : Context) (at : At) (cells : ℕ) (left : State) (ended : Option Name)
     (inner : List Piece) (name : Name) → Leaves context name at cells left ended →
@@ -223,13 +223,11 @@ contained_is kind = elim kind [ container.Nothing ↦ false | _ ↦ true ]
 
 tight_is : (loose : Bool) →
     not loose ≡ is_tight (if loose then container.Another else container.TightList)
-tight_is true = refl
-tight_is false = refl
+tight_is loose = grind arith
 
 contained_list : (loose : Bool) →
     true ≡ contained_is (if loose then container.Another else container.TightList)
-contained_list true = refl
-contained_list false = refl
+contained_list loose = grind arith
 
 abbrev table_or : Name → List AlignKind → List AlignKind → List AlignKind
 table_or name own columns = if is GfmTable name then own else columns

@@ -1,5 +1,5 @@
 -- A content that nothing changes, and tests that it passes.
-use Rattle.std.proofs.Common.{◌≡◌, Bool, true, false, refl, ap, ◌∙◌}
+use Rattle.std.proofs.Common.{arith, ◌≡◌, Bool, true, false, refl, ap, ◌∙◌}
 use Rattle.std.specs.Prelude.{if◌then◌else◌}
 use Rattle.md_base.specs.declared.event.Name.{Name}
 use Rattle.md_base.proofs.Lies.{lie}
@@ -9,8 +9,7 @@ use Rattle.md_steps.specs.Content.{Content, BeforeLabel, AfterLabel, Childless, 
 use Rattle.md_steps.specs.Content.{content_after, content_after_node}
 
 pub one_or_other : {A : Type 0} (b : Bool) {x y z : A} → x ≡ z → y ≡ z → (if b then x else y) ≡ z
-one_or_other true h k = h
-one_or_other false h k = k
+one_or_other b h k = grind arith
 
 pub stays : (content : Content) (forest : Forest) → content_past content ≡ content →
     content_after content forest ≡ content
@@ -26,8 +25,7 @@ node-stays content name children h = one_or_other (is_transparent name) (stays c
 
 either : (p : Content → Bool) (b : Bool) (x y : Content) (v : Bool) → p x ≡ v → p y ≡ v →
     p (if b then x else y) ≡ v
-either p true x y v h k = h
-either p false x y v h k = k
+either p b x y v h k = grind arith
 
 -- a test that doesn't distinguish a content from what follows it
 pub after-same : (p : Content → Bool) → ((c : Content) → p (content_past c) ≡ p c) →
