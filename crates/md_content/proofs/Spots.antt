@@ -114,7 +114,7 @@ pub record Spot (standing : Standing) (name : Name) (children : Forest) (before 
       (content_after_node content name children) others ≡ true
 
 follows : (test holds : Bool) → implies test holds ≡ true → test ≡ true → holds ≡ true
-follows test holds h t = ap (λ b. implies b holds) (sym t) ∙ h
+follows test holds h t = grind arith
 
 spot_here :
     (standing : Standing) (name : Name) (children : Forest) (around : Role) (before : Option Symbol)

@@ -74,14 +74,7 @@ pub none-counted : (test : Name → Bool) (names : List Name) →
     (count_by test names == 0) ≡ not (list_any test names)
 none-counted test [] = refl
 none-counted test (name ∷ names) =
-    ap (λ n. n == 0) (sum_by-cons (λ n. cond (test n) 1 0) name names) ∙ elim (test name) as
-    (λ b. (cond b 1 0 + count_by test names == 0) ≡ not (b || list_any test names)) [
-      | true ↦ ne_eqb (1 + count_by test names) 0 (λ e. omega (arith, e))
-      | false ↦ ap (λ n. n == 0) (zero_plus (count_by test names)) ∙ none-counted test names
-    ]
-  where
-    zero_plus : (n : ℕ) → 0 + n ≡ n
-    zero_plus n = omega arith
+    grind (arith, sum_by-cons (λ n. cond (test n) 1 0) name names, none-counted test names)
 
 pub fence-sides : (at : At) (left : State) (inner : List Piece) →
     left.fences ≡ count_by is_fence at.before.spine →

@@ -59,8 +59,7 @@ abbrev ended_at : Name → At → Option Name → Option Name
 ended_at name at ended = if is_raw name then last_name at.children else ended
 
 chosen : {A : Type 0} (b : Bool) (x y : A) → (b ≡ true → y ≡ x) → (if b then x else y) ≡ y
-chosen true x y h = sym (h refl)
-chosen false x y h = refl
+chosen b x y h = grind arith
 
 informed-is : (context : Context) (name : Name) (at : At) (cells : ℕ) (left : State)
     (ended : Option Name) → Leaves context name at cells left ended →
@@ -101,11 +100,8 @@ ended_by name inner stop = if captures name || is_quiet name then stop
 ended-is : (c q o : Bool) (inner stop : List Piece) → (q ≡ true → inner ≡ []) →
     (if c || q then stop else (if o then inner ++ stop else joined inner stop))
     ≡ (if c then [] else inner) ++ stop
-ended-is true q o inner stop h = refl
-ended-is false true o inner stop h = ap (λ i. i ++ stop) (sym (h refl))
-ended-is false false true inner stop h = refl
-ended-is false false false inner [] h = sym (append-nil inner)
-ended-is false false false inner (piece ∷ pieces) h = refl
+ended-is c q o inner [] h = grind (arith, append-nil inner)
+ended-is c q o inner (piece ∷ pieces) h = grind arith
 
 -- what a node prints, from what its children print, in a state that has the facts that it needs
 abbrev Ends : Context → At → ℕ → State → Option Name → List Piece → Name → List Piece

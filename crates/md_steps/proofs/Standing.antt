@@ -49,8 +49,7 @@ abbrev pub implies : Bool → Bool → Bool
 implies test holds = if test then holds else true
 
 pub follows : (test holds : Bool) → implies test holds ≡ true → test ≡ true → holds ≡ true
-follows true holds h t = h
-follows false holds h t = lie t
+follows test holds h t = grind arith
 
 -- a fact computed for all names that pass a test, for one of them
 pub picked : {A : Type 0} (b : Bool) (x y : A) → (if b then x else y) ≡ y → b ≡ true → x ≡ y
