@@ -1,5 +1,5 @@
 -- Which definition the check says, and which the meaning looks up.
-use Rattle.std.proofs.Common.{◌≡◌, ℕ, suc, true, false, Option, Some, None, List, [], ◌∷◌}
+use Rattle.std.proofs.Common.{arith, ◌≡◌, ℕ, suc, true, false, Option, Some, None, List, [], ◌∷◌}
 use Rattle.std.proofs.Common.{refl, sym, ap, ◌∙◌, subst}
 use Rattle.std.specs.Prelude.{map, unwrap_or, option_map, find, bytes_eq, if◌then◌else◌}
 use Rattle.md_base.specs.declared.event.Name.{Name}
@@ -36,13 +36,7 @@ pub find-first : {A : Type 0} (of : A → List ℕ) (found : List A) (wanted : L
     find (λ one. bytes_eq (of one) wanted) found ≡ found_at found (first_of (map of found) wanted)
 find-first of [] wanted = refl
 find-first of (one ∷ found) wanted =
-    elim (bytes_eq (of one) wanted) as
-    (λ b. (if b then Some one else find (λ x. bytes_eq (of x) wanted) found)
-    ≡ found_at (one ∷ found)
-    (if b then Some 0 else option_map (λ place. suc place) (first_of (map of found) wanted))) [
-      | true ↦ refl
-      | false ↦ find-first of found wanted ∙ later (first_of (map of found) wanted)
-    ]
+    grind (arith, find-first of found wanted, later (first_of (map of found) wanted))
   where
     later : (o : Option ℕ) →
         found_at found o ≡ found_at (one ∷ found) (option_map (λ place. suc place) o)

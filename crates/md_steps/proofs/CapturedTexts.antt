@@ -38,7 +38,7 @@ pub texts : (context : Context) (c : Content) (name : Name) (opened : List ℕ)
     Texts context c name opened below pieces s
 texts context c name opened below pieces s allows laid kept = record {
   outer = λ h. outer (captures name) refl laid kept h;
-  inner = λ h. inner (captures name) (laid h);
+  inner = λ h. let said = laid h in grind arith;
   under = lower (captures name) kept;
 }
   where
@@ -50,11 +50,6 @@ texts context c name opened below pieces s allows laid kept = record {
     outer true e l k h = ap (λ u. first_or [] u) k
     outer false e l k h =
         l (allows.laid (and_from _ _ h (ap (λ t. not t) e)))
-
-    inner : (b : Bool) → s.text ≡ laid_after context.ending (if b then [] else opened) pieces →
-        (if b then s.text else []) ≡ (if b then layout context.ending pieces else [])
-    inner true l = l
-    inner false l = refl
 
     lower : (b : Bool) → s.below ≡ (if b then opened ∷ below else below) →
         (if b then others_of s.below else s.below) ≡ below

@@ -32,19 +32,12 @@ found-noted : (xs : List Footnote) (y : Footnote) (ys : List Footnote) (q : List
     first_with (noted xs y ++ ys) q ≡ first_with (xs ++ y ∷ ys) q
 found-noted [] y ys q = refl
 found-noted (x ∷ xs) y ys q =
-    elim (bytes_eq x.identifier q) as (λ b. bytes_eq x.identifier q ≡ b → (if b then Some x
-    else first_with ((if bytes_eq x.identifier y.identifier then xs else noted xs y) ++ ys) q)
-    ≡ (if b then Some x else first_with (xs ++ y ∷ ys) q)) [
-      | true ↦ λ e. refl
-      | false ↦ λ e.
-          elim (bytes_eq x.identifier y.identifier) as
-          (λ b. bytes_eq x.identifier y.identifier ≡ b →
-          first_with ((if b then xs else noted xs y) ++ ys) q ≡ first_with (xs ++ y ∷ ys) q) [
-            | true ↦ λ k.
-                found-beside xs y ys q
-                (ap (λ i. bytes_eq i q) (sym (same x.identifier y.identifier k)) ∙ e)
-            | false ↦ λ k. found-noted xs y ys q
-          ] refl
+    elim (bytes_eq x.identifier y.identifier) as (λ b. bytes_eq x.identifier y.identifier ≡ b →
+    first_with (x ∷ (if b then xs else noted xs y) ++ ys) q ≡ first_with (x ∷ xs ++ y ∷ ys) q) [
+      | true ↦ λ k.
+          let e = ap (λ i. bytes_eq i q) (same x.identifier y.identifier k) in
+          grind (arith, found-beside xs y ys q)
+      | false ↦ λ k. grind (arith, found-noted xs y ys q)
     ] refl
 
 pub found-all : (xs ys : List Footnote) (q : List ℕ) →

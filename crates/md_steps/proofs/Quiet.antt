@@ -89,8 +89,7 @@ past-callless c = past-as is_callless refl c
 
 no_more : {A : Type 0} (a b : List A) (t : Bool) (x : A) → a ≡ [] → t ≡ false → b ≡ [] →
     (a ++ when t (x ∷ [])) ++ b ≡ []
-no_more a b t x h k l =
-    ap (λ l. (l ++ when t (x ∷ [])) ++ b) h ∙ ap (λ u. when u (x ∷ []) ++ b) k ∙ l
+no_more a b t x h k l = rw (h, k, l) refl
 
 pub no-calls :
     (context : Context) (around : Surroundings) (before : Before) (c : Content) (forest : Forest) →
