@@ -44,27 +44,16 @@ filter-keeps : (p : Identifier → Bool) (xs : List Identifier) (x : Identifier)
     among (filter p xs) x ≡ true
 filter-keeps p [] x h k = lie h
 filter-keeps p (y ∷ xs) x h k =
-    elim (bytes_eq y x) as (λ b. bytes_eq y x ≡ b → (b || among xs x) ≡ true →
-    among (if p y then y ∷ filter p xs else filter p xs) x ≡ true) [
-      | true ↦ λ e g. subst (λ c. among (if c then y ∷ filter p xs else filter p xs) x ≡ true)
-          (sym (ap p ((bytes_eq-Decides y x).0 e) ∙ k)) (or_left _ _ e)
-      | false ↦
-          λ e g. elim (p y) as (λ c. among (if c then y ∷ filter p xs else filter p xs) x ≡ true) [
-            | true ↦ or_right _ _ (filter-keeps p xs x g k)
-            | false ↦ filter-keeps p xs x g k
-          ]
-    ] refl h
+    let passes : bytes_eq y x ≡ true → p y ≡ true =
+    λ e. ap p ((bytes_eq-Decides y x).0 e) ∙ k in
+    grind (arith, passes, filter-keeps p xs x)
 
 -- what is among some is among the distinct ones
 distinct-has : (xs : List Identifier) (x : Identifier) → among xs x ≡ true →
     among (distinct xs) x ≡ true
 distinct-has [] x h = lie h
 distinct-has (y ∷ xs) x h =
-    elim (bytes_eq y x) as (λ b. bytes_eq y x ≡ b → (b || among xs x) ≡ true →
-    (b || among (filter (is_other y) (distinct xs)) x) ≡ true) [
-      | true ↦ λ e g. refl
-      | false ↦ λ e g. filter-keeps (is_other y) (distinct xs) x (distinct-has xs x g) (other e)
-    ] refl h
+    grind (arith, distinct-has xs x, filter-keeps (is_other y) (distinct xs) x, other)
   where
     other : bytes_eq y x ≡ false → is_other y x ≡ true
     other e = elim (bytes_eq x y) as (λ b. bytes_eq x y ≡ b → not b ≡ true) [
