@@ -170,17 +170,12 @@ ends-meant : (context : Context) (at : At) (cells : ℕ) (left : State) (ended :
     Leaves context name at cells left ended →
     Meant context at inner name ≡ Ends context at cells left ended inner name
 ends-meant context at cells left ended inner name aside k =
-    by (is_fence name) refl (both-sides context at cells left ended inner name k)
-  where
-    by : (b : Bool) → is_fence name ≡ b →
-        (if is_set_aside name || b then Ends context at cells left ended inner name
-        else Meant context at inner name) ≡ Ends context at cells left ended inner name →
-        Meant context at inner name ≡ Ends context at cells left ended inner name
-    by true e h = picked (is_fence name) _ _ (fence-told context at cells left ended inner name).0 e
-        ∙ fence-sides at left inner (k.fences e)
-        ∙ sym (picked (is_fence name) _ _ (fence-told context at cells left ended inner name).1 e)
-    by false e h = ap (λ a. if a || false then Ends context at cells left ended inner name
-        else Meant context at inner name) (sym aside) ∙ h
+    let sides = both-sides context at cells left ended inner name k in
+    let told = fence-told context at cells left ended inner name in
+    let fences : is_fence name ≡ true → inner ++ when (is_first_fence at) (said (codes ">"))
+    ≡ inner ++ when (left.fences == 0) (said (codes ">")) =
+    λ e. fence-sides at left inner (k.fences e) in
+    grind (arith, told.0, told.1)
 
 -- the two ends of a node, in the surroundings that the meaning sees
 pub sides-seen :
