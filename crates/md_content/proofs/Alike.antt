@@ -1,5 +1,5 @@
 -- Which definition the check says, and which the meaning looks up.
-use Rattle.std.proofs.Common.{arith, ◌≡◌, ℕ, suc, true, false, Option, Some, None, List, [], ◌∷◌}
+use Rattle.std.proofs.Common.{arith, ◌≡◌, ℕ, suc, Option, Some, None, List, [], ◌∷◌}
 use Rattle.std.proofs.Common.{refl, sym, ap, ◌∙◌, subst}
 use Rattle.std.specs.Prelude.{map, unwrap_or, option_map, find, bytes_eq, if◌then◌else◌}
 use Rattle.md_base.specs.declared.event.Name.{Name}

@@ -107,27 +107,16 @@ text-sought : (around : Role) (before : Option Symbol) (nodes : List Stand) →
     sought nodes Missing ≡ label_target (text_seen nodes)
 text-sought around before [] stood h = refl
 text-sought around before (node ∷ nodes) stood h =
-    by (is_text node.seen) refl h (text-sought around (Some node.seen) nodes stood.1)
-    ∙ ap (λ b. label_target (if b then Some (position node.start node.end node.children)
-    else text_seen nodes)) (sym (text-named node stood.0))
-  where
-    by : (text : Bool) → is_text node.seen ≡ text →
-        (if text then list_all is_neutral (seen_of nodes)
-        else is_neutral node.seen && has_one_text (seen_of nodes)) ≡ true →
-        (has_one_text (seen_of nodes) ≡ true →
-        sought nodes Missing ≡ label_target (text_seen nodes)) →
-        sought (node ∷ nodes) Missing
-        ≡ label_target (if text then Some (position node.start node.end node.children)
-        else text_seen nodes)
-    by true e rest again =
-        let inner = target_of node.children Missing in
-        let there = place node.start node.end in
-        ap (λ b. sought nodes (if b then target_by node.seen Missing inner there else Label there))
-        (sym e) ∙ ap (sought nodes) (symbol-told node.seen Missing inner there).1
-        ∙ sought-neutral nodes (Label there) rest
-    by false e rest again =
-        let parts = and_parts _ _ rest in
-        left-neutral node nodes Missing parts.0 ∙ again parts.1
+    let there = place node.start node.end in
+    let told = symbol-told node.seen Missing (target_of node.children Missing) there in
+    grind (
+      arith,
+      text-named node stood.0,
+      told.0,
+      told.1,
+      sought-neutral nodes (Label there),
+      text-sought around (Some node.seen) nodes stood.1,
+    )
 
 neutral-no_text : (seen : Symbol) → (if is_neutral seen then is_text seen else false) ≡ false
 neutral-no_text symbol.Text = refl

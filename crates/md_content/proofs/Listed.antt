@@ -1,6 +1,6 @@
 -- The definitions and footnotes of the meaning are those of the document, in the order of their
 -- exits: the targets of references.
-use Rattle.std.proofs.Common.{arith, ◌≡◌, ℕ, Bool, true, false, List, [], ◌∷◌, ◌++◌, refl}
+use Rattle.std.proofs.Common.{arith, ◌≡◌, ℕ, Bool, List, [], ◌∷◌, ◌++◌, refl}
 use Rattle.std.proofs.Common.{append_assoc}
 use Rattle.std.specs.Prelude.{map, if◌then◌else◌, ◌&&◌}
 use Rattle.std.proofs.lemmas.List.{map-append}

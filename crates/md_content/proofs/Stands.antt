@@ -1,6 +1,6 @@
 -- The nodes on a spine as a list: facts about a spine are stated for this list, which is easier to
 -- iterate over than the tree.
-use Rattle.std.proofs.Common.{arith, ◌≡◌, ℕ, Bool, true, false, cond, Option, Some, None, List, []}
+use Rattle.std.proofs.Common.{arith, ◌≡◌, ℕ, Bool, false, cond, Option, Some, None, List, []}
 use Rattle.std.proofs.Common.{◌∷◌, ◌++◌}
 use Rattle.std.proofs.Common.{refl, sym, ap, ◌∙◌, subst}
 use Rattle.std.specs.Prelude.{map, if◌then◌else◌}

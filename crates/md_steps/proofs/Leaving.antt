@@ -20,7 +20,6 @@ use Rattle.md_steps.specs.Steps.{heading_after, calls_after, noted, footnotes_af
 use Rattle.md_steps.specs.Claim.{noted_all, seen}
 use Rattle.md_steps.proofs.Noted.{noted-append}
 use Rattle.md_steps.proofs.EachSide.{none-counted}
-use Rattle.md_steps.proofs.Standing.{picked}
 
 -- ---- the text of a heading
 pub heading-known : (name : Name) (at : At) (waits after : Bool) (inner text heading : List ℕ) →
@@ -76,9 +75,6 @@ fence-lets : (name : Name) (at : At) (slurps : Bool) →
 fence-lets LineEnding at slurps = refl
 fence-lets _ at slurps = refl
 
-or_falses : (a s : Bool) → a || s ≡ a || false || false || false || s && true
-or_falses a s = grind arith
-
 -- any other name by the surroundings alone
 abbrev slurping : At → Bool → Bool → Name → Bool → Bool
 slurping at defines code name slurps = if defines then slurps
@@ -106,22 +102,11 @@ pub slurps-known : (name : Name) (at : At) (left : State) (inner : Bool) → lef
     slurps_after name (record left { scope = seen at.around at.before.columns })
     ≡ (if at.around.in_definition then inner else lets_slurp at name inner)
 slurps-known name at left inner k fence =
-    by (is_fence name) refl
-    ∙ ap (λ s. if at.around.in_definition then s else lets_slurp at name s) k
-  where
-    by : (b : Bool) → is_fence name ≡ b →
-        slurps_after name (record left { scope = seen at.around at.before.columns })
-        ≡ (if at.around.in_definition then left.slurps else lets_slurp at name left.slurps)
-    by true e =
-        picked (is_fence name) _ _
-        (fence-slurps name (record left { scope = seen at.around at.before.columns })) e
-        ∙ ap (λ b. if at.around.in_definition then left.slurps else b || left.slurps)
-        (ap (λ n. n == 0) (fence e) ∙ none-counted is_fence at.before.spine)
-        ∙ ap (λ b. if at.around.in_definition then left.slurps else b)
-        (or_falses (is_first_fence at) left.slurps
-        ∙ sym (picked (is_fence name) _ _ (fence-lets name at left.slurps) e))
-    by false e =
-        ap (λ b. if b
-        then slurping at at.around.in_definition at.around.in_code name left.slurps
-        else slurps_after name (record left { scope = seen at.around at.before.columns })) (sym e)
-        ∙ slurps-so at.around.in_definition at.around.in_code left.slurps name at left
+    let counted : is_fence name ≡ true → (left.fences == 0) ≡ is_first_fence at =
+    λ e. ap (λ n. n == 0) (fence e) ∙ none-counted is_fence at.before.spine in
+    grind (
+      arith,
+      fence-lets name at inner,
+      fence-slurps name (record left { scope = seen at.around at.before.columns }),
+      slurps-so at.around.in_definition at.around.in_code left.slurps name at left,
+    )

@@ -31,7 +31,7 @@ use Rattle.md_steps.specs.State.{State, opens_scope, scope_inside, captures}
 use Rattle.md_steps.specs.Steps.{is_ending, is_raw, is_row, is_labelled}
 use Rattle.md_steps.specs.Sides.{opens, closes, list_opening}
 use Rattle.md_steps.specs.Claim.{seen, mark_after}
-use Rattle.md_steps.proofs.Standing.{is_quiet, is_set_aside, picked}
+use Rattle.md_steps.proofs.Standing.{is_quiet, is_set_aside}
 use Rattle.md_steps.proofs.EachSide.{facts_at, is_reference, Leaves, cell_sides}
 use Rattle.md_steps.proofs.EachSide.{list_sides, fence-sides, call-sides, led-sides}
 

@@ -1,5 +1,5 @@
 -- A content that nothing changes, and tests that it passes.
-use Rattle.std.proofs.Common.{arith, ◌≡◌, Bool, true, false, refl, ap, ◌∙◌}
+use Rattle.std.proofs.Common.{arith, ◌≡◌, Bool, refl, ap, ◌∙◌}
 use Rattle.std.specs.Prelude.{if◌then◌else◌}
 use Rattle.md_base.specs.declared.event.Name.{Name}
 use Rattle.md_base.proofs.Lies.{lie}
