@@ -1,10 +1,10 @@
 -- A node that matches the pattern of a role may occur in each node with that role: by computing
 -- over the patterns, once for each name. The proof that documents are built so depends on it.
 use denote.Enum.Bare.{sameb}
-use Rattle.std.proofs.Common.{◌≡◌, inl, inr, ℕ, zero, suc, Bool, true, false, ◌&&◌, ◌||◌, List, []}
+use Rattle.std.proofs.Common.{inl, inr, ◌≡◌, ℕ, zero, suc, Bool, true, false, ◌&&◌, List, []}
 use Rattle.std.proofs.Common.{◌∷◌, ◌++◌, length, replicate, refl, sym, subst, arith}
 use Rattle.std.specs.List.{list_all, list_any}
-use Rattle.std.proofs.lemmas.Bool.{and_parts, and_from}
+use Rattle.std.proofs.lemmas.Bool.{or_cases, and_parts, and_from}
 use denote.Enum.Bare.{same_true}
 use Rattle.md_base.proofs.Lies.{lie}
 use Rattle.md_pattern.specs.contracts.kinds.Symbol.{the_type}
@@ -18,10 +18,10 @@ use Rattle.md_pattern.specs.declared.kinds.Item.{Item}
 use Rattle.md_pattern.specs.declared.kinds.Item.TheVariants.{Once, Maybe, Many}
 use Rattle.md_pattern.specs.Pattern.{members, class_of, takes, pattern_of, Fits, IsCount}
 use Rattle.md_pattern.specs.Spine.{IsTail, IsGrouped, Matches}
-use Rattle.md_content.specs.Built.{Content, Blocks, Spans, Strings, FirstFence, FirstMathFence}
-use Rattle.md_content.specs.Built.{Chunks, InfoAndMeta, MetaAlone, Done, Nothing, Sources}
-use Rattle.md_content.proofs.Symbols.{may_show, past, admits, same_content, item_admits}
-use Rattle.md_content.proofs.Symbols.{pattern_admits}
+use Rattle.md_content.specs.Built.{Content, Blocks, Spans, Strings, FirstFence}
+use Rattle.md_content.specs.Built.{Chunks}
+use Rattle.md_content.proofs.Symbols.{may_show, past, admits, keeps, item_admits, pattern_admits}
+use Rattle.md_content.proofs.Tails.{each-tail}
 
 -- what may stand at the beginning may stand after others
 may_show-earlier : (content : Content) (symbol : Symbol) → may_show false content symbol ≡ true →
@@ -39,10 +39,8 @@ admits-earlier : (content : Content) (symbols : List Symbol) → admits false co
     admits true content symbols ≡ true
 admits-earlier content [] h = refl
 admits-earlier content (symbol ∷ symbols) h =
-    let parts =
-    and_parts (may_show false content symbol) (admits true (past content symbol) symbols) h in
-    and_from (may_show true content symbol) (admits true (past content symbol) symbols)
-    (may_show-earlier content symbol parts.0) parts.1
+    let parts = and_parts _ _ h in
+    and_from _ _ (may_show-earlier content symbol parts.0) parts.1
 
 admits-later : (earlier : Bool) (content : Content) (symbols : List Symbol) →
     admits earlier content symbols ≡ true →
@@ -50,19 +48,10 @@ admits-later : (earlier : Bool) (content : Content) (symbols : List Symbol) →
 admits-later true content symbols h = h
 admits-later false content symbols h = admits-earlier content symbols h
 
-same_content-is : (one other : Content) → same_content one other ≡ true → one ≡ other
-same_content-is Blocks Blocks h = refl
-same_content-is Spans Spans h = refl
-same_content-is Strings Strings h = refl
-same_content-is FirstFence FirstFence h = refl
-same_content-is FirstMathFence FirstMathFence h = refl
-same_content-is Chunks Chunks h = refl
-same_content-is InfoAndMeta InfoAndMeta h = refl
-same_content-is MetaAlone MetaAlone h = refl
-same_content-is Done Done h = refl
-same_content-is Nothing Nothing h = refl
-same_content-is Sources Sources h = refl
-same_content-is _ _ h = lie h
+past-kept : (content : Content) (symbol : Symbol) → keeps content ≡ true →
+    past content symbol ≡ content
+past-kept FirstFence symbol h = lie h
+past-kept _ symbol h = grind arith
 
 -- what holds of each member of a class holds of each symbol that it takes
 pub taken : (test : Symbol → Bool) (symbols : List Symbol) (symbol : Symbol) →
@@ -70,17 +59,12 @@ pub taken : (test : Symbol → Bool) (symbols : List Symbol) (symbol : Symbol) �
     list_all test symbols ≡ true → test symbol ≡ true
 taken test [] symbol seen h = lie seen
 taken test (member ∷ symbols) symbol seen h =
-    let parts = and_parts (test member) (list_all test symbols) h in
-    by (sameb the_type member symbol) refl seen parts.0
-    (λ later. taken test symbols symbol later parts.1)
-  where
-    by : (same : Bool) → sameb the_type member symbol ≡ same →
-        (same || list_any (λ m. sameb the_type m symbol) symbols) ≡ true → test member ≡ true →
-        (list_any (λ m. sameb the_type m symbol) symbols ≡ true → test symbol ≡ true) →
-        test symbol ≡ true
-    by true e seen here later =
-        subst (λ s. test s ≡ true) (same_true the_type tt member symbol e) here
-    by false e seen here later = later seen
+    let parts = and_parts _ _ h in
+    elim (or_cases _ _ seen) [
+      | inl same ↦
+          subst (λ s. test s ≡ true) (same_true the_type tt member symbol same) parts.0
+      | inr later ↦ taken test symbols symbol later parts.1
+    ]
 
 -- one symbol of an item, and the rest of the pattern after it
 abbrev pub one_admits : (Bool → Content → Bool) → Bool → Content → Symbol → Bool
@@ -100,31 +84,27 @@ one : (class : Class) (left : Bool → Content → Bool) (others own : List Symb
 one class left others [] rest count own_taken earlier content h = absurd (omega arith)
 one class left others (symbol ∷ []) rest count own_taken earlier content h =
     let here = taken (one_admits left earlier content) (members class) symbol
-    (and_parts (takes class symbol) true own_taken).0 h in
-    let parts =
-    and_parts (may_show earlier content symbol) (left true (past content symbol)) here in
-    and_from (may_show earlier content symbol) (admits true (past content symbol) others) parts.0
+    (and_parts _ _ own_taken).0 h in
+    let parts = and_parts _ _ here in
+    and_from _ _ parts.0
     (rest true (past content symbol) parts.1)
 one class left others (symbol ∷ another ∷ own) rest count own_taken earlier content h =
     absurd (omega arith)
 
 abbrev pub stays : Bool → Content → Symbol → Bool
-stays earlier content member =
-    may_show earlier content member && same_content (past content member) content
+stays earlier content member = may_show earlier content member && keeps content
 
 several : (class : Class) (others own : List Symbol) (earlier : Bool) (content : Content) →
     list_all (takes class) own ≡ true → list_all (stays earlier content) (members class) ≡ true →
     admits earlier content others ≡ true → admits earlier content (own ++ others) ≡ true
 several class others [] earlier content own_taken h rest = rest
 several class others (symbol ∷ own) earlier content own_taken h rest =
-    let own_parts = and_parts (takes class symbol) (list_all (takes class) own) own_taken in
+    let own_parts = and_parts _ _ own_taken in
     let here = taken (stays earlier content) (members class) symbol own_parts.0 h in
-    let parts =
-    and_parts (may_show earlier content symbol) (same_content (past content symbol) content) here in
-    and_from (may_show earlier content symbol)
-    (admits true (past content symbol) (own ++ others)) parts.0
+    let parts = and_parts _ _ here in
+    and_from _ _ parts.0
     (subst (λ c. admits true c (own ++ others) ≡ true)
-    (sym (same_content-is (past content symbol) content parts.1)) (admits-later earlier content
+    (sym (past-kept content symbol parts.1)) (admits-later earlier content
     (own ++ others) (several class others own earlier content own_parts.1 h rest)))
 
 item_fits : (item : Item) (left : Bool → Content → Bool) (others own : List Symbol) →
@@ -136,15 +116,12 @@ item_fits : (item : Item) (left : Bool → Content → Bool) (others own : List 
 item_fits (Once class) left others own rest count own_taken earlier content h =
     one class left others own rest count own_taken earlier content h
 item_fits (Maybe class) left others [] rest count own_taken earlier content h =
-    rest earlier content (and_parts (left earlier content)
-    (list_all (one_admits left earlier content) (members class)) h).0
+    rest earlier content (and_parts _ _ h).0
 item_fits (Maybe class) left others (symbol ∷ own) rest count own_taken earlier content h =
     one class left others (symbol ∷ own) rest (omega arith) own_taken earlier content
-    (and_parts (left earlier content)
-    (list_all (one_admits left earlier content) (members class)) h).1
+    (and_parts _ _ h).1
 item_fits (Many class) left others own rest count own_taken earlier content h =
-    let parts =
-    and_parts (left earlier content) (list_all (stays earlier content) (members class)) h in
+    let parts = and_parts _ _ h in
     several class others own earlier content own_taken parts.1 (rest earlier content parts.0)
 
 -- what fits a pattern may stand where the pattern may
@@ -164,40 +141,38 @@ endings_admit : (endings : ℕ) (others : List Symbol) → admits true Blocks ot
 endings_admit zero others h = h
 endings_admit (suc endings) others h = endings_admit endings others h
 
-tail_admits : (first : Symbol) (tail others : List Symbol) (content : Content) → IsTail first tail →
+heading_admits : (content : Content) (endings : ℕ) (others : List Symbol) →
+    may_show true content SetextText ≡ true → admits true (past content SetextText) others ≡ true →
+    admits true (past content SetextText)
+    ((replicate endings LineEnding ++ SetextUnderline ∷ []) ++ others) ≡ true
+heading_admits Blocks endings others may h = endings_admit endings others h
+heading_admits _ endings others may h = lie may
+
+marker_admits : (content : Content) (others : List Symbol) →
+    may_show true content ReferenceMarker ≡ true →
+    admits true (past content ReferenceMarker) others ≡ true →
+    (admits true (past content ReferenceMarker) (ReferenceValue ∷ others) ≡ true)
+    × (admits true (past content ReferenceMarker) (ReferenceNumeric ∷ ReferenceValue ∷ others)
+    ≡ true)
+    × (admits true (past content ReferenceMarker)
+    (ReferenceNumeric ∷ ReferenceHexadecimal ∷ ReferenceValue ∷ others) ≡ true)
+marker_admits Blocks others may h = (h, h, h)
+marker_admits Spans others may h = (h, h, h)
+marker_admits Strings others may h = (h, h, h)
+marker_admits _ others may h = lie may
+
+tail_admits : (others : List Symbol) (content : Content) (first : Symbol) (tail : List Symbol) →
+    IsTail first tail →
     may_show true content first ≡ true → admits true (past content first) others ≡ true →
     admits true (past content first) (tail ++ others) ≡ true
-tail_admits ReferenceMarker tail others content is may h = by content may h
-  where
-    with_tail : (content : Content) → (admits true content (ReferenceValue ∷ others) ≡ true) →
-        (admits true content (ReferenceNumeric ∷ ReferenceValue ∷ others) ≡ true) →
-        (admits true content (ReferenceNumeric ∷ ReferenceHexadecimal ∷ ReferenceValue ∷ others)
-        ≡ true) →
-        admits true content (tail ++ others) ≡ true
-    with_tail content a b c = elim is [
-      | inl e ↦ subst (λ t. admits true content (t ++ others) ≡ true) (sym e) a
-      | inr (inl e) ↦ subst (λ t. admits true content (t ++ others) ≡ true) (sym e) b
-      | inr (inr e) ↦ subst (λ t. admits true content (t ++ others) ≡ true) (sym e) c
-    ]
-
-    by : (content : Content) → may_show true content ReferenceMarker ≡ true →
-        admits true (past content ReferenceMarker) others ≡ true →
-        admits true (past content ReferenceMarker) (tail ++ others) ≡ true
-    by Blocks may h = with_tail Blocks h h h
-    by Spans may h = with_tail Spans h h h
-    by Strings may h = with_tail Strings h h h
-    by _ may h = lie may
-tail_admits SetextText tail others content is may h = by content may h
-  where
-    by : (content : Content) → may_show true content SetextText ≡ true →
-        admits true (past content SetextText) others ≡ true →
-        admits true (past content SetextText) (tail ++ others) ≡ true
-    by Blocks may h = subst (λ t. admits true Blocks (t ++ others) ≡ true) (sym is.1)
-        (endings_admit is.0 others h)
-    by _ may h = lie may
-tail_admits first tail others content is may h =
-    subst (λ t. admits true (past content first) (t ++ others)
-    ≡ true) (sym is) h
+tail_admits others content =
+    each-tail (λ first tail. may_show true content first ≡ true →
+    admits true (past content first) others ≡ true →
+    admits true (past content first) (tail ++ others) ≡ true)
+    (λ may h. (marker_admits content others may h).0)
+    (λ may h. (marker_admits content others may h).1)
+    (λ may h. (marker_admits content others may h).2)
+    (λ endings. heading_admits content endings others) (λ first lone may h. h)
 
 grouped : (firsts spine : List Symbol) (earlier : Bool) (content : Content) →
     IsGrouped firsts spine →
@@ -205,11 +180,10 @@ grouped : (firsts spine : List Symbol) (earlier : Bool) (content : Content) →
 grouped [] spine earlier content g h =
     subst (λ symbols. admits earlier content symbols ≡ true) (sym g) refl
 grouped (first ∷ firsts) spine earlier content g h =
-    let parts =
-    and_parts (may_show earlier content first) (admits true (past content first) firsts) h in
+    let parts = and_parts _ _ h in
     subst (λ symbols. admits earlier content symbols ≡ true) (sym g.2)
-    (and_from (may_show earlier content first) (admits true (past content first) (g.0 ++ g.1))
-    parts.0 (tail_admits first g.0 g.1 content g.3 (shown_earlier earlier content first parts.0)
+    (and_from _ _ parts.0 (tail_admits g.1 content first g.0 g.3
+    (shown_earlier earlier content first parts.0)
     (grouped firsts g.1 true (past content first) g.4 parts.1)))
 
 -- what matches the pattern of a role may stand where the pattern may

@@ -1,5 +1,5 @@
 -- Which definition the check says, and which the meaning looks up.
-use Rattle.std.proofs.Common.{◌≡◌, ℕ, suc, true, false, Option, Some, None, List, [], ◌∷◌}
+use Rattle.std.proofs.Common.{arith, ◌≡◌, ℕ, suc, Option, Some, None, List, [], ◌∷◌}
 use Rattle.std.proofs.Common.{refl, sym, ap, ◌∙◌, subst}
 use Rattle.std.specs.Prelude.{map, unwrap_or, option_map, find, bytes_eq, if◌then◌else◌}
 use Rattle.md_base.specs.declared.event.Name.{Name}
@@ -9,7 +9,6 @@ use Rattle.md_pattern.specs.declared.kinds.Symbol.{Symbol}
 use Rattle.md_pattern.specs.declared.kinds.Role.{Role}
 use Rattle.md_pattern.specs.declared.kinds.Role.TheVariants as role
 use Rattle.md_base.specs.Tree.{Forest, Empty, Node}
-use Rattle.md_tree.specs.declared.mention.Referral.{Referral}
 use Rattle.md_tree.specs.declared.mention.Referral.TheVariants.{Missing, Label}
 use Rattle.md_tree.specs.declared.mention.Mention.TheVariants.{Reference}
 use Rattle.md_tree.specs.Rules.{target_of, MeetRules}
@@ -23,7 +22,7 @@ use Rattle.md_meaning.specs.Meaning.At.{Defined, identifier_of}
 use Rattle.md_content.specs.References.{Everywhere, ResolvesAlike, defined_in, footnotes_defined_in}
 use Rattle.md_content.specs.References.{first_of}
 use Rattle.md_content.specs.References.{found_at}
-use Rattle.md_content.proofs.Identifiers.{definitions-known, footnotes-known, known}
+use Rattle.md_content.proofs.Identifiers.{identifiers-known, known}
 
 which_first : (identifiers : List (List ℕ)) (wanted : List ℕ) →
     which (map Some identifiers) (Some wanted) ≡ first_of identifiers wanted
@@ -37,13 +36,7 @@ pub find-first : {A : Type 0} (of : A → List ℕ) (found : List A) (wanted : L
     find (λ one. bytes_eq (of one) wanted) found ≡ found_at found (first_of (map of found) wanted)
 find-first of [] wanted = refl
 find-first of (one ∷ found) wanted =
-    elim (bytes_eq (of one) wanted) as
-    (λ b. (if b then Some one else find (λ x. bytes_eq (of x) wanted) found)
-    ≡ found_at (one ∷ found)
-    (if b then Some 0 else option_map (λ place. suc place) (first_of (map of found) wanted))) [
-      | true ↦ refl
-      | false ↦ find-first of found wanted ∙ later (first_of (map of found) wanted)
-    ]
+    grind (arith, find-first of found wanted, later (first_of (map of found) wanted))
   where
     later : (o : Option ℕ) →
         found_at found o ≡ found_at (one ∷ found) (option_map (λ place. suc place) o)
@@ -53,12 +46,7 @@ find-first of (one ∷ found) wanted =
 named : (bytes : List ℕ) (children : Forest) (label : Position) (text : List ℕ) →
     target_of children Missing ≡ Label label → label_identifier bytes label ≡ Some text →
     label_identifier bytes label ≡ Some (identifier_of bytes children)
-named bytes children label text is there =
-    there ∙ sym (ap (λ (target : Referral). Some (elim target [
-      | Label at ↦ known (label_identifier bytes at)
-      | _ ↦ []
-    ])) is
-    ∙ ap (λ o. Some (known o)) there)
+named bytes children label text is there = rw (is, identifier_of, there) refl
 
 looked_up : (found : List (Option (List ℕ))) (identifiers : List (List ℕ))
     (wanted : Option (List ℕ)) (text : List ℕ) →
@@ -66,8 +54,7 @@ looked_up : (found : List (Option (List ℕ))) (identifiers : List (List ℕ))
     map known found ≡ identifiers → wanted ≡ Some text →
     which found wanted ≡ first_of identifiers text
 looked_up found identifiers wanted text texts known_are is =
-    ap (λ w. which found w) is ∙ ap (λ xs. which xs (Some text)) (texts ∙ ap (map Some) known_are)
-    ∙ which_first identifiers text
+    rw (is, texts, known_are) (which_first identifiers text)
 
 each : (bytes : List ℕ) (names : List (List ℕ × List ℕ)) (document : Forest) →
     IsGrammatical bytes names document →
@@ -79,25 +66,20 @@ each bytes names document is (Node name start end children rest) around before m
   λ label leads.
       let mentions = mentions-there bytes names document _ _ (IsGrammatical.rules is) in
       let there = target-there bytes names children _ _ Missing meets.1 tt in
-      let has = has_label (target_of children Missing) label leads there in
+      let has = subst (HasIdentifier bytes) leads there in
       let text = named bytes children label has.0 leads has.1 in (
         looked_up (defined bytes (mentions_of document)) (defined_in bytes document)
             (label_identifier bytes label)
             (identifier_of bytes children) (defined-texts bytes (mentions_of document) mentions)
-            (definitions-known bytes document _ _ (IsGrammatical.shape is).0) text,
+            (identifiers-known bytes document _ _ (IsGrammatical.shape is).0).0 text,
         looked_up (footnoted bytes (mentions_of document)) (footnotes_defined_in bytes document)
             (label_identifier bytes label)
             (identifier_of bytes children) (footnoted-texts bytes (mentions_of document) mentions)
-            (footnotes-known bytes document _ _ (IsGrammatical.shape is).0) text,
+            (identifiers-known bytes document _ _ (IsGrammatical.shape is).0).1 text,
       ),
   each bytes names document is children _ _ meets.1,
   each bytes names document is rest _ _ meets.2,
 )
-  where
-    has_label : (target : Referral) (label : Position) → target ≡ Label label →
-        HasIdentifier bytes target →
-        HasIdentifier bytes (Label label)
-    has_label target label leads has = subst (λ t. HasIdentifier bytes t) leads has
 
 pub leads-alike : (bytes : List ℕ) (names : List (List ℕ × List ℕ)) (document : Forest) →
     IsGrammatical bytes names document → Everywhere (ResolvesAlike bytes document) document

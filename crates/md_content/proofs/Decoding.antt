@@ -1,5 +1,5 @@
 -- Each reference of a document of the grammar decodes, by the mark that stands before its value.
-use Rattle.std.proofs.Common.{◌≡◌, inl, inr, ℕ, zero, suc, Bool, true, false, ◌&&◌, Option, Some}
+use Rattle.std.proofs.Common.{◌≡◌, ℕ, zero, suc, Bool, true, false, ◌&&◌, Option, Some}
 use Rattle.std.proofs.Common.{None, List, [], ◌∷◌, ◌++◌, refl, sym, ap, ◌∙◌, subst, append_assoc}
 use Rattle.std.proofs.Common.{append-nil}
 use Rattle.std.specs.Prelude.{if◌then◌else◌, is_some, replicate, unwrap_or}
@@ -31,14 +31,15 @@ use Rattle.md_tree.specs.Grammar.{IsGrammatical}
 use Rattle.md_base.specs.NameTests.{is_transparent}
 use Rattle.md_base.specs.Children.{spine_names}
 use Rattle.md_tree.proofs.Spines.{spine-names}
-use Rattle.md_meaning.specs.Surroundings.{last_of, spine_inside, spine_after_node}
+use Rattle.md_meaning.specs.Surroundings.{last_of, spine_after_node}
 use Rattle.md_meaning.specs.Meaning.Spans.{marker}
 use Rattle.md_content.specs.References.{EverywhereAfter, Decodes}
-use Rattle.md_content.proofs.Symbols.{Behaves, behaves}
+use Rattle.md_content.proofs.SymbolNames.{symbol_in, is_through, transparent}
+use Rattle.md_content.proofs.Tails.{each-tail}
 use Rattle.md_content.proofs.FineNodes.{IsFine, AreFine, fine, shaped}
 use Rattle.md_content.proofs.RanksAndNumbers.{unless-holds}
 use Rattle.md_content.proofs.Letters.{letters, fits-all}
-use Rattle.md_content.proofs.LastNames.{symbol_in, symbol_of, last-got, last-symbols, solid-here}
+use Rattle.md_content.proofs.LastNames.{symbol_of, is_solid, last-got, last-symbols}
 use Rattle.md_content.proofs.LastNames.{solid-names}
 
 -- ---- values stand after marks
@@ -72,37 +73,28 @@ well-endings : (n : ℕ) (before : Option Symbol) (rest : List Symbol) →
 well-endings zero before rest later = later before
 well-endings (suc n) before rest later = well-endings n (Some symbol.LineEnding) rest later
 
-well-tail : (first : Symbol) (tail rest : List Symbol) → IsTail first tail →
-    ((b : Option Symbol) → are_well b rest ≡ true) → are_well (Some first) (tail ++ rest) ≡ true
-well-tail symbol.ReferenceMarker tail rest is later = elim is [
-  | inl e ↦ ap (λ t. are_well (Some symbol.ReferenceMarker) (t ++ rest)) e
-      ∙ later (Some symbol.ReferenceValue)
-  | inr more ↦ elim more [
-    | inl e ↦ ap (λ t. are_well (Some symbol.ReferenceMarker) (t ++ rest)) e
-        ∙ later (Some symbol.ReferenceValue)
-    | inr e ↦ ap (λ t. are_well (Some symbol.ReferenceMarker) (t ++ rest)) e
-        ∙ later (Some symbol.ReferenceValue)
-  ]
-]
-well-tail symbol.SetextText tail rest is later =
-    ap (λ t. are_well (Some symbol.SetextText) (t ++ rest)) is.1
-    ∙ ap (are_well (Some symbol.SetextText))
-    (append_assoc (replicate is.0 symbol.LineEnding) (symbol.SetextUnderline ∷ []) rest)
-    ∙ well-endings is.0 (Some symbol.SetextText) (symbol.SetextUnderline
-    ∷ rest) (λ b. later (Some symbol.SetextUnderline))
-well-tail first tail rest is later =
-    ap (λ t. are_well (Some first) (t ++ rest)) is ∙ later (Some first)
+well-tail : (rest : List Symbol) → ((b : Option Symbol) → are_well b rest ≡ true) →
+    (first : Symbol) (tail : List Symbol) → IsTail first tail →
+    are_well (Some first) (tail ++ rest) ≡ true
+well-tail rest later =
+    each-tail (λ first tail. are_well (Some first) (tail ++ rest) ≡ true)
+    (later (Some symbol.ReferenceValue)) (later (Some symbol.ReferenceValue))
+    (later (Some symbol.ReferenceValue))
+    (λ endings. ap (are_well (Some symbol.SetextText))
+    (append_assoc (replicate endings symbol.LineEnding) (symbol.SetextUnderline ∷ []) rest)
+    ∙ well-endings endings (Some symbol.SetextText) (symbol.SetextUnderline ∷ rest)
+    (λ b. later (Some symbol.SetextUnderline)))
+    (λ first lone. later (Some first))
 
 well-grouped : (firsts spine : List Symbol) → list_all is_no_value firsts ≡ true →
     IsGrouped firsts spine →
     (before : Option Symbol) → are_well before spine ≡ true
 well-grouped [] spine h is before = ap (are_well before) is
 well-grouped (first ∷ firsts) spine h is before =
-    let parts = and_parts (is_no_value first) (list_all is_no_value firsts) h in
+    let parts = and_parts _ _ h in
     ap (are_well before) is.2
-    ∙ and_from (stands_well before first) (are_well (Some first) (is.0 ++ is.1))
-    (well-first before first parts.0)
-    (well-tail first is.0 is.1 is.3 (well-grouped firsts is.1 parts.1 is.4))
+    ∙ and_from _ _ (well-first before first parts.0)
+    (well-tail is.1 (well-grouped firsts is.1 parts.1 is.4) first is.0 is.3)
 
 pattern-no_value : (around : Role) → letters is_no_value (pattern_of around) ≡ true
 pattern-no_value role.Flow = refl
@@ -118,40 +110,29 @@ well-split : (before : Option Symbol) (symbols others : List Symbol) →
     (are_well before symbols ≡ true) × (are_well (last_symbol before symbols) others ≡ true)
 well-split before [] others h = (refl, h)
 well-split before (seen ∷ symbols) others h =
-    let parts = and_parts (stands_well before seen) (are_well (Some seen) (symbols ++ others)) h in
+    let parts = and_parts _ _ h in
     let rest = well-split (Some seen) symbols others parts.1 in
-    (and_from (stands_well before seen) (are_well (Some seen) symbols) parts.0 rest.0, rest.1)
+    (and_from _ _ parts.0 rest.0, rest.1)
 
 -- ---- references
-mark-name : (n : Name) → is_mark (symbol_in (standing_of n)) ≡ true →
-    marker_after (symbol_in (standing_of n)) ≡ Some (marker n)
-mark-name name.CharacterReferenceMarker h = refl
-mark-name name.CharacterReferenceMarkerNumeric h = refl
-mark-name name.CharacterReferenceMarkerHexadecimal h = refl
-mark-name _ h = lie h
-
-decodable : (names : List (List ℕ × List ℕ)) (before : Option Symbol) (text : List ℕ) (m : ℕ) →
-    marker_after before ≡ Some m → is_decodable names before text ≡ true →
-    is_some (decoded names m text) ≡ true
-decodable names before text m e h =
-    ap (λ o. option_map_or (λ k. is_some (decoded names k text)) o true) (sym e) ∙ h
-
-after_name :
-    (names : List (List ℕ × List ℕ)) (before : Option Symbol) (text : List ℕ) (last : Option Name) →
-    is_mark before ≡ true → before ≡ symbol_of last → is_decodable names before text ≡ true →
-    is_some (decoded names (option_map_or marker last 38) text) ≡ true
-after_name names before text None h e d = lie (ap is_mark (sym e) ∙ h)
-after_name names before text (Some n) h e d =
-    decodable names before text (marker n)
-    (ap marker_after e ∙ mark-name n (ap is_mark (sym e) ∙ h)) d
+mark-name : (n : Name) → (if is_mark (symbol_in (standing_of n))
+    then marker_after (symbol_in (standing_of n)) else Some (marker n)) ≡ Some (marker n)
+mark-name name.Data = refl
+mark-name _ = refl
 
 value-decodes : (names : List (List ℕ × List ℕ)) (before : Option Symbol) (text : Option (List ℕ))
     (last : Option Name) → is_mark before ≡ true → before ≡ symbol_of last →
     broken_by text (λ t. unless (is_decodable names before t) rule.CharacterReference) ≡ None →
     is_some (decoded names (option_map_or marker last 38) (unwrap_or text [])) ≡ true
-value-decodes names before None last h e rules = cc
-value-decodes names before (Some text) last h e rules = after_name names before text last h e
-    (unless-holds (is_decodable names before text) rule.CharacterReference rules)
+value-decodes names before text None h e rules = lie (ap is_mark (sym e) ∙ h)
+value-decodes names before None (Some n) h e rules = cc
+value-decodes names before (Some text) (Some n) h e rules =
+    let symbol = symbol_in (standing_of n) in
+    let after : marker_after before ≡ Some (marker n) =
+    ap marker_after e ∙ sym (ap (λ b. if b then marker_after symbol else Some (marker n))
+    (ap is_mark (sym e) ∙ h)) ∙ mark-name n in
+    ap (λ o. option_map_or (λ k. is_some (decoded names k text)) o true) (sym after)
+    ∙ unless-holds (is_decodable names before text) rule.CharacterReference rules
 
 node-decodes : (bytes : List ℕ) (names : List (List ℕ × List ℕ)) (earlier : List Name) (n : Name)
     (start end : Point) (children : Forest) (around : Role) (before : Option Symbol) →
@@ -164,13 +145,13 @@ node-decodes bytes names earlier name.CharacterReferenceValue start end children
     subst (λ last. is_some (decoded names (option_map_or marker last 38)
     (unwrap_or (text_between bytes start end) [])) ≡ true) (last-got earlier)
     (value-decodes names before (text_between bytes start end) (last_of earlier)
-    (and_parts (is_mark before) true well).0 e here.1)
+    (and_parts _ _ well).0 e here.1)
 node-decodes bytes names earlier _ start end children around before here well e = tt
 
 -- what holds of children by themselves holds of them where they stand
 inner-decodes :
     (bytes : List ℕ) (names : List (List ℕ × List ℕ)) (earlier : List Name) (standing : Standing)
-    (n : Name) (children : Forest) (around : Role) (before : Option Symbol) → Behaves standing n →
+    (children : Forest) (around : Role) (before : Option Symbol) →
     IsStanding standing around before children →
     AreFine bytes names children (inner_role standing around before)
     (inner_before standing before) →
@@ -179,18 +160,16 @@ inner-decodes :
     ((a : Role) (b : Option Symbol) (s : List Name) → AreFine bytes names children a b →
     are_well b (spine children) ≡ true → b ≡ symbol_of (last_of s) →
     EverywhereAfter (Decodes bytes names) s children) →
-    EverywhereAfter (Decodes bytes names) (spine_inside n earlier) children
-inner-decodes bytes names earlier Through n children around before says is all well e again =
-    subst (λ t. EverywhereAfter (Decodes bytes names) (if t then earlier else []) children)
-    (sym says) (again around before earlier all well e)
-inner-decodes bytes names earlier Space n children around before says is all well e again =
-    subst (λ c. EverywhereAfter (Decodes bytes names) (spine_inside n earlier) c) (sym is) tt
-inner-decodes bytes names earlier (Solid seen usual reading) n children around before says
-    is all well e again =
-    subst (λ t. EverywhereAfter (Decodes bytes names) (if t then earlier else []) children)
-    (sym says.0) (again (role_for around before usual) None [] all
-    (well-spine (role_for around before usual) (spine children) is) refl)
-inner-decodes bytes names earlier Mdx n children around before says is all well e again = absurd is
+    EverywhereAfter (Decodes bytes names) (if is_through standing then earlier else []) children
+inner-decodes bytes names earlier Through children around before is all well e again =
+    again around before earlier all well e
+inner-decodes bytes names earlier Space children around before is all well e again =
+    subst (EverywhereAfter (Decodes bytes names) earlier) (sym is) tt
+inner-decodes bytes names earlier (Solid seen usual reading) children around before is all well e
+    again =
+    again (role_for around before usual) None [] all
+    (well-spine (role_for around before usual) (spine children) is) refl
+inner-decodes bytes names earlier Mdx children around before is all well e again = absurd is
 
 -- the last symbol after a node is that of the last name there
 after-node :
@@ -207,8 +186,8 @@ after-node n start end children around before earlier shaped_node e =
     ∙ ap symbols_of (append-nil own)
     in
     ap (last_symbol before) same
-    ∙ last-symbols own earlier before (solid-here (standing_of n) n children around before refl
-    (behaves n) shaped_node.0.1 (solid-names children _ _ shaped_node.1)) e
+    ∙ last-symbols own earlier before (subst (λ ns. list_all is_solid ns ≡ true) (append-nil own)
+    (solid-names (Node n start end children Empty) around before shaped_node)) e
 
 decodes : (bytes : List ℕ) (names : List (List ℕ × List ℕ)) (forest : Forest) (around : Role)
     (before : Option Symbol) (earlier : List Name) → AreFine bytes names forest around before →
@@ -219,9 +198,10 @@ decodes bytes names Empty around before earlier all well e = tt
 decodes bytes names (Node n start end children rest) around before earlier all well e =
     let parts = well-split before (shown (standing_of n) (spine children)) (spine rest) well in (
       node-decodes bytes names earlier n start end children around before all.0 parts.0 e,
-      inner-decodes bytes names earlier (standing_of n) n children around before (behaves n)
-          all.0.0.1 all.1 parts.0 e
-          (λ a b s f w i. decodes bytes names children a b s f w i),
+      subst (λ t. EverywhereAfter (Decodes bytes names) (if t then earlier else []) children)
+          (sym (transparent n)) (inner-decodes bytes names earlier (standing_of n) children around
+          before all.0.0.1 all.1 parts.0 e
+          (λ a b s f w i. decodes bytes names children a b s f w i)),
       decodes bytes names rest around (last_symbol before (shown (standing_of n) (spine children)))
           (spine_after_node n children earlier) all.2 parts.1
           (after-node n start end children around before earlier (

@@ -1,7 +1,8 @@
 -- A fact about all letters of a role's pattern holds for what matches it, and for the spine of each
 -- node with that role. So a test on symbols is computed over the patterns, and applies to every
 -- spine.
-use Rattle.std.proofs.Common.{◌≡◌, inl, inr, ℕ, zero, suc, Bool, true, List, [], ◌∷◌, ◌++◌}
+use Rattle.md_content.proofs.Tails.{each-tail}
+use Rattle.std.proofs.Common.{arith, ◌≡◌, ℕ, zero, suc, Bool, true, List, [], ◌∷◌, ◌++◌}
 use Rattle.std.proofs.Common.{refl, sym, subst, ◌∙◌}
 use Rattle.std.specs.Prelude.{replicate}
 use Rattle.std.specs.List.{list_all}
@@ -9,8 +10,8 @@ use Rattle.std.proofs.lemmas.Bool.{and_parts, and_from}
 use Rattle.std.proofs.lemmas.List.Folds.{list_all-append}
 use Rattle.md_pattern.specs.declared.kinds.Symbol.{Symbol}
 use Rattle.md_pattern.specs.declared.kinds.Symbol.TheVariants as symbol_variants
-use symbol_variants.{ReferenceMarker, ReferenceNumeric, ReferenceHexadecimal, ReferenceValue}
-use symbol_variants.{SetextText, SetextUnderline, LineEnding}
+use symbol_variants.{ReferenceNumeric, ReferenceHexadecimal, ReferenceValue}
+use symbol_variants.{SetextUnderline, LineEnding}
 use Rattle.md_pattern.specs.declared.kinds.Item.{Item}
 use Rattle.md_pattern.specs.declared.kinds.Class.{Class}
 use Rattle.md_pattern.specs.Pattern.{Fits, members, class_of, takes}
@@ -23,8 +24,8 @@ pub own-all : (test : Symbol → Bool) (class : Class) (own : List Symbol) →
     list_all test (members class) ≡ true → list_all test own ≡ true
 own-all test class [] took h = refl
 own-all test class (s ∷ own) took h =
-    let parts = and_parts (takes class s) (list_all (takes class) own) took in
-    and_from (test s) (list_all test own) (taken test (members class) s parts.0 h)
+    let parts = and_parts _ _ took in
+    and_from _ _ (taken test (members class) s parts.0 h)
     (own-all test class own parts.1 h)
 
 -- all letters of some items pass a test
@@ -37,9 +38,9 @@ pub fits-all : (test : Symbol → Bool) (items : List Item) (firsts : List Symbo
     letters test items ≡ true → list_all test firsts ≡ true
 fits-all test [] firsts fit h = subst (λ s. list_all test s ≡ true) (sym fit) refl
 fits-all test (item ∷ items) firsts fit h =
-    let parts = and_parts (list_all test (members (class_of item))) (letters test items) h in
+    let parts = and_parts _ _ h in
     subst (λ s. list_all test s ≡ true) (sym fit.2)
-    (list_all-append test fit.0 fit.1 ∙ and_from (list_all test fit.0) (list_all test fit.1)
+    (list_all-append test fit.0 fit.1 ∙ and_from _ _
     (own-all test (class_of item) fit.0 fit.3 parts.0) (fits-all test items fit.1 fit.5 parts.1))
 
 -- what a group has after its first symbol
@@ -47,47 +48,18 @@ abbrev pub followers : List Symbol
 followers =
     ReferenceNumeric ∷ ReferenceHexadecimal ∷ ReferenceValue ∷ LineEnding ∷ SetextUnderline ∷ []
 
-endings-all : (test : Symbol → Bool) (endings : ℕ) → test LineEnding ≡ true →
-    test SetextUnderline ≡ true →
+endings-all : (test : Symbol → Bool) (endings : ℕ) → list_all test followers ≡ true →
     list_all test (replicate endings LineEnding ++ SetextUnderline ∷ []) ≡ true
-endings-all test zero line under = and_from (test SetextUnderline) true under refl
-endings-all test (suc endings) line under = and_from (test LineEnding)
-    (list_all test (replicate endings LineEnding ++ SetextUnderline ∷ [])) line
-    (endings-all test endings line under)
+endings-all test zero h = grind arith
+endings-all test (suc endings) h = grind (arith, endings-all test endings h)
 
 -- and for its content
 pub tail-all : (test : Symbol → Bool) (first : Symbol) (tail : List Symbol) →
     list_all test followers ≡ true →
     IsTail first tail → list_all test tail ≡ true
-tail-all test ReferenceMarker tail h is =
-    let numeric = and_parts (test ReferenceNumeric)
-    (list_all test (ReferenceHexadecimal ∷ ReferenceValue ∷ LineEnding ∷ SetextUnderline ∷ [])) h in
-    let hexadecimal = and_parts (test ReferenceHexadecimal)
-    (list_all test (ReferenceValue ∷ LineEnding ∷ SetextUnderline ∷ [])) numeric.1 in
-    let value = and_parts (test ReferenceValue) (list_all test (LineEnding ∷ SetextUnderline ∷ []))
-    hexadecimal.1 in
-    let one = and_from (test ReferenceValue) true value.0 refl in
-    elim is [
-      | inl e ↦ subst (λ t. list_all test t ≡ true) (sym e) one
-      | inr (inl e) ↦ subst (λ t. list_all test t ≡ true) (sym e)
-          (and_from (test ReferenceNumeric) (list_all test (ReferenceValue ∷ [])) numeric.0 one)
-      | inr (inr e) ↦
-          subst (λ t. list_all test t ≡ true) (sym e) (and_from (test ReferenceNumeric)
-          (list_all test (ReferenceHexadecimal ∷ ReferenceValue ∷ [])) numeric.0
-          (and_from (test ReferenceHexadecimal)
-          (list_all test (ReferenceValue ∷ [])) hexadecimal.0 one))
-    ]
-tail-all test SetextText tail h is =
-    let numeric = and_parts (test ReferenceNumeric)
-    (list_all test (ReferenceHexadecimal ∷ ReferenceValue ∷ LineEnding ∷ SetextUnderline ∷ [])) h in
-    let hexadecimal = and_parts (test ReferenceHexadecimal)
-    (list_all test (ReferenceValue ∷ LineEnding ∷ SetextUnderline ∷ [])) numeric.1 in
-    let value = and_parts (test ReferenceValue) (list_all test (LineEnding ∷ SetextUnderline ∷ []))
-    hexadecimal.1 in
-    let line = and_parts (test LineEnding) (list_all test (SetextUnderline ∷ [])) value.1 in
-    subst (λ t. list_all test t ≡ true) (sym is.1) (endings-all test is.0 line.0
-    (and_parts (test SetextUnderline) true line.1).0)
-tail-all test first tail h is = subst (λ t. list_all test t ≡ true) (sym is) refl
+tail-all test first tail h is = each-tail (λ first tail. list_all test tail ≡ true) (grind arith)
+    (grind arith) (grind arith) (λ endings. endings-all test endings h) (λ first lone. refl)
+    first tail is
 
 -- what holds of all first symbols, and with them of what follows in their groups,
 -- holds of the spine
@@ -98,10 +70,10 @@ pub grouped-all : (test : Symbol → Bool) →
     list_all test spine ≡ true
 grouped-all test tails [] spine g h = subst (λ s. list_all test s ≡ true) (sym g) refl
 grouped-all test tails (first ∷ firsts) spine g h =
-    let parts = and_parts (test first) (list_all test firsts) h in
+    let parts = and_parts _ _ h in
     subst (λ s. list_all test s ≡ true) (sym g.2)
-    (and_from (test first) (list_all test (g.0 ++ g.1)) parts.0 (list_all-append test g.0 g.1
-    ∙ and_from (list_all test g.0) (list_all test g.1) (tails first g.0 parts.0 g.3)
+    (and_from _ _ parts.0 (list_all-append test g.0 g.1
+    ∙ and_from _ _ (tails first g.0 parts.0 g.3)
     (grouped-all test tails firsts g.1 g.4 parts.1)))
 
 -- and what holds for anything that may follow in a group

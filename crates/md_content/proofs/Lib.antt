@@ -1,17 +1,16 @@
 -- The lemmas on documents of the grammar, from patterns to spines to whole documents: the content
 -- of their nodes.
-pub mod SymbolTests
+pub mod SymbolNames
 pub mod Symbols
+pub mod Tails
 pub mod Admitted
 pub mod Spots
 pub mod Letters
 pub mod FineNodes
-pub mod Begins
-pub mod Firsts
-pub mod Stands
-pub mod LabelTexts
-pub mod LabelHolders
 pub mod LoneSymbols
+pub mod Stands
+pub mod Heads
+pub mod LabelTexts
 pub mod Referring
 pub mod Leading
 pub mod TextsThere

@@ -1,6 +1,6 @@
 -- The definitions and footnotes of the meaning are those of the document, in the order of their
 -- exits: the targets of references.
-use Rattle.std.proofs.Common.{◌≡◌, ℕ, Bool, true, false, List, [], ◌∷◌, ◌++◌, refl, ap, ◌∙◌}
+use Rattle.std.proofs.Common.{arith, ◌≡◌, ℕ, Bool, List, [], ◌∷◌, ◌++◌, refl}
 use Rattle.std.proofs.Common.{append_assoc}
 use Rattle.std.specs.Prelude.{map, if◌then◌else◌, ◌&&◌}
 use Rattle.std.proofs.lemmas.List.{map-append}
@@ -37,60 +37,46 @@ in_a_row : {A : Type 0} (of : A → List ℕ) (inner own later : List A) (xs ys 
     map of inner ≡ xs → map of own ≡ ys → map of later ≡ zs →
     map of ((inner ++ own) ++ later) ≡ xs ++ (ys ++ zs)
 in_a_row of inner own later xs ys zs a b c =
-    map-append of (inner ++ own) later
-    ∙ ap (λ is. is ++ map of later) (map-append of inner own)
-    ∙ append_assoc (map of inner) (map of own) (map of later)
-    ∙ ap (λ is. is ++ (map of own ++ map of later)) a
-    ∙ ap (λ is. xs ++ (is ++ map of later)) b
-    ∙ ap (λ is. xs ++ (ys ++ is)) c
+    rw (map-append of (inner ++ own) later, map-append of inner own, a, b, c)
+    (append_assoc xs ys zs)
 
 -- the one of a node, if it is one
 own-one : {A : Type 0} (of : A → List ℕ) (test : Bool) (own : A) →
     map of (if test then own ∷ [] else []) ≡ (if test then of own ∷ [] else [])
-own-one of true own = refl
-own-one of false own = refl
+own-one of test own = grind arith
+
+pub listed :
+    (context : Context) (around : Surroundings) (before : Before) (forest : Forest) →
+    (map (λ defined. defined.identifier) (outcome context around before forest).definitions
+    ≡ defined_in context.bytes forest)
+    × (map (λ footnote. footnote.identifier) (outcome context around before forest).footnotes
+    ≡ footnotes_defined_in context.bytes forest)
+listed context around before Empty = (refl, refl)
+listed context around before (Node name start end children rest) =
+    let nested : Surroundings = inside context.options (is_loose children) name around in
+    let within : Before = before_children name children before in
+    let inner : Outcome = outcome context nested within children in
+    let at : At =
+    node_at around before children start end (around.is_outermost && is_empty rest) inner in
+    let next : Before = before_next at name (node context at name inner) in
+    let later : Outcome = outcome context around next rest in
+    let identifier = identifier_of context.bytes children in
+    let own : Defined = record { identifier = identifier; target = target_in at.found } in
+    let note : Footnote =
+    record { identifier = identifier; text = layout context.ending inner.pieces } in
+    let in_it = listed context nested within children in
+    let after_it = listed context around next rest in (
+      in_a_row (λ (d : Defined). d.identifier) inner.definitions
+          (when (is Definition name) (own ∷ [])) later.definitions _ _ _ in_it.0
+          (own-one (λ (d : Defined). d.identifier) (is Definition name) own) after_it.0,
+      in_a_row (λ (f : Footnote). f.identifier) inner.footnotes
+          (when (is GfmFootnoteDefinition name) (note ∷ [])) later.footnotes _ _ _ in_it.1
+          (own-one (λ (f : Footnote). f.identifier) (is GfmFootnoteDefinition name) note)
+          after_it.1,
+    )
 
 pub definitions-listed :
     (context : Context) (around : Surroundings) (before : Before) (forest : Forest) →
     map (λ defined. defined.identifier) (outcome context around before forest).definitions
     ≡ defined_in context.bytes forest
-definitions-listed context around before Empty = refl
-definitions-listed context around before (Node name start end children rest) =
-    let of : Defined → List ℕ = λ defined. defined.identifier in
-    let nested : Surroundings = inside context.options (is_loose children) name around in
-    let within : Before = before_children name children before in
-    let inner : Outcome = outcome context nested within children in
-    let at : At =
-    node_at around before children start end (around.is_outermost && is_empty rest) inner in
-    let next : Before = before_next at name (node context at name inner) in
-    let identifier = identifier_of context.bytes children in
-    let own : Defined = record { identifier = identifier; target = target_in at.found } in
-    in_a_row of inner.definitions (when (is Definition name) (own ∷ []))
-    (outcome context around next rest).definitions (defined_in context.bytes children)
-    (when (is Definition name) (identifier ∷ [])) (defined_in context.bytes rest)
-    (definitions-listed context nested within children) (own-one of (is Definition name) own)
-    (definitions-listed context around next rest)
-
-pub footnotes-listed : (context : Context) (around : Surroundings) (before : Before)
-    (forest : Forest) →
-    map (λ footnote. footnote.identifier) (outcome context around before forest).footnotes
-    ≡ footnotes_defined_in context.bytes forest
-footnotes-listed context around before Empty = refl
-footnotes-listed context around before (Node name start end children rest) =
-    let of : Footnote → List ℕ = λ footnote. footnote.identifier in
-    let nested : Surroundings = inside context.options (is_loose children) name around in
-    let within : Before = before_children name children before in
-    let inner : Outcome = outcome context nested within children in
-    let at : At =
-    node_at around before children start end (around.is_outermost && is_empty rest) inner in
-    let next : Before = before_next at name (node context at name inner) in
-    let identifier = identifier_of context.bytes children in
-    let own : Footnote =
-    record { identifier = identifier; text = layout context.ending inner.pieces } in
-    in_a_row of inner.footnotes (when (is GfmFootnoteDefinition name) (own ∷ []))
-    (outcome context around next rest).footnotes (footnotes_defined_in context.bytes children)
-    (when (is GfmFootnoteDefinition name) (identifier ∷ []))
-    (footnotes_defined_in context.bytes rest)
-    (footnotes-listed context nested within children)
-    (own-one of (is GfmFootnoteDefinition name) own)
-    (footnotes-listed context around next rest)
+definitions-listed context around before forest = (listed context around before forest).0

@@ -1,60 +1,25 @@
--- The symbols of what nodes refer by, and what follows one that stands alone on a spine.
-use Rattle.std.proofs.Common.{◌≡◌, Bool, true, false, List, [], ◌∷◌, ◌++◌, refl, sym, ap, ◌∙◌}
+-- What follows a symbol that stands alone on a spine.
+use denote.Enum.Bare.{sameb, same_true}
+use Rattle.std.proofs.Common.{◌≡◌, Bool, true, false, ◌||◌, List, [], ◌∷◌, ◌++◌, refl, sym, ap, ◌∙◌}
 use Rattle.std.proofs.Common.{length, arith}
 use Rattle.std.specs.List.{list_all}
 use Rattle.std.proofs.lemmas.Bool.{and_parts}
 use Rattle.md_base.proofs.Lies.{lie}
-use Rattle.md_base.specs.declared.event.Name.TheVariants as name
+use Rattle.md_pattern.specs.contracts.kinds.Symbol.{the_type}
 use Rattle.md_pattern.specs.declared.kinds.Symbol.{Symbol}
 use Rattle.md_pattern.specs.declared.kinds.Symbol.TheVariants as symbol
 use Rattle.md_pattern.specs.declared.kinds.Class.TheVariants.{Only}
 use Rattle.md_pattern.specs.declared.kinds.Item.{Item}
 use Rattle.md_pattern.specs.Pattern.{takes, Fits}
-use Rattle.md_pattern.specs.Spine.{spine, IsTail, IsGrouped}
-use Rattle.md_base.specs.NameTests.{is_label, is_reference, is_definition_label, is_footnote_prefix}
-use Rattle.md_base.specs.NameTests.{is_footnote_label}
-use Rattle.md_content.proofs.Begins.{Agree}
-use Rattle.md_content.proofs.LabelTexts.{only-is}
+use Rattle.md_pattern.specs.Spine.{IsTail, IsGrouped}
+use Rattle.md_content.proofs.Tails.{is_lone}
 
-abbrev pub is_label_symbol : Symbol → Bool
-is_label_symbol symbol.Label = true
-is_label_symbol _ = false
+or_false : (b : Bool) → (b || false) ≡ true → b ≡ true
+or_false true h = refl
+or_false false h = h
 
-pub label-agree : Agree is_label_symbol is_label
-label-agree name.Label = refl
-label-agree _ = refl
-
-abbrev pub is_reference_symbol : Symbol → Bool
-is_reference_symbol symbol.ReferenceString = true
-is_reference_symbol _ = false
-
-pub reference-agree : Agree is_reference_symbol is_reference
-reference-agree name.ReferenceString = refl
-reference-agree _ = refl
-
-abbrev pub is_definition_symbol : Symbol → Bool
-is_definition_symbol symbol.DefinitionLabel = true
-is_definition_symbol _ = false
-
-pub definition-agree : Agree is_definition_symbol is_definition_label
-definition-agree name.DefinitionLabelString = refl
-definition-agree _ = refl
-
-abbrev pub is_prefix_symbol : Symbol → Bool
-is_prefix_symbol symbol.FootnotePrefix = true
-is_prefix_symbol _ = false
-
-pub prefix-agree : Agree is_prefix_symbol is_footnote_prefix
-prefix-agree name.GfmFootnoteDefinitionPrefix = refl
-prefix-agree _ = refl
-
-abbrev pub is_footnote_symbol : Symbol → Bool
-is_footnote_symbol symbol.FootnoteLabel = true
-is_footnote_symbol _ = false
-
-pub footnote-agree : Agree is_footnote_symbol is_footnote_label
-footnote-agree name.GfmFootnoteDefinitionLabelString = refl
-footnote-agree _ = refl
+pub only-is : (one seen : Symbol) → takes (Only one) seen ≡ true → one ≡ seen
+only-is one seen h = same_true the_type tt one seen (or_false (sameb the_type one seen) h)
 
 -- one symbol of an item that occurs once, and what follows it
 pub record Once (one : Symbol) (items : List Item) (firsts : List Symbol) : Type 0 where
@@ -68,15 +33,9 @@ pub once-is : (one : Symbol) (items : List Item) (own others firsts : List Symbo
     Once one items firsts
 once-is one items [] others firsts count own_taken e fit = absurd (omega arith)
 once-is one items (seen ∷ []) others firsts count own_taken e fit =
-    let is = only-is one seen (and_parts (takes (Only one) seen) true own_taken).0 in
+    let is = only-is one seen (and_parts _ _ own_taken).0 in
     record { others = others; are = e ∙ ap (λ s. s ∷ others) (sym is); fit = fit }
 once-is one items (seen ∷ another ∷ own) others firsts count own_taken e fit = absurd (omega arith)
-
--- a group of a symbol that begins none stands alone
-abbrev pub is_lone : Symbol → Bool
-is_lone symbol.ReferenceMarker = false
-is_lone symbol.SetextText = false
-is_lone _ = true
 
 lone-tail : (first : Symbol) (tail : List Symbol) → is_lone first ≡ true →
     IsTail first tail → tail ≡ []

@@ -1,215 +1,113 @@
--- What links, images and calls refer by is the same in the grammar and in the meaning.
-use Rattle.std.proofs.Common.{◌≡◌, ◌≤◌, ◌⊎◌, inl, inr, Bool, true, false, Option, None, List, []}
-use Rattle.std.proofs.Common.{◌∷◌, ◌++◌, refl, sym, ap, ◌∙◌, subst, length, arith}
-use Rattle.std.specs.Prelude.{if◌then◌else◌, unwrap_or, is_some}
+-- What links, images and calls refer by is the same in the grammar, which takes the last label on a
+-- spine, and in the meaning, which looks for one by name.
+use Rattle.std.proofs.Common.{◌≡◌, ◌≤◌, ◌⊎◌, inl, inr, true, Option, None, List, []}
+use Rattle.std.proofs.Common.{◌∷◌, ◌++◌, refl, sym, ap, ◌∙◌, subst, length, arith, append-nil}
+use Rattle.std.specs.Prelude.{if◌then◌else◌, unwrap_or, is_some, Some}
 use Rattle.std.specs.List.{list_all}
-use Rattle.std.proofs.lemmas.Bool.{and_parts}
 use Rattle.md_base.proofs.Lies.{lie}
-use Rattle.md_base.specs.declared.event.Point.{Point}
 use Rattle.md_base.specs.declared.event.Position.{Position}
 use Rattle.md_pattern.specs.declared.kinds.Symbol.{Symbol}
 use Rattle.md_pattern.specs.declared.kinds.Symbol.TheVariants as symbol
 use Rattle.md_pattern.specs.declared.kinds.Class.TheVariants.{Either}
-use Rattle.md_pattern.specs.declared.kinds.Item.TheVariants.{Maybe}
+use Rattle.md_pattern.specs.declared.kinds.Item.{Item}
 use Rattle.md_pattern.specs.declared.kinds.Role.{Role}
 use Rattle.md_pattern.specs.declared.kinds.Role.TheVariants as role
 use Rattle.md_tree.specs.declared.mention.Referral.TheVariants.{Missing, Resource}
 use Rattle.md_base.specs.Tree.{Forest}
-use Rattle.md_pattern.specs.Pattern.{members, takes}
+use Rattle.md_pattern.specs.Pattern.{takes}
 use Rattle.md_pattern.specs.Spine.{spine, IsGrouped, Matches}
-use Rattle.md_pattern.specs.Shape.{AreShaped, label_in}
-use Rattle.md_tree.specs.Rules.{target_of}
+use Rattle.md_pattern.specs.Shape.{IsShapedNode, AreShaped}
+use Rattle.md_tree.specs.Rules.{place, target_of}
 use Rattle.md_base.specs.NameTests.{is_label, is_reference}
 use Rattle.md_base.specs.Children.{first_on_spine}
 use Rattle.md_meaning.specs.Places.{position, text_in_label}
 use Rattle.md_content.specs.Labels.{label_in_node, referring_in}
 use Rattle.md_content.specs.References.{label_target}
-use Rattle.md_content.proofs.Admitted.{taken}
-use Rattle.md_content.proofs.Stands.{Stand, stands, seen_of, spine-stands, sought, target-stands}
-use Rattle.md_content.proofs.Stands.{first_seen, first-stands}
-use Rattle.md_content.proofs.LabelTexts.{label-leaves}
-use Rattle.md_content.proofs.LabelHolders.{Holds, IsHeld, EachHeld, held, begins, none_left}
-use Rattle.md_content.proofs.LoneSymbols.{follows, is_label_symbol, label-agree}
-use Rattle.md_content.proofs.LoneSymbols.{is_reference_symbol}
-use Rattle.md_content.proofs.LoneSymbols.{reference-agree, once-is}
-
--- what follows the label of a link or an image: nothing, a resource or a reference
-rest-of-media : (own others firsts spine : List Symbol) → length own ≤ 1 →
-    list_all (takes (Either symbol.Resource symbol.ReferenceString)) own ≡ true → others ≡ [] →
-    firsts ≡ own ++ others → IsGrouped firsts spine →
-    (spine ≡ []) ⊎ ((spine ≡ symbol.Resource ∷ []) ⊎ (spine ≡ symbol.ReferenceString ∷ []))
-rest-of-media [] others firsts spine count own_taken none e is =
-    inl (subst (λ f. IsGrouped f spine) (e ∙ none) is)
-rest-of-media (seen ∷ []) others firsts spine count own_taken none e is =
-    by seen (taken is_either (members (Either symbol.Resource symbol.ReferenceString)) seen
-    (and_parts (takes (Either symbol.Resource symbol.ReferenceString) seen) true own_taken).0 refl)
-    (subst (λ f. IsGrouped f spine) (e ∙ ap (λ s. seen ∷ s) none) is)
-  where
-    is_either : Symbol → Bool
-    is_either symbol.Resource = true
-    is_either symbol.ReferenceString = true
-    is_either _ = false
-
-    by : (one : Symbol) → is_either one ≡ true → IsGrouped (one ∷ []) spine →
-        (spine ≡ []) ⊎ ((spine ≡ symbol.Resource ∷ []) ⊎ (spine ≡ symbol.ReferenceString ∷ []))
-    by symbol.Resource h grouped =
-        let f = follows symbol.Resource [] spine refl grouped in
-        inr (inl (f.are ∙ ap (λ s. symbol.Resource ∷ s) f.grouped))
-    by symbol.ReferenceString h grouped =
-        let f = follows symbol.ReferenceString [] spine refl grouped in
-        inr (inr (f.are ∙ ap (λ s. symbol.ReferenceString ∷ s) f.grouped))
-    by _ h grouped = lie h
-rest-of-media (seen ∷ another ∷ own) others firsts spine count own_taken none e is =
-    absurd (omega arith)
-
--- the label of a link, an image or a call, and what follows it
-pub record Labelled (around : Role) (children : Forest) (others : List Symbol) : Type 0 where
-  pub start : Point
-  pub end : Point
-  pub inner : Forest
-  pub rest : List Stand
-  pub are : stands children
-      ≡ record { seen = symbol.Label; start = start; end = end; children = inner } ∷ rest
-  pub others_are : seen_of rest ≡ others
-  pub holds : Holds (label_in around) inner
-  pub text : target_of inner Missing ≡ label_target (text_in_label inner)
-
-pub labelled : (around : Role) (children : Forest) (others : List Symbol) →
-    AreShaped children around None →
-    spine children ≡ symbol.Label ∷ others → Labelled around children others
-labelled around children others shaped e =
-    let first = begins symbol.Label others (stands children) (sym (spine-stands children) ∙ e) in
-    let holds = (subst (EachHeld around) first.are (held children around None shaped)).0 in
-    let inner = IsHeld.label holds refl in
-    record {
-      start = first.start;
-      end = first.end;
-      inner = first.children;
-      rest = first.rest;
-      are = first.are;
-      others_are = first.others_are;
-      holds = inner;
-      text = label-leaves around first.children inner.0 inner.1;
-    }
+use Rattle.md_content.proofs.Stands.{Stand, stands, seen_of, target_by, sought, target-stands}
+use Rattle.md_content.proofs.Stands.{EachStood, first_seen, first-stands}
+use Rattle.md_content.proofs.Heads.{Head, head, head-found, named}
+use Rattle.md_content.proofs.LabelTexts.{head-leaves, label-leaves}
 
 -- the label's text is found by the meaning as well
-pub label-found : (around : Role) (children : Forest) (others : List Symbol) →
+pub label-found : {items : List Item} (around : Role) (children : Forest) →
     AreShaped children around None →
-    (node : Labelled around children others) → label_in_node children ≡ text_in_label node.inner
-label-found around children others shaped node =
-    ap (λ found. unwrap_or found None) (first-stands is_label_symbol is_label label-agree
-    (λ start end inner. text_in_label inner) children around None shaped
-    ∙ ap (first_seen is_label_symbol is_label label-agree (λ start end inner. text_in_label inner))
-    node.are)
-
-reference-found : (around : Role) (children : Forest) (others : List Symbol) →
-    AreShaped children around None →
-    (node : Labelled around children others) →
-    first_on_spine is_reference position children
-    ≡ first_seen is_reference_symbol is_reference reference-agree
-    position node.rest
-reference-found around children others shaped node =
-    first-stands is_reference_symbol is_reference reference-agree position children around None
-    shaped ∙ ap (first_seen is_reference_symbol is_reference reference-agree position) node.are
+    (first : Head IsShapedNode symbol.Label items around (stands children)) →
+    label_in_node children ≡ text_in_label first.inner
+label-found around children shaped first =
+    ap (λ found. unwrap_or found None) (head-found around children is_label
+    (λ start end inner. text_in_label inner) shaped (refl, refl, λ n. refl) refl first)
 
 -- a call refers by the text of its label
 pub call-refers : (children : Forest) → AreShaped children role.FootnoteCall None →
     Matches role.FootnoteCall (spine children) →
     target_of children Missing ≡ label_target (label_in_node children)
 call-refers children shaped match =
-    let fit = match.2 in
-    let one = once-is symbol.Label [] fit.0 fit.1 match.0 fit.4 fit.3 fit.2 fit.5 in
-    let f = follows symbol.Label one.others (spine children) refl
-    (subst (λ s. IsGrouped s (spine children)) one.are match.1) in
-    let alone : f.others ≡ [] = subst (λ s. IsGrouped s f.others) one.fit f.grouped in
-    let node =
-    labelled role.FootnoteCall children [] shaped (f.are ∙ ap (λ s. symbol.Label ∷ s) alone) in
-    target-stands children Missing
-    ∙ ap (λ nodes. sought nodes Missing) (node.are ∙ ap (λ nodes. record {
-      seen = symbol.Label;
-      start = node.start;
-      end = node.end;
-      children = node.inner;
-    } ∷ nodes) (none_left node.rest node.others_are))
-    ∙ node.text
-    ∙ ap label_target (sym (label-found role.FootnoteCall children [] shaped node))
+    let first = head IsShapedNode symbol.Label [] role.FootnoteCall children refl refl refl shaped
+    match in
+    head-leaves children first refl
+    ∙ label-leaves role.FootnoteCall first.inner first.inside first.here.1
+    ∙ ap label_target (sym (label-found role.FootnoteCall children shaped first))
 
-abbrev chosen : Forest → Option Position → Option Position
-chosen children found = if is_some found then found else label_in_node children
+-- what follows the label of a link or an image: nothing, a resource or a reference
+rest-of-media : (own spine : List Symbol) → length own ≤ 1 →
+    list_all (takes (Either symbol.Resource symbol.ReferenceString)) own ≡ true →
+    IsGrouped own spine →
+    (spine ≡ []) ⊎ ((spine ≡ symbol.Resource ∷ []) ⊎ (spine ≡ symbol.ReferenceString ∷ []))
+rest-of-media [] spine count own_taken is = inl is
+rest-of-media (symbol.Resource ∷ []) spine count own_taken is =
+    inr (inl (rw (is.3, is.4) at is.2))
+rest-of-media (symbol.ReferenceString ∷ []) spine count own_taken is =
+    inr (inr (rw (is.3, is.4) at is.2))
+rest-of-media (_ ∷ []) spine count own_taken is = lie own_taken
+rest-of-media (_ ∷ _ ∷ own) spine count own_taken is = absurd (omega arith)
 
-abbrev stand : Symbol → Point → Point → Forest → Stand
-stand seen start end children =
-    record { seen = seen; start = start; end = end; children = children }
+abbrev chosen : Option Position → Option Position → Option Position
+chosen label found = if is_some found then found else label
 
-by_label : (children : Forest) → AreShaped children role.Media None →
-    Labelled role.Media children [] →
-    target_of children Missing ≡ label_target (referring_in children)
-by_label children shaped node =
-    let none = none_left node.rest node.others_are in
-    target-stands children Missing
-    ∙ ap (λ nodes. sought nodes Missing)
-    (node.are ∙ ap (λ nodes. stand symbol.Label node.start node.end node.inner ∷ nodes) none)
-    ∙ node.text
-    ∙ ap label_target (sym (label-found role.Media children [] shaped node))
-    ∙ ap (λ found. label_target (chosen children found))
-    (sym (reference-found role.Media children [] shaped node
-    ∙ ap (first_seen is_reference_symbol is_reference reference-agree position) none))
-
-by_resource : (children : Forest) → Labelled role.Media children (symbol.Resource ∷ []) →
-    target_of children Missing ≡ Resource
-by_resource children node =
-    let next = begins symbol.Resource [] node.rest node.others_are in
-    target-stands children Missing
-    ∙ ap (λ nodes. sought nodes Missing)
-    (node.are ∙ ap (λ nodes. stand symbol.Label node.start node.end node.inner ∷ nodes)
-    (next.are ∙ ap (λ nodes. stand symbol.Resource next.start next.end next.children
-    ∷ nodes) (none_left next.rest next.others_are)))
-
-by_reference : (children : Forest) → AreShaped children role.Media None →
-    Labelled role.Media children (symbol.ReferenceString ∷ []) →
-    target_of children Missing ≡ label_target (referring_in children)
-by_reference children shaped node =
-    let next = begins symbol.ReferenceString [] node.rest node.others_are in
-    let rest =
-    next.are ∙ ap (λ nodes. stand symbol.ReferenceString next.start next.end next.children
-    ∷ nodes) (none_left next.rest next.others_are) in
-    target-stands children Missing
-    ∙ ap (λ nodes. sought nodes Missing)
-    (node.are ∙ ap (λ nodes. stand symbol.Label node.start node.end node.inner ∷ nodes) rest)
-    ∙ ap (λ found. label_target (chosen children found))
-    (sym (reference-found role.Media children (symbol.ReferenceString ∷ []) shaped node
-    ∙ ap (first_seen is_reference_symbol is_reference reference-agree position) rest))
-
--- a link or an image has a resource after its label, or refers by the same label
-pub media-spine : (children : Forest) → AreShaped children role.Media None →
-    Matches role.Media (spine children) →
-    (spine children ≡ symbol.Label ∷ symbol.Resource ∷ [])
-    ⊎ (target_of children Missing ≡ label_target (referring_in children))
-media-spine children shaped match =
-    let fit = match.2 in
-    let one = once-is symbol.Label (Maybe (Either symbol.Resource symbol.ReferenceString)
-    ∷ []) fit.0 fit.1 match.0 fit.4 fit.3 fit.2 fit.5 in
-    let f = follows symbol.Label one.others (spine children) refl
-    (subst (λ s. IsGrouped s (spine children)) one.are match.1) in
-    let rest = one.fit in
-    elim (rest-of-media rest.0 rest.1 one.others f.others rest.4 rest.3 rest.5 rest.2 f.grouped) [
-      | inl alone ↦ inr (by_label children shaped (labelled role.Media children [] shaped (f.are
-          ∙ ap (λ s. symbol.Label ∷ s) alone)))
-      | inr more ↦ elim more [
-        | inl resource ↦ inl (f.are ∙ ap (λ s. symbol.Label ∷ s) resource)
-        | inr reference ↦ inr (by_reference children shaped
-            (labelled role.Media children (symbol.ReferenceString ∷ []) shaped (f.are
-            ∙ ap (λ s. symbol.Label ∷ s) reference)))
-      ]
-    ]
+-- so the target is a resource, or the reference if there is one, else the label
+after-label : (rest : List Stand) (label : Option Position) →
+    EachStood IsShapedNode role.Media (Some symbol.Label) rest →
+    (seen_of rest ≡ []) ⊎ ((seen_of rest ≡ symbol.Resource ∷ [])
+    ⊎ (seen_of rest ≡ symbol.ReferenceString ∷ [])) →
+    (sought rest (label_target label) ≡ Resource) ⊎ (sought rest (label_target label)
+    ≡ label_target (chosen label (first_seen is_reference position rest)))
+after-label [] label stood which = inr refl
+after-label (node ∷ nodes) label stood (inl e) = absurd (cc e)
+after-label (node ∷ []) label stood (inr (inl e)) =
+    let is : node.seen ≡ symbol.Resource = cc in
+    inl (ap (λ seen. target_by seen (label_target label) (target_of node.children Missing)
+    (place node.start node.end)) is)
+after-label (node ∷ []) label stood (inr (inr e)) =
+    let is : node.seen ≡ symbol.ReferenceString = cc in
+    inr (ap (λ seen. target_by seen (label_target label) (target_of node.children Missing)
+    (place node.start node.end)) is ∙ ap (λ n. label_target (chosen label
+    (if is_reference n then Some (position node.start node.end node.children) else None)))
+    (sym (named IsShapedNode role.Media _ node symbol.ReferenceString stood.0 is refl)))
+after-label (node ∷ other ∷ nodes) label stood (inr (inl e)) = absurd (cc e)
+after-label (node ∷ other ∷ nodes) label stood (inr (inr e)) = absurd (cc e)
 
 -- a link or an image refers by its resource, else by the same label
 pub media-refers : (children : Forest) → AreShaped children role.Media None →
     Matches role.Media (spine children) →
     (target_of children Missing ≡ Resource)
     ⊎ (target_of children Missing ≡ label_target (referring_in children))
-media-refers children shaped match = elim (media-spine children shaped match) [
-  | inl are ↦
-      inl (by_resource children (labelled role.Media children (symbol.Resource ∷ []) shaped are))
-  | inr label ↦ inr label
-]
+media-refers children shaped match =
+    let first = head IsShapedNode symbol.Label _ role.Media children refl refl refl shaped match in
+    let fit = first.fit in
+    let label = text_in_label first.inner in
+    let leads : target_of children Missing ≡ sought first.rest (label_target label) =
+    target-stands children Missing ∙ ap (λ nodes. sought nodes Missing) first.are
+    ∙ ap (sought first.rest) (label-leaves role.Media first.inner first.inside first.here.1) in
+    let refers : referring_in children
+    ≡ chosen label (first_seen is_reference position first.rest) =
+    ap (λ l. chosen l (first_on_spine is_reference position children))
+    (label-found role.Media children shaped first)
+    ∙ ap (chosen label) (first-stands is_reference position (refl, refl, λ n. refl) children
+    role.Media None shaped ∙ ap (first_seen is_reference position) first.are) in
+    elim (after-label first.rest label first.stood
+    (rest-of-media fit.0 (seen_of first.rest) fit.4 fit.3
+    (subst (λ f. IsGrouped f (seen_of first.rest))
+    (fit.2 ∙ ap (λ s. fit.0 ++ s) fit.5 ∙ append-nil fit.0) first.grouped))) [
+      | inl resource ↦ inl (leads ∙ resource)
+      | inr alike ↦ inr (leads ∙ alike ∙ ap label_target (sym refers))
+    ]

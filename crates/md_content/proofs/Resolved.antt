@@ -30,22 +30,11 @@ use Rattle.md_base.specs.Is.{is}
 use Rattle.md_content.specs.Labels.{label_in_node, referring_in}
 use Rattle.md_content.specs.References.{Everywhere, label_target, RefersAlike, defined_in}
 use Rattle.md_content.specs.References.{footnotes_defined_in, RefersSomewhere}
-use Rattle.md_content.proofs.FineNodes.{IsFine, fine, shaped}
+use Rattle.md_content.proofs.FineNodes.{IsFine, AreFine, fine, shaped}
 use Rattle.md_content.proofs.Referring.{media-refers, call-refers}
 use Rattle.md_content.proofs.Leading.{call-label, definition-label, footnote-label}
 use Rattle.md_content.proofs.TextsThere.{everywhere}
-use Rattle.md_content.proofs.Identifiers.{known, named, definitions-known, footnotes-known}
-
-both : (holds others more : Name → Point → Point → Forest → Type 0) →
-    ((name : Name) (start end : Point) (children : Forest) → holds name start end children →
-    others name start end children → more name start end children) →
-    (forest : Forest) → Everywhere holds forest → Everywhere others forest → Everywhere more forest
-both holds others more join Empty a b = tt
-both holds others more join (Node name start end children rest) a b = (
-  join name start end children a.0 b.0,
-  both holds others more join children a.1 b.1,
-  both holds others more join rest a.2 b.2,
-)
+use Rattle.md_content.proofs.Identifiers.{known, named, identifiers-known}
 
 -- ---- what is referred by
 shaped-node : (name : Name) (start end : Point) (children : Forest) (around : Role)
@@ -64,20 +53,13 @@ shaped-node GfmFootnoteDefinition start end children around before is inner =
     let found = footnote-label children inner is.1 in found.2 ∙ ap label_target (sym found.1)
 shaped-node _ start end children around before is inner = tt
 
-refer-alike : (forest : Forest) (around : Role) (before : Option Symbol) →
-    AreShaped forest around before →
-    Everywhere RefersAlike forest
-refer-alike Empty around before shaped = tt
-refer-alike (Node name start end children rest) around before shaped = (
-  shaped-node name start end children around before shaped.0 shaped.1,
-  refer-alike children _ _ shaped.1,
-  refer-alike rest _ _ shaped.2,
-)
-
 pub labels-alike : (bytes : List ℕ) (names : List (List ℕ × List ℕ)) (document : Forest) →
     IsGrammatical bytes names document → Everywhere RefersAlike document
 labels-alike bytes names document grammatical =
-    refer-alike document role.Flow None grammatical.shape.0
+    everywhere bytes names RefersAlike
+    (λ around before name start end children here inner. shaped-node name start end children around
+    before here.0 (shaped bytes names children _ _ inner)) document role.Flow None
+    (fine bytes names document role.Flow None grammatical.shape.0 grammatical.rules)
 
 -- ---- each reference finds its definition
 all-left : {A : Type 0} (P : A → Type 0) (xs ys : List A) → All P (xs ++ ys) → All P xs
@@ -88,22 +70,6 @@ all-left P (x ∷ xs) ys a =
 all-right : {A : Type 0} (P : A → Type 0) (xs ys : List A) → All P (xs ++ ys) → All P ys
 all-right P [] ys a = a
 all-right P (x ∷ xs) ys a = all-right P xs ys (All-tail P x (xs ++ ys) a)
-
--- what holds of all that a document mentions holds of what each node mentions
-mention-everywhere : (P : Mention → Type 0) (forest : Forest) → All P (mentions_of forest) →
-    Everywhere (λ name start end children. P (mention_of (reading_of (standing_of name))
-    (target_of children Missing))) forest
-mention-everywhere P Empty all = tt
-mention-everywhere P (Node name start end children rest) all =
-    let own = mention_of (reading_of (standing_of name)) (target_of children Missing) in
-    let inner = mentions_of children in
-    let later = mentions_of rest in
-    let split = All-tail P mention.Nothing _ all in
-    let after = all-right P inner (own ∷ later) split in (
-      All-head P own later after,
-      mention-everywhere P children (all-left P inner (own ∷ later) split),
-      mention-everywhere P rest (All-tail P own later after),
-    )
 
 contains-map : {A B : Type 0} (f : A → B) (xs : List A) (x : A) → Contains xs x →
     Contains (map f xs) (f x)
@@ -133,10 +99,8 @@ media-leads :
 media-leads bytes mentions identifiers target referring e rules resolved (inl resource) =
     inl resource
 media-leads bytes mentions identifiers target None e rules resolved (inr alike) =
-    absurd (missing (ap broken_by_target (sym alike) ∙ rules))
-  where
-    missing : Some rule.Target ≡ None → ⊥
-    missing h = cc
+    let lost : Some rule.Target ≡ None = ap broken_by_target (sym alike) ∙ rules in
+    absurd (cc lost)
 media-leads bytes mentions identifiers target (Some there) e rules resolved (inr alike) =
     inr (contains-known bytes (defined bytes mentions) identifiers target there e alike
     (subst (λ t. IsResolved bytes mentions (mention_of reading.Media t)) alike resolved))
@@ -180,31 +144,37 @@ node-leads bytes names mentions document d f around before GfmFootnoteCall start
 node-leads bytes names mentions document d f around before _ start end children
     here inner resolved = tt
 
-abbrev Refers : List ℕ → List Mention → Forest → Name → Point → Point → Forest → Type 0
-Refers bytes mentions document name start end children =
-    IsResolved bytes mentions
-    (mention_of (reading_of (standing_of name)) (target_of children Missing)) →
-    RefersSomewhere bytes document name start end children
+lead : (bytes : List ℕ) (names : List (List ℕ × List ℕ)) (mentions : List Mention)
+    (document : Forest) →
+    map known (defined bytes mentions) ≡ defined_in bytes document →
+    map known (footnoted bytes mentions) ≡ footnotes_defined_in bytes document →
+    (forest : Forest) (around : Role) (before : Option Symbol) →
+    AreFine bytes names forest around before →
+    All (IsResolved bytes mentions) (mentions_of forest) →
+    Everywhere (RefersSomewhere bytes document) forest
+lead bytes names mentions document d f Empty around before all resolved = tt
+lead bytes names mentions document d f (Node name start end children rest) around before
+    all resolved =
+    let P = IsResolved bytes mentions in
+    let own = mention_of (reading_of (standing_of name)) (target_of children Missing) in
+    let inner = mentions_of children in
+    let split = All-tail P mention.Nothing _ resolved in
+    let after = all-right P inner (own ∷ mentions_of rest) split in (
+      node-leads bytes names mentions document d f around before name start end children all.0
+          (shaped bytes names children _ _ all.1) (All-head P own (mentions_of rest) after),
+      lead bytes names mentions document d f children _ _ all.1
+          (all-left P inner (own ∷ mentions_of rest) split),
+      lead bytes names mentions document d f rest _ _ all.2
+          (All-tail P own (mentions_of rest) after),
+    )
 
 pub leads-somewhere : (bytes : List ℕ) (names : List (List ℕ × List ℕ)) (document : Forest) →
     IsGrammatical bytes names document → Everywhere (RefersSomewhere bytes document) document
 leads-somewhere bytes names document grammatical =
-    let mentions = mentions_of document in
-    let d = definitions-known bytes document role.Flow None grammatical.shape.0 in
-    let f = footnotes-known bytes document role.Flow None grammatical.shape.0 in
-    both (λ name start end children. IsResolved bytes mentions
-    (mention_of (reading_of (standing_of name)) (target_of children Missing)))
-    (Refers bytes mentions document)
-    (RefersSomewhere bytes document)
-    (λ name start end children resolved leads. leads resolved)
-    document
-    (mention-everywhere (IsResolved bytes mentions) document grammatical.resolved)
-    (everywhere bytes names (Refers bytes mentions document)
-    (λ around before name start end children here inner. node-leads bytes names mentions
-    document d f around before
-    name start end children here (shaped bytes names children _ _ inner))
-    document role.Flow None
-    (fine bytes names document role.Flow None grammatical.shape.0 grammatical.rules))
+    let lists = identifiers-known bytes document role.Flow None grammatical.shape.0 in
+    lead bytes names (mentions_of document) document lists.0 lists.1 document role.Flow None
+    (fine bytes names document role.Flow None grammatical.shape.0 grammatical.rules)
+    grammatical.resolved
 
 -- ---- a link or an image has a target
 abbrev pub HasTarget : Name → Point → Point → Forest → Type 0

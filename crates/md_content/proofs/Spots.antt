@@ -1,7 +1,8 @@
 -- A node, its content and what follows it: what is allowed there, from the spine that it belongs
 -- to.
-use Rattle.std.proofs.Common.{◌≡◌, Bool, true, false, ◌&&◌, ◌||◌, cond, Option, Some, None, is_some}
-use Rattle.std.proofs.Common.{List, [], ◌∷◌, ◌++◌, refl, sym, ap, ◌∙◌, subst}
+use Rattle.std.proofs.Common.{arith, ◌≡◌, Bool, true, false, ◌&&◌, ◌||◌, cond, Option, Some, None}
+use Rattle.std.proofs.Common.{is_some}
+use Rattle.std.proofs.Common.{List, [], ◌∷◌, ◌++◌, refl, ap, ◌∙◌}
 use Rattle.std.specs.List.{list_all}
 use Rattle.std.proofs.lemmas.Bool.{and_parts}
 use Rattle.md_base.specs.declared.event.Name.{Name}
@@ -19,9 +20,9 @@ use Rattle.md_pattern.specs.Shape.{inner_before, last_symbol}
 use Rattle.md_base.specs.NameTests.{is_transparent}
 use Rattle.md_content.specs.Built.{Content, may_stand, content_of, content_inside, content_past}
 use Rattle.md_content.specs.Built.{content_after, content_after_node}
-use Rattle.md_content.proofs.Symbols.{may_by, past_by, may_by-names, past_by-names, may_show, past}
-use Rattle.md_content.proofs.Symbols.{admits, pattern_admits, each_content, roles_for, implies}
-use Rattle.md_content.proofs.Symbols.{holds_patterns, Behaves, behaves}
+use Rattle.md_content.proofs.SymbolNames.{is_through, name_for}
+use Rattle.md_content.proofs.Symbols.{may_show, past, admits, pattern_admits, roles_for, implies}
+use Rattle.md_content.proofs.Symbols.{Behaves, behaves}
 use Rattle.md_content.proofs.Admitted.{shown_earlier, matches_admitted}
 
 -- what may stand after some symbols
@@ -40,8 +41,7 @@ admits-split : (before : Option Symbol) (content : Content) (symbols others : Li
     × (admits (is_some (last_symbol before symbols)) (run content symbols) others ≡ true)
 admits-split before content [] others h = (refl, h)
 admits-split before content (symbol ∷ symbols) others h =
-    let parts = and_parts (may_show (is_some before) content symbol)
-    (admits true (past content symbol) (symbols ++ others)) h in
+    let parts = and_parts _ _ h in
     let rest = admits-split (Some symbol) (past content symbol) symbols others parts.1 in
     (ap (λ t. t && admits true (past content symbol) symbols) parts.0 ∙ rest.0, rest.1)
 
@@ -50,27 +50,31 @@ node_after :
     (content : Content) → Behaves standing name → IsStanding standing around before children →
     content_after content children ≡ run content (spine children) →
     content_after_node content name children ≡ run content (shown standing (spine children))
-node_after Through name children around before content says stands again =
-    ap (λ t. cond t (content_after content children) (content_past content name)) says ∙ again
-node_after Space name children around before content says stands again =
-    ap (λ t. cond t (content_after content children) (content_past content name)) says
-    ∙ ap (λ c. content_after content c) stands
-node_after (Solid symbol usual reading) name children around before content says stands again =
-    ap (λ t. cond t (content_after content children) (content_past content name)) says.0
-    ∙ (sym (past_by-names content name) ∙ ap (past_by content) says.1)
-node_after Mdx name children around before content says stands again = absurd stands
+node_after standing name children around before content says stands again =
+    ap (λ t. cond t (content_after content children) (content_past content name)) says.through
+    ∙ by standing (says.past content) stands
+  where
+    by : (standing : Standing) →
+        content_past content name ≡ content_past content (name_for standing name) →
+        IsStanding standing around before children →
+        cond (is_through standing) (content_after content children) (content_past content name)
+        ≡ run content (shown standing (spine children))
+    by Through past stands = again
+    by Space past stands = ap (content_after content) stands
+    by (Solid symbol usual reading) past stands = past
+    by Mdx past stands = absurd stands
 
 -- what may stand after nodes is what may stand after their spine
 pub after_spine : (forest : Forest) (around : Role) (before : Option Symbol) (content : Content) →
     AreShaped forest around before → content_after content forest ≡ run content (spine forest)
 after_spine Empty around before content shaped = refl
 after_spine (Node name start end children rest) around before content shaped =
-    let again = after_spine children _ _ content shaped.1 in
-    let here = node_after (standing_of name) name children around before content
-    (behaves name) shaped.0.1 again in
-    after_spine rest _ _ (content_after_node content name children) shaped.2
-    ∙ (ap (λ c. run c (spine rest)) here
-    ∙ sym (run-append content (shown (standing_of name) (spine children)) (spine rest)))
+    rw (
+      node_after (standing_of name) name children around before content (behaves name) shaped.0.1
+          (after_spine children _ _ content shaped.1),
+      after_spine rest _ _ _ shaped.2,
+      run-append,
+    ) refl
 
 -- what holds of all roles that a name may have holds of its role
 pub role_listed : (test : Role → Bool) (around : Role) (before : Option Symbol) (usual : Role) →
@@ -79,31 +83,26 @@ pub role_listed : (test : Role → Bool) (around : Role) (before : Option Symbol
 role_listed test around before role.Item h = by around before
   where
     by : (around : Role) (before : Option Symbol) → test (item_in around before) ≡ true
-    by role.OrderedList None = (and_parts (test role.FirstOrderedItem) true
-        (and_parts (test role.OrderedItem) _ (and_parts (test role.Item) _ h).1).1).0
-    by role.OrderedList (Some _) =
-        (and_parts (test role.OrderedItem) _ (and_parts (test role.Item) _ h).1).0
-    by _ before = (and_parts (test role.Item) _ h).0
+    by role.OrderedList None = grind (arith, h)
+    by role.OrderedList (Some _) = grind (arith, h)
+    by _ before = grind (arith, h)
 role_listed test around before role.Prefix h = by around
   where
     by : (around : Role) → test (prefix_in around) ≡ true
-    by role.FirstOrderedItem = (and_parts (test role.FirstOrderedPrefix) true
-        (and_parts (test role.OrderedPrefix) _ (and_parts (test role.Prefix) _ h).1).1).0
-    by role.OrderedItem =
-        (and_parts (test role.OrderedPrefix) _ (and_parts (test role.Prefix) _ h).1).0
-    by _ = (and_parts (test role.Prefix) _ h).0
+    by role.FirstOrderedItem = grind (arith, h)
+    by role.OrderedItem = grind (arith, h)
+    by _ = grind (arith, h)
 role_listed test around before role.Label h = by around
   where
     by : (around : Role) → test (label_in around) ≡ true
-    by role.FootnoteCall =
-        (and_parts (test role.CallLabel) true (and_parts (test role.Label) _ h).1).0
-    by _ = (and_parts (test role.Label) _ h).0
-role_listed test around None role.CodeFence h = (and_parts (test role.FirstCodeFence) true h).0
-role_listed test around (Some symbol) role.CodeFence h = (and_parts (test role.CodeFence) true h).0
-role_listed test around None role.MathFence h = (and_parts (test role.FirstMathFence) true h).0
-role_listed test around (Some symbol) role.MathFence h = (and_parts (test role.MathFence) true h).0
-role_listed test around None usual h = (and_parts (test usual) true h).0
-role_listed test around (Some symbol) usual h = (and_parts (test usual) true h).0
+    by role.FootnoteCall = grind (arith, h)
+    by _ = grind (arith, h)
+role_listed test around None role.CodeFence h = grind arith
+role_listed test around (Some symbol) role.CodeFence h = grind arith
+role_listed test around None role.MathFence h = grind arith
+role_listed test around (Some symbol) role.MathFence h = grind arith
+role_listed test around None usual h = grind arith
+role_listed test around (Some symbol) usual h = grind arith
 
 -- a node may stand there, its children in it, and others after it
 pub record Spot (standing : Standing) (name : Name) (children : Forest) (before : Option Symbol)
@@ -115,50 +114,28 @@ pub record Spot (standing : Standing) (name : Name) (children : Forest) (before 
       (content_after_node content name children) others ≡ true
 
 follows : (test holds : Bool) → implies test holds ≡ true → test ≡ true → holds ≡ true
-follows test holds h t = ap (λ b. implies b holds) (sym t) ∙ h
-
-solid_patterns :
-    (name : Name) (symbol : Symbol) (usual : Role) (around : Role) (before : Option Symbol)
-    (content : Content) → (holds_patterns (is_some before) name symbol usual content ≡ true) →
-    may_show (is_some before) content symbol ≡ true →
-    pattern_admits (pattern_of (role_for around before usual)) false
-    (content_of name content) ≡ true
-solid_patterns name symbol usual around before content holds may =
-    role_listed (λ role. pattern_admits (pattern_of role) false (content_of name content)) around
-    before usual (follows (may_show (is_some before) content symbol) _ holds may)
+follows test holds h t = grind arith
 
 spot_here :
     (standing : Standing) (name : Name) (children : Forest) (around : Role) (before : Option Symbol)
     (content : Content) (others : List Symbol) → Behaves standing name →
     IsStanding standing around before children →
     admits (is_some before) content (shown standing (spine children) ++ others) ≡ true →
-    ((is_transparent name || may_stand content name) ≡ true)
-    × (admits (is_some (inner_before standing before)) (content_inside content name)
-    (spine children) ≡ true)
+    ((is_through standing || may_stand content name) ≡ true)
+    × (admits (is_some (inner_before standing before))
+    (cond (is_through standing) content (content_of name content)) (spine children) ≡ true)
 spot_here Through name children around before content others says stands h =
-    let whole = admits-split before content (spine children) others h in (
-      ap (λ t. t || may_stand content name) says,
-      ap (λ t. admits (is_some before) (cond t content (content_of name content)) (spine children))
-          says ∙ whole.0,
-    )
-spot_here Space name children around before content others says stands h = (
-  ap (λ t. t || may_stand content name) says,
-  ap (λ c. admits false (content_inside content name) (spine c)) stands,
-)
+    (refl, (admits-split before content (spine children) others h).0)
+spot_here Space name children around before content others says stands h =
+    (refl, ap (λ c. admits false content (spine c)) stands)
 spot_here (Solid symbol usual reading) name children around before content others says stands h =
-    let may = (and_parts (may_show (is_some before) content symbol)
-    (admits true (past content symbol) others) h).0 in
-    let holds = elim before as (λ b. holds_patterns (is_some b) name symbol usual content ≡ true) [
-      | None ↦ each_content (holds_patterns false name symbol usual) says.3 content
-      | Some s ↦ each_content (holds_patterns true name symbol usual) says.2 content
-    ] in
-    let fits = solid_patterns name symbol usual around before content holds may in (
-      ap (λ t. t || may_stand content name) says.0
-          ∙ (sym (may_by-names content name) ∙ (ap (may_by content) says.1
-          ∙ shown_earlier (is_some before) content symbol may)),
-      ap (λ t. admits false (cond t content (content_of name content)) (spine children)) says.0
-          ∙ matches_admitted (role_for around before usual) (spine children)
-          (content_of name content) stands fits,
+    let may = (and_parts _ _ h).0 in (
+      says.may content ∙ shown_earlier (is_some before) content symbol may,
+      matches_admitted (role_for around before usual) (spine children)
+          (content_of name content) stands
+          (role_listed (λ role. pattern_admits (pattern_of role) false (content_of name content))
+          around before usual (follows (may_show (is_some before) content symbol) _
+          (says.patterns (is_some before) content) may)),
     )
 spot_here Mdx name children around before content others says stands h = absurd stands
 
@@ -171,11 +148,10 @@ pub spot : (standing : Standing) (name : Name) (children : Forest) (around : Rol
 spot standing name children around before content others says stands after h =
     let here = spot_here standing name children around before content others says stands h in
     record {
-      stands = here.0;
-      inside = here.1;
-      after =
-          subst (λ c.
-          admits (is_some (last_symbol before (shown standing (spine children)))) c others
-          ≡ true) (sym (node_after standing name children around before content says stands after))
+      stands = ap (λ t. t || may_stand content name) says.through ∙ here.0;
+      inside =
+          ap (λ t. admits (is_some (inner_before standing before))
+          (cond t content (content_of name content)) (spine children)) says.through ∙ here.1;
+      after = rw (node_after standing name children around before content says stands after)
           (admits-split before content (shown standing (spine children)) others h).1;
     }

@@ -1,13 +1,12 @@
 -- The nodes on a spine as a list: facts about a spine are stated for this list, which is easier to
--- iterate over than the tree (`Leading.antt`).
-use Rattle.std.proofs.Common.{◌≡◌, Bool, true, false, Option, Some, None, List, [], ◌∷◌, ◌++◌, refl}
-use Rattle.std.proofs.Common.{sym, ap, ◌∙◌}
+-- iterate over than the tree.
+use Rattle.std.proofs.Common.{arith, ◌≡◌, ℕ, Bool, false, cond, Option, Some, None, List, []}
+use Rattle.std.proofs.Common.{◌∷◌, ◌++◌}
+use Rattle.std.proofs.Common.{refl, sym, ap, ◌∙◌, subst}
 use Rattle.std.specs.Prelude.{map, if◌then◌else◌}
 use Rattle.std.proofs.lemmas.List.{map-append}
 use Rattle.md_base.specs.declared.event.Name.{Name}
-use Rattle.md_base.specs.declared.event.Name.TheVariants as name_variants
-use name_variants.{BlockQuotePrefix, SpaceOrTab, Other, MdxEsm, MdxFlowExpression}
-use name_variants.{MdxTextExpression, MdxJsxFlowTag, MdxJsxTextTag}
+use Rattle.md_base.specs.declared.event.Name.TheVariants.{Data, BlockQuotePrefix, SpaceOrTab, Other}
 use Rattle.md_base.specs.declared.event.Point.{Point}
 use Rattle.md_base.specs.declared.event.Position.{Position}
 use Rattle.md_pattern.specs.declared.kinds.Symbol.{Symbol}
@@ -20,57 +19,118 @@ use Rattle.md_tree.specs.declared.mention.Referral.TheVariants.{Missing, Label, 
 use Rattle.md_base.specs.Tree.{Forest, Empty, Node}
 use Rattle.md_pattern.specs.Standing.{standing_of}
 use Rattle.md_pattern.specs.Spine.{spine, shown}
-use Rattle.md_pattern.specs.Shape.{IsStanding, AreShaped}
-use Rattle.md_tree.specs.Rules.{place, target_at, target_after, target_of}
-use Rattle.md_base.specs.NameTests.{is_transparent}
-use Rattle.md_base.specs.Children.{or_else, first_on_spine}
-use Rattle.md_content.proofs.Symbols.{Behaves, behaves}
-use Rattle.md_content.proofs.Begins.{Agree, shows}
+use Rattle.md_pattern.specs.Shape.{Claim, EachNode, IsStanding, AreShaped, inner_role, inner_before}
+use Rattle.md_pattern.specs.Shape.{last_symbol}
+use Rattle.md_tree.specs.Rules.{place, target_after, target_of}
+use Rattle.md_base.specs.Children.{or_else, first_on_spine, spine_names}
+use Rattle.md_content.proofs.SymbolNames.{is_through, transparent, symbol_in, known_name}
+use Rattle.md_content.proofs.SymbolNames.{name-known}
 
 -- a node on a spine
 pub record Stand : Type 0 where
+  pub name : Name
   pub seen : Symbol
   pub start : Point
   pub end : Point
   pub children : Forest
 
-abbrev pub stand_here : Standing → Point → Point → Forest → List Stand → List Stand
-stand_here Through start end children inner = inner
-stand_here (Solid symbol usual reading) start end children inner = record {
-  seen = symbol;
-  start = start;
-  end = end;
-  children = children;
-} ∷ []
-stand_here _ start end children inner = []
+abbrev pub stand : Name → Symbol → Point → Point → Forest → Stand
+stand name seen start end children =
+    record { name = name; seen = seen; start = start; end = end; children = children }
+
+abbrev pub stand_here : Standing → Name → Point → Point → Forest → List Stand → List Stand
+stand_here Through name start end children inner = inner
+stand_here (Solid seen usual reading) name start end children inner =
+    stand name seen start end children ∷ []
+stand_here _ name start end children inner = []
 
 abbrev pub stands : Forest → List Stand
 stands Empty = []
 stands (Node name start end children rest) =
-    stand_here (standing_of name) start end children (stands children) ++ stands rest
+    stand_here (standing_of name) name start end children (stands children) ++ stands rest
 
 -- their symbols
 abbrev pub seen_of : List Stand → List Symbol
 seen_of nodes = map (λ node. node.seen) nodes
 
-symbols_here : (standing : Standing) (start end : Point) (children : Forest) →
+pub none_left : (nodes : List Stand) → seen_of nodes ≡ [] → nodes ≡ []
+none_left [] e = refl
+none_left (node ∷ nodes) e = cc
+
+symbols_here : (standing : Standing) (name : Name) (start end : Point) (children : Forest) →
     spine children ≡ seen_of (stands children) →
     shown standing (spine children)
-    ≡ seen_of (stand_here standing start end children (stands children))
-symbols_here Through start end children inner = inner
-symbols_here (Solid symbol usual reading) start end children inner = refl
-symbols_here Space start end children inner = refl
-symbols_here Mdx start end children inner = refl
+    ≡ seen_of (stand_here standing name start end children (stands children))
+symbols_here Through name start end children inner = inner
+symbols_here _ name start end children inner = refl
 
 pub spine-stands : (forest : Forest) → spine forest ≡ seen_of (stands forest)
 spine-stands Empty = refl
 spine-stands (Node name start end children rest) =
-    let here : List Stand = stand_here (standing_of name) start end children (stands children) in
-    ap (λ symbols. symbols ++ spine rest)
-    (symbols_here (standing_of name) start end children (spine-stands children))
-    ∙ ap (λ symbols. seen_of here ++ symbols) (spine-stands rest)
-    ∙ sym (map-append (λ (node : Stand). node.seen) here (stands rest))
+    rw (
+      symbols_here (standing_of name) name start end children (spine-stands children),
+      spine-stands rest,
+      map-append,
+    ) refl
 
+-- ---- a claim that holds for each node
+pub record Stood (holds : Claim) (around : Role) (before : Option Symbol) (node : Stand) : Type 0
+  where
+    pub here : holds around before node.name node.start node.end node.children
+    pub inside : EachNode holds node.children (inner_role (standing_of node.name) around before)
+        (inner_before (standing_of node.name) before)
+    pub known : known_name (standing_of node.name) node.name ≡ node.name
+    pub shows : symbol_in (standing_of node.name) ≡ Some node.seen
+
+abbrev pub EachStood : Claim → Role → Option Symbol → List Stand → Type 0
+EachStood holds around before [] = Unit {0}
+EachStood holds around before (node ∷ nodes) =
+    Stood holds around before node × EachStood holds around (Some node.seen) nodes
+
+stood-append : (holds : Claim) (around : Role) (before : Option Symbol)
+    (nodes others : List Stand) →
+    EachStood holds around before nodes →
+    EachStood holds around (last_symbol before (seen_of nodes)) others →
+    EachStood holds around before (nodes ++ others)
+stood-append holds around before [] others a b = b
+stood-append holds around before (node ∷ nodes) others a b =
+    (a.0, stood-append holds around (Some node.seen) nodes others a.1 b)
+
+stood-here : (holds : Claim) (standing : Standing) (name : Name) (start end : Point)
+    (children : Forest) (around : Role) (before : Option Symbol) → standing_of name ≡ standing →
+    holds around before name start end children →
+    EachNode holds children (inner_role standing around before) (inner_before standing before) →
+    (EachNode holds children around before → EachStood holds around before (stands children)) →
+    EachStood holds around before
+    (stand_here standing name start end children (stands children))
+stood-here holds Through name start end children around before e here inside again = again inside
+stood-here holds (Solid seen usual reading) name start end children around before e
+    here inside again = (
+      record {
+        here = here;
+        inside =
+            subst (λ s. EachNode holds children (inner_role s around before)
+            (inner_before s before)) (sym e) inside;
+        known = name-known name;
+        shows = ap symbol_in e;
+      },
+      tt,
+    )
+stood-here holds _ name start end children around before e here inside again = tt
+
+pub each-stood : (holds : Claim) (forest : Forest) (around : Role) (before : Option Symbol) →
+    EachNode holds forest around before → EachStood holds around before (stands forest)
+each-stood holds Empty around before all = tt
+each-stood holds (Node name start end children rest) around before all =
+    stood-append holds around before
+    (stand_here (standing_of name) name start end children (stands children)) (stands rest)
+    (stood-here holds (standing_of name) name start end children around before refl all.0 all.1
+    (each-stood holds children around before))
+    (subst (λ symbols. EachStood holds around (last_symbol before symbols) (stands rest))
+    (symbols_here (standing_of name) name start end children (spine-stands children))
+    (each-stood holds rest around _ all.2))
+
+-- ---- the target that nodes leave
 -- what a node leaves as the target of the node around it, by its symbol
 abbrev pub target_by : Symbol → Referral → Referral → Position → Referral
 target_by symbol.LabelText found inner there = Label there
@@ -82,21 +142,16 @@ target_by symbol.FootnotePrefix found inner there = inner
 target_by symbol.Resource found inner there = Resource
 target_by _ found inner there = found
 
-abbrev Leaves : Standing → Type 0
-Leaves (Solid symbol usual reading) = (found inner : Referral) (there : Position) →
-    target_at reading found inner there ≡ target_by symbol found inner there
-Leaves _ = Unit {0}
+abbrev leaves_by : Standing → Referral → (Referral → Referral) → Position → Referral
+leaves_by Through found inner there = inner found
+leaves_by (Solid seen usual reading) found inner there = target_by seen found (inner Missing) there
+leaves_by _ found inner there = found
 
-leaves : (name : Name) → Leaves (standing_of name)
-leaves BlockQuotePrefix = tt
-leaves SpaceOrTab = tt
-leaves (Other number) = tt
-leaves MdxEsm = tt
-leaves MdxFlowExpression = tt
-leaves MdxTextExpression = tt
-leaves MdxJsxFlowTag = tt
-leaves MdxJsxTextTag = tt
-leaves _ = λ found inner there. refl
+leaves : (name : Name) (found : Referral) (inner : Referral → Referral) (there : Position) →
+    target_after (standing_of name) found inner there
+    ≡ leaves_by (standing_of name) found inner there
+leaves Data found inner there = refl
+leaves _ found inner there = refl
 
 -- the target after nodes, in sequence
 abbrev pub sought : List Stand → Referral → Referral
@@ -111,85 +166,97 @@ sought-append [] others found = refl
 sought-append (node ∷ nodes) others found = sought-append nodes others
     (target_by node.seen found (target_of node.children Missing) (place node.start node.end))
 
-target_here : (standing : Standing) (start end : Point) (children : Forest) (found : Referral) →
-    Leaves standing →
-    target_of children found ≡ sought (stands children) found →
-    target_after standing found (target_of children) (place start end)
-    ≡ sought (stand_here standing start end children (stands children)) found
-target_here Through start end children found leaves inner = inner
-target_here (Solid symbol usual reading) start end children found leaves inner =
-    leaves found (target_of children Missing) (place start end)
-target_here Space start end children found leaves inner = refl
-target_here Mdx start end children found leaves inner = refl
+target_here : (standing : Standing) (name : Name) (start end : Point) (children : Forest)
+    (found : Referral) → target_of children found ≡ sought (stands children) found →
+    leaves_by standing found (target_of children) (place start end)
+    ≡ sought (stand_here standing name start end children (stands children)) found
+target_here Through name start end children found inner = inner
+target_here _ name start end children found inner = refl
 
 pub target-stands : (forest : Forest) (found : Referral) →
     target_of forest found ≡ sought (stands forest) found
 target-stands Empty found = refl
 target-stands (Node name start end children rest) found =
-    let here : List Stand = stand_here (standing_of name) start end children (stands children) in
-    ap (target_of rest) (target_here (standing_of name) start end children found (leaves name)
-    (target-stands children found))
-    ∙ target-stands rest (sought here found)
-    ∙ sym (sought-append here (stands rest) found)
+    rw (
+      leaves name found (target_of children) (place start end),
+      target_here (standing_of name) name start end children found (target-stands children found),
+      target-stands rest _,
+      sought-append,
+    ) refl
 
-module _ {A : Type 0} (of_symbols : Symbol → Bool) (of_names : Name →
-    Bool) (agree : Agree of_symbols of_names) (tell : Point → Point → Forest → A) where
-  -- the fact about the first node with such a symbol
+-- ---- their names
+names_here : (standing : Standing) (name : Name) (start end : Point) (children : Forest)
+    (around : Role) (before : Option Symbol) → IsStanding standing around before children →
+    spine_names children ≡ map (λ node. node.name) (stands children) →
+    cond (is_through standing) (spine_names children) (name ∷ [])
+    ≡ map (λ node. node.name) (stand_here standing name start end children (stands children))
+names_here Through name start end children around before is inner = inner
+names_here Space name start end children around before is inner = ap spine_names is
+names_here (Solid seen usual reading) name start end children around before is inner = refl
+names_here Mdx name start end children around before is inner = absurd is
+
+pub names-stand : (forest : Forest) (around : Role) (before : Option Symbol) →
+    AreShaped forest around before → spine_names forest ≡ map (λ node. node.name) (stands forest)
+names-stand Empty around before shaped = refl
+names-stand (Node name start end children rest) around before shaped =
+    rw (
+      transparent name,
+      names_here (standing_of name) name start end children around before
+          shaped.0.1 (names-stand children _ _ shaped.1),
+      names-stand rest _ _ shaped.2,
+      map-append,
+    ) refl
+
+-- ---- the first whose name passes a test, which no transparent one does
+abbrev pub IsSolid : (Name → Bool) → Type 0
+IsSolid test = (test BlockQuotePrefix ≡ false) × (test SpaceOrTab ≡ false)
+    × ((number : ℕ) → test (Other number) ≡ false)
+
+module _ {A : Type 0} (test : Name → Bool) (tell : Point → Point → Forest → A) where
+  -- the fact about the first node with such a name
   abbrev pub first_seen : List Stand → Option A
   first_seen [] = None
   first_seen (node ∷ nodes) =
-      if of_symbols node.seen then Some (tell node.start node.end node.children)
-      else first_seen nodes
+      if test node.name then Some (tell node.start node.end node.children) else first_seen nodes
 
   first_seen-append : (nodes others : List Stand) → or_else (first_seen nodes) (first_seen others)
       ≡ first_seen (nodes ++ others)
   first_seen-append [] others = refl
-  first_seen-append (node ∷ nodes) others = by (of_symbols node.seen)
-      (Some (tell node.start node.end node.children)) refl (first_seen-append nodes others)
-    where
-      by : (passes : Bool) (here : Option A) → or_else here (first_seen others) ≡ here →
-          or_else (first_seen nodes) (first_seen others) ≡ first_seen (nodes ++ others) →
-          or_else (if passes then here else first_seen nodes) (first_seen others)
-          ≡ (if passes then here else first_seen (nodes ++ others))
-      by true here e later = e
-      by false here e later = later
+  first_seen-append (node ∷ nodes) others = grind (arith, first_seen-append nodes others)
 
-  abbrev told_here : Bool → Bool → A → Option A → Option A
-  told_here passes through here inside =
-      if passes then Some here else (if through then inside else None)
+  passes_not : (name : Name) → IsSolid test →
+      (if is_through (standing_of name) then test name else false) ≡ false
+  passes_not BlockQuotePrefix solid = solid.0
+  passes_not SpaceOrTab solid = solid.1
+  passes_not (Other number) solid = solid.2 number
+  passes_not _ solid = refl
 
   first_here :
       (standing : Standing) (name : Name) (start end : Point) (children : Forest) (around : Role)
-      (before : Option Symbol) → Behaves standing name → of_names name ≡ shows of_symbols standing →
+      (before : Option Symbol) → (if is_through standing then test name else false) ≡ false →
       IsStanding standing around before children →
-      first_on_spine of_names tell children ≡ first_seen (stands children) →
-      told_here (of_names name) (is_transparent name) (tell start end children)
-      (first_on_spine of_names tell children)
-      ≡ first_seen (stand_here standing start end children (stands children))
-  first_here Through name start end children around before says same is inner =
-      ap (λ t. told_here t (is_transparent name) (tell start end children)
-      (first_on_spine of_names tell children)) same ∙ ap (λ t. told_here false t
-      (tell start end children) (first_on_spine of_names tell children)) says ∙ inner
-  first_here Space name start end children around before says same is inner =
-      ap (λ t. told_here t (is_transparent name) (tell start end children)
-      (first_on_spine of_names tell children)) same ∙ ap (λ t. told_here false t
-      (tell start end children) (first_on_spine of_names tell children)) says
-      ∙ ap (first_on_spine of_names tell) is
-  first_here (Solid symbol usual reading) name start end children around before says same is inner =
-      ap (λ t. told_here t (is_transparent name) (tell start end children)
-      (first_on_spine of_names tell children)) same ∙ ap (λ t. told_here (of_symbols symbol) t
-      (tell start end children) (first_on_spine of_names tell children)) says.0
-  first_here Mdx name start end children around before says same is inner = absurd is
+      first_on_spine test tell children ≡ first_seen (stands children) →
+      (if test name then Some (tell start end children)
+      else (if is_through standing then first_on_spine test tell children else None))
+      ≡ first_seen (stand_here standing name start end children (stands children))
+  first_here Through name start end children around before solid is inner =
+      ap (λ t. if t then Some (tell start end children) else first_on_spine test tell children)
+      solid ∙ inner
+  first_here Space name start end children around before solid is inner =
+      ap (λ t. if t then Some (tell start end children) else first_on_spine test tell children)
+      solid ∙ ap (first_on_spine test tell) is
+  first_here (Solid seen usual reading) name start end children around before solid is inner = refl
+  first_here Mdx name start end children around before solid is inner = absurd is
 
-  pub first-stands : (forest : Forest) (around : Role) (before : Option Symbol) →
+  pub first-stands : IsSolid test → (forest : Forest) (around : Role) (before : Option Symbol) →
       AreShaped forest around before →
-      first_on_spine of_names tell forest ≡ first_seen (stands forest)
-  first-stands Empty around before shaped = refl
-  first-stands (Node name start end children rest) around before shaped =
-      let here : List Stand = stand_here (standing_of name) start end children (stands children) in
-      ap (λ o. or_else o (first_on_spine of_names tell rest))
-      (first_here (standing_of name) name start end children around before (behaves name)
-      (agree name)
-      shaped.0.1 (first-stands children _ _ shaped.1))
-      ∙ ap (λ o. or_else (first_seen here) o) (first-stands rest _ _ shaped.2)
-      ∙ first_seen-append here (stands rest)
+      first_on_spine test tell forest ≡ first_seen (stands forest)
+  first-stands solid Empty around before shaped = refl
+  first-stands solid (Node name start end children rest) around before shaped =
+      rw (
+        transparent name,
+        first_here (standing_of name) name start end children around before
+            (passes_not name solid) shaped.0.1 (first-stands solid children _ _ shaped.1),
+        first-stands solid rest _ _ shaped.2,
+        first_seen-append,
+      ) refl

@@ -1,7 +1,8 @@
 -- The texts that the meaning reads of a document of the grammar are there.
-use Rattle.std.proofs.Common.{◌≡◌, ℕ, Bool, true, false, Option, Some, None, List, ◌++◌, refl, ap}
+use Rattle.std.proofs.Common.{arith, ◌≡◌, ℕ, Bool, true, Option, Some, None, List, ◌++◌}
+use Rattle.std.proofs.Common.{refl}
 use Rattle.std.proofs.Common.{◌∙◌}
-use Rattle.std.specs.Prelude.{is_some, if◌then◌else◌, ◌&&◌, replicate}
+use Rattle.std.specs.Prelude.{is_some, replicate}
 use Rattle.md_base.proofs.Lies.{lie}
 use Rattle.md_base.specs.declared.event.Name.{Name}
 use Rattle.md_base.specs.declared.event.Point.{Point}
@@ -76,14 +77,7 @@ label-read bytes names _ around before start end target e h = lie h
 -- the same with spaces at its ends
 text_when-there : (readable : Bool) (one other : List ℕ) → is_utf8 one ≡ is_utf8 other →
     is_some (text_when readable one) ≡ is_some (text_when readable other)
-text_when-there readable one other same =
-    ap (λ b. is_some (if readable && b then Some one else None)) same
-    ∙ by (readable && is_utf8 other)
-  where
-    by : (b : Bool) →
-        is_some (if b then Some one else None) ≡ is_some (if b then Some other else None)
-    by true = refl
-    by false = refl
+text_when-there readable one other same = grind arith
 
 serialized-there : (bytes : List ℕ) (start end : Point) →
     is_some (text_between bytes start end) ≡ true →

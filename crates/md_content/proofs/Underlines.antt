@@ -1,20 +1,19 @@
 -- Where underlines stand on the spines of the grammar, and in its documents: a heading that is
 -- printed at its underline is printed once.
-use Rattle.std.proofs.Common.{◌≡◌, inl, inr, ℕ, zero, suc, Bool, true, false, ◌&&◌, cond, List, []}
+use Rattle.std.proofs.Common.{arith, ◌≡◌, ℕ, zero, suc, Bool, true, false, ◌&&◌, cond, List, []}
 use Rattle.std.proofs.Common.{◌∷◌, ◌++◌, refl, sym, ap, subst, ◌∙◌, Option, None}
-use Rattle.std.specs.Prelude.{replicate}
+use Rattle.std.specs.Prelude.{replicate, map}
 use Rattle.std.specs.List.{list_all}
 use Rattle.std.proofs.lemmas.Bool.{and_parts, and_from}
 use Rattle.md_base.proofs.Lies.{lie}
 use Rattle.md_base.specs.declared.event.Name.{Name}
 use Rattle.md_base.specs.declared.event.Name.TheVariants as name_variants
-use name_variants.{HeadingSetextUnderlineSequence, BlockQuotePrefix, SpaceOrTab, Other, MdxEsm}
-use name_variants.{MdxFlowExpression, MdxTextExpression, MdxJsxFlowTag, MdxJsxTextTag}
+use name_variants.{HeadingSetextUnderlineSequence, SpaceOrTab}
 use Rattle.md_base.specs.Tree.{Forest, Empty, Node}
 use Rattle.md_base.specs.NameTests.{is_transparent}
 use Rattle.md_base.specs.Children.{spine_names}
 use Rattle.md_pattern.specs.declared.kinds.Symbol.{Symbol}
-use Rattle.md_pattern.specs.declared.kinds.Symbol.TheVariants.{ReferenceMarker, SetextText}
+use Rattle.md_pattern.specs.declared.kinds.Symbol.TheVariants.{SetextText}
 use Rattle.md_pattern.specs.declared.kinds.Symbol.TheVariants.{SetextUnderline, LineEnding}
 use Rattle.md_pattern.specs.declared.kinds.Role.{Role}
 use Rattle.md_pattern.specs.declared.kinds.Role.TheVariants as role
@@ -24,7 +23,9 @@ use Rattle.md_pattern.specs.Spine.{spine, shown, IsTail, IsGrouped, Matches}
 use Rattle.md_pattern.specs.Shape.{AreShaped, IsStanding, inner_role}
 use Rattle.md_tree.specs.Grammar.{IsGrammatical}
 use Rattle.md_content.specs.Underlined.{is_underline, waits_past, waits_after, IsUnderlined}
-use Rattle.md_content.proofs.Symbols.{Behaves, behaves}
+use Rattle.md_content.proofs.SymbolNames.{is_through, transparent}
+use Rattle.md_content.proofs.Tails.{is_lone, each-tail}
+use Rattle.md_content.proofs.Stands.{Stand, stands, spine-stands, names-stand, none_left}
 use Rattle.md_pattern.specs.declared.kinds.Standing.{Standing}
 use Rattle.md_pattern.specs.declared.kinds.Standing.TheVariants.{Through, Space, Solid, Mdx}
 use Rattle.md_content.proofs.Letters.{letters, fits-all}
@@ -52,9 +53,9 @@ pub underlined-split : (waits : Bool) (xs ys : List Symbol) → underlined waits
     (underlined waits xs ≡ true) × (underlined (waits_after_symbols waits xs) ys ≡ true)
 underlined-split waits [] ys h = (refl, h)
 underlined-split waits (x ∷ xs) ys h =
-    let parts = and_parts (may_follow waits x) (underlined (next_waits waits x) (xs ++ ys)) h in
+    let parts = and_parts _ _ h in
     let later = underlined-split (next_waits waits x) xs ys parts.1 in
-    (and_from (may_follow waits x) (underlined (next_waits waits x) xs) parts.0 later.0, later.1)
+    (and_from _ _ parts.0 later.0, later.1)
 
 pub waits-append : (waits : Bool) (xs ys : List Symbol) →
     waits_after_symbols waits (xs ++ ys) ≡ waits_after_symbols (waits_after_symbols waits xs) ys
@@ -66,39 +67,36 @@ endings-underlined : (endings : ℕ) (others : List Symbol) → underlined false
 endings-underlined zero others h = h
 endings-underlined (suc endings) others h = endings-underlined endings others h
 
-no_underline : Symbol → Bool
+abbrev no_underline : Symbol → Bool
 no_underline SetextUnderline = false
 no_underline _ = true
 
-tail-underlined : (first : Symbol) (tail others : List Symbol) → IsTail first tail →
-    no_underline first ≡ true →
-    ((waits : Bool) → underlined waits others ≡ true) → (waits : Bool) →
-    underlined waits (first ∷ tail ++ others) ≡ true
-unfolding no_underline
-tail-underlined ReferenceMarker tail others is may h waits = elim is [
-  | inl e ↦ subst (λ t. underlined false (t ++ others) ≡ true) (sym e) (h false)
-  | inr (inl e) ↦ subst (λ t. underlined false (t ++ others) ≡ true) (sym e) (h false)
-  | inr (inr e) ↦ subst (λ t. underlined false (t ++ others) ≡ true) (sym e) (h false)
-]
-tail-underlined SetextText tail others is may h waits = subst (λ t. underlined true (t ++ others)
-    ≡ true) (sym is.1) (endings-underlined is.0 others (h false))
-tail-underlined SetextUnderline tail others is may h waits = lie may
-tail-underlined LineEnding tail others is may h waits = subst (λ t. underlined waits (t ++ others)
-    ≡ true) (sym is) (h waits)
-tail-underlined first tail others is may h waits =
-    subst (λ t. underlined false (t ++ others) ≡ true) (sym is) (h false)
+tail-underlined : (others : List Symbol) → ((waits : Bool) → underlined waits others ≡ true) →
+    (first : Symbol) (tail : List Symbol) → IsTail first tail → no_underline first ≡ true →
+    (waits : Bool) → underlined waits (first ∷ tail ++ others) ≡ true
+tail-underlined others h =
+    each-tail (λ first tail. no_underline first ≡ true → (waits : Bool) →
+    underlined waits (first ∷ tail ++ others) ≡ true)
+    (λ may waits. h false) (λ may waits. h false) (λ may waits. h false)
+    (λ endings may waits. endings-underlined endings others (h false)) alone
+  where
+    alone : (first : Symbol) → is_lone first ≡ true → no_underline first ≡ true → (waits : Bool) →
+        underlined waits (first ∷ others) ≡ true
+    alone SetextText lone may waits = lie lone
+    alone SetextUnderline lone may waits = lie may
+    alone LineEnding lone may waits = h waits
+    alone _ lone may waits = h false
 
 grouped-underlined : (firsts spine : List Symbol) → IsGrouped firsts spine →
     list_all no_underline firsts ≡ true →
     (waits : Bool) → underlined waits spine ≡ true
 grouped-underlined [] spine g h waits = subst (λ s. underlined waits s ≡ true) (sym g) refl
 grouped-underlined (first ∷ firsts) spine g h waits =
-    let parts = and_parts (no_underline first) (list_all no_underline firsts) h in
+    let parts = and_parts _ _ h in
     subst (λ s. underlined waits s ≡ true) (sym g.2)
-    (tail-underlined first g.0 g.1 g.3 parts.0 (grouped-underlined firsts g.1 g.4 parts.1) waits)
+    (tail-underlined g.1 (grouped-underlined firsts g.1 g.4 parts.1) first g.0 g.3 parts.0 waits)
 
 role-no_underline : (r : Role) → letters no_underline (pattern_of r) ≡ true
-unfolding no_underline
 role-no_underline role.Flow = refl
 role-no_underline _ = refl
 
@@ -115,15 +113,8 @@ node-waits :
     waits_after waits children ≡ waits_after_symbols waits (spine children)
     → cond (is_transparent name) (waits_after waits children) (waits_past waits name)
     ≡ waits_after_symbols waits (shown (standing_of name) (spine children))
-node-waits (Other number) children around before waits is same = same
-node-waits BlockQuotePrefix children around before waits is same = same
 node-waits SpaceOrTab children around before waits is same = ap (λ f. waits_after waits f) is
-node-waits MdxEsm children around before waits is same = absurd is
-node-waits MdxFlowExpression children around before waits is same = absurd is
-node-waits MdxTextExpression children around before waits is same = absurd is
-node-waits MdxJsxFlowTag children around before waits is same = absurd is
-node-waits MdxJsxTextTag children around before waits is same = absurd is
-node-waits _ children around before waits is same = refl
+node-waits _ children around before waits is same = grind arith
 
 -- and after some nodes as after their spine
 same-waits : (forest : Forest) (around : Role) (before : Option Symbol) (waits : Bool) →
@@ -131,42 +122,18 @@ same-waits : (forest : Forest) (around : Role) (before : Option Symbol) (waits :
     waits_after waits forest ≡ waits_after_symbols waits (spine forest)
 same-waits Empty around before waits all = refl
 same-waits (Node name start end children rest) around before waits all =
-    let here =
-    node-waits name children around before waits all.0.1 (same-waits children _ _ waits all.1) in
-    ap (λ b. waits_after b rest) here
-    ∙ same-waits rest _ _
-    (waits_after_symbols waits (shown (standing_of name) (spine children))) all.2
-    ∙ sym (waits-append waits (shown (standing_of name) (spine children)) (spine rest))
-
--- where two lists in a row are empty, each is
-pub both_none : {A : Type 0} (xs ys : List A) → xs ++ ys ≡ [] → (xs ≡ []) × (ys ≡ [])
-both_none [] ys h = (refl, h)
-both_none (x ∷ xs) ys h = absurd (cc h)
+    rw (
+      node-waits name children around before waits all.0.1 (same-waits children _ _ waits all.1),
+      same-waits rest _ _ _ all.2,
+      waits-append,
+    ) refl
 
 -- on an empty spine there are no names
-own_names : (standing : Standing) (name : Name) (children : Forest) (around : Role)
-    (before : Option Symbol) →
-    Behaves standing name → IsStanding standing around before children →
-    (spine children ≡ [] → spine_names children ≡ [])
-    → shown standing (spine children) ≡ [] →
-    cond (is_transparent name) (spine_names children) (name ∷ []) ≡ []
-own_names Through name children around before behaves is below h =
-    ap (λ b. cond b (spine_names children) (name ∷ [])) behaves ∙ below h
-own_names Space name children around before behaves is below h =
-    ap (λ b. cond b (spine_names children) (name ∷ [])) behaves ∙ ap spine_names is
-own_names (Solid symbol usual reading) name children around before behaves is below h = absurd
-    (cc h)
-own_names Mdx name children around before behaves is below h = absurd is
-
 no-names : (forest : Forest) (around : Role) (before : Option Symbol) →
-    AreShaped forest around before →
-    spine forest ≡ [] → spine_names forest ≡ []
-no-names Empty around before all h = refl
-no-names (Node name start end children rest) around before all h =
-    let parts = both_none (shown (standing_of name) (spine children)) (spine rest) h in
-    let own = own_names (standing_of name) name children around before (behaves name) all.0.1
-    (no-names children _ _ all.1) parts.0 in
-    ap (λ names. names ++ spine_names rest) own ∙ no-names rest _ _ all.2 parts.1
+    AreShaped forest around before → spine forest ≡ [] → spine_names forest ≡ []
+no-names forest around before all h = names-stand forest around before all
+    ∙ ap (map (λ (node : Stand). node.name))
+    (none_left (stands forest) (sym (spine-stands forest) ∙ h))
 
 -- nothing stands in an underline
 empty-spine : (spine : List Symbol) → Matches role.Empty spine → spine ≡ []
@@ -184,25 +151,23 @@ awaited : (name : Name) (children : Forest) (around inner : Role)
     → (waits ≡ true) × (spine_names children ≡ [])
 awaited HeadingSetextUnderlineSequence children around inner before first waits
     is all h underline = (
-      (and_parts waits true h).0,
+      (and_parts _ _ h).0,
       no-names children inner first all (empty-spine (spine children) is),
     )
 awaited _ children around inner before first waits is all h underline = lie underline
 
 -- the spine below a node
 below-underlined :
-    (standing : Standing) (name : Name) (children : Forest) (around : Role) (before : Option Symbol)
-    (waits : Bool) → Behaves standing name → IsStanding standing around before children →
+    (standing : Standing) (children : Forest) (around : Role) (before : Option Symbol)
+    (waits : Bool) → IsStanding standing around before children →
     underlined waits (shown standing (spine children)) ≡ true →
-    underlined (cond (is_transparent name) waits false) (spine children) ≡ true
-below-underlined Through name children around before waits behaves is h =
-    subst (λ b. underlined (cond b waits false) (spine children) ≡ true) (sym behaves) h
-below-underlined Space name children around before waits behaves is h =
-    subst (λ f. underlined (cond (is_transparent name) waits false) (spine f) ≡ true) (sym is) refl
-below-underlined (Solid symbol usual reading) name children around before waits behaves is h =
+    underlined (cond (is_through standing) waits false) (spine children) ≡ true
+below-underlined Through children around before waits is h = h
+below-underlined Space children around before waits is h = ap (λ f. underlined waits (spine f)) is
+below-underlined (Solid symbol usual reading) children around before waits is h =
     matches-underlined (inner_role (Solid symbol usual reading) around before) (spine children) is
-    (cond (is_transparent name) waits false)
-below-underlined Mdx name children around before waits behaves is h = absurd is
+    false
+below-underlined Mdx children around before waits is h = absurd is
 
 -- nodes whose spine has its underlines where headings wait have them so at any depth
 nodes-underlined : (forest : Forest) (around : Role) (before : Option Symbol) (waits : Bool) →
@@ -215,8 +180,8 @@ nodes-underlined (Node name start end children rest) around before waits all h =
     node-waits name children around before waits all.0.1 (same-waits children _ _ waits all.1) in (
       awaited name children around _ before _ waits all.0.1 all.1 parts.0,
       nodes-underlined children _ _ (cond (is_transparent name) waits false) all.1
-          (below-underlined (standing_of name) name children around before waits
-          (behaves name) all.0.1 parts.0),
+          (ap (λ t. underlined (cond t waits false) (spine children)) (transparent name)
+          ∙ below-underlined (standing_of name) children around before waits all.0.1 parts.0),
       nodes-underlined rest _ _
           (cond (is_transparent name) (waits_after waits children) (waits_past waits name)) all.2
           (subst (λ b. underlined b (spine rest) ≡ true) (sym here) parts.1),

@@ -5,9 +5,9 @@ use Rattle.std.specs.Prelude.{if◌then◌else◌}
 use Rattle.md_base.specs.declared.event.Name.{Name}
 use Rattle.md_base.specs.declared.event.Name.TheVariants.{Data}
 use Rattle.md_base.specs.declared.event.Position.{Position}
-use Rattle.md_base.proofs.Lies.{lie}
+use Rattle.std.proofs.lemmas.Bool.{and_from}
 use Rattle.md_base.specs.Tree.{Forest, Empty, Node}
-use Rattle.md_base.specs.Children.{is_empty, or_else, spine_names}
+use Rattle.md_base.specs.Children.{is_empty, spine_names}
 use Rattle.md_base.specs.NameTests.{is_transparent}
 use Rattle.md_pattern.specs.Looseness.{is_loose}
 use Rattle.md_text.specs.declared.options.CompileOptions.{CompileOptions}
@@ -18,10 +18,10 @@ use Rattle.md_meaning.specs.Meaning.At.{Context, At, Before, Found}
 use Rattle.md_meaning.specs.Meaning.Before.{before_children}
 use Rattle.md_meaning.specs.Meaning.Means.{prints}
 use Rattle.md_meaning.specs.Meaning.Nodes.{outcome, found_at}
-use Rattle.md_steps.specs.Content.{Content, Strings, Sources, Nothing, Childless, Fits, is_string}
+use Rattle.md_steps.specs.Content.{Content, Blocks, Fits, is_string}
 use Rattle.md_steps.specs.Content.{is_code_data, is_source, is_allowed}
 use Rattle.md_steps.specs.Content.{content_inside, content_after_node}
-use Rattle.md_steps.specs.Claim.{at_node, inner_of, next_before, node_of}
+use Rattle.md_steps.specs.Claim.{at_node, inner_of, next_before}
 use Rattle.md_steps.proofs.Standing.{implies, follows, picked, allowed-facts, is_callless}
 use Rattle.md_steps.proofs.Staying.{node-same}
 use Rattle.md_steps.proofs.Quiet.{past-callless, defines-inside}
@@ -30,25 +30,15 @@ use Rattle.md_steps.proofs.Quiet.{past-callless, defines-inside}
 abbrev pub is_plain : Name → Bool
 is_plain name = is_transparent name || (is_string name || (is_code_data name || is_source name))
 
-in_strings : (n : Name) → implies (is_allowed Strings n) (is_plain n) ≡ true
-in_strings Data = refl
-in_strings _ = refl
-
-in_sources : (n : Name) → implies (is_allowed Sources n) (is_plain n) ≡ true
-in_sources Data = refl
-in_sources _ = refl
-
-in_nothing : (n : Name) → implies (is_allowed Nothing n) (is_plain n) ≡ true
-in_nothing Data = refl
-in_nothing _ = refl
+plain-names : (c : Content) (n : Name) →
+    implies (is_callless c && is_allowed c n) (is_plain n) ≡ true
+plain-names Blocks Data = refl
+plain-names _ Data = refl
+plain-names _ _ = refl
 
 pub plain : (c : Content) (n : Name) → is_callless c ≡ true → is_allowed c n ≡ true →
     is_plain n ≡ true
-plain Strings n h k = follows (is_allowed Strings n) (is_plain n) (in_strings n) k
-plain Sources n h k = follows (is_allowed Sources n) (is_plain n) (in_sources n) k
-plain Nothing n h k = follows (is_allowed Nothing n) (is_plain n) (in_nothing n) k
-plain Childless n h k = lie k
-plain _ n h k = lie h
+plain c n h k = follows (is_callless c && is_allowed c n) _ (plain-names c n) (and_from _ _ h k)
 
 -- two places in which strings are read alike
 pub record Alike (a b : Surroundings) (x y : Before) : Type 0 where
@@ -60,43 +50,33 @@ pub record Alike (a b : Surroundings) (x y : Before) : Type 0 where
   pub previous : x.previous ≡ y.previous
 
 -- of what is read of the surroundings only the same is read inside
-escaping-read : (options : CompileOptions) (loose : Bool) (name : Name) (a b : Surroundings) →
-    (inside options loose name a).is_escaping
-    ≡ (inside options loose name (record b { is_escaping = a.is_escaping })).is_escaping
-escaping-read options loose Data a b = refl
-escaping-read options loose _ a b = refl
-
-escaping-inside : (options : CompileOptions) (loose : Bool) (name : Name) (a b : Surroundings) →
-    a.is_escaping ≡ b.is_escaping →
-    (inside options loose name a).is_escaping ≡ (inside options loose name b).is_escaping
-escaping-inside options loose name a b h = escaping-read options loose name a b
-    ∙ ap (λ e. (inside options loose name (record b { is_escaping = e })).is_escaping) h
-
-code-read : (options : CompileOptions) (loose : Bool) (name : Name) (a b : Surroundings) →
-    (inside options loose name a).in_code
-    ≡ (inside options loose name (record b { in_code = a.in_code })).in_code
-code-read options loose Data a b = refl
-code-read options loose _ a b = refl
-
-code-inside : (options : CompileOptions) (loose : Bool) (name : Name) (a b : Surroundings) →
-    a.in_code ≡ b.in_code →
-    (inside options loose name a).in_code ≡ (inside options loose name b).in_code
-code-inside options loose name a b h = code-read options loose name a b
-    ∙ ap (λ e. (inside options loose name (record b { in_code = e })).in_code) h
+inside-read : (options : CompileOptions) (loose : Bool) (name : Name) (a b : Surroundings) →
+    let read : Surroundings =
+    record b { is_escaping = a.is_escaping; in_code = a.in_code } in
+    ((inside options loose name a).is_escaping ≡ (inside options loose name read).is_escaping)
+    × ((inside options loose name a).in_code ≡ (inside options loose name read).in_code)
+inside-read options loose Data a b = (refl, refl)
+inside-read options loose _ a b = (refl, refl)
 
 alike-inside : (options : CompileOptions) (name : Name) (children : Forest)
     (a b : Surroundings) (x y : Before) →
     Alike a b x y →
     Alike (inside options (is_loose children) name a) (inside options (is_loose children) name b)
     (before_children name children x) (before_children name children y)
-alike-inside options name children a b x y h = record {
-  escaping = escaping-inside options (is_loose children) name a b h.escaping;
-  code = code-inside options (is_loose children) name a b h.code;
-  one = defines-inside options (is_loose children) name a h.one;
-  other = defines-inside options (is_loose children) name b h.other;
-  spine = ap (λ l. if is_transparent name then l else []) h.spine;
-  previous = refl;
-}
+alike-inside options name children a b x y h =
+    let loose = is_loose children in
+    let read = inside-read options loose name a b in
+    let same : record b { is_escaping = a.is_escaping; in_code = a.in_code } ≡ b =
+    ap (λ e. record b { is_escaping = e; in_code = a.in_code }) h.escaping
+    ∙ ap (λ e. record b { in_code = e }) h.code in
+    record {
+      escaping = read.0 ∙ ap (λ s. (inside options loose name s).is_escaping) same;
+      code = read.1 ∙ ap (λ s. (inside options loose name s).in_code) same;
+      one = defines-inside options loose name a h.one;
+      other = defines-inside options loose name b h.other;
+      spine = ap (λ l. if is_transparent name then l else []) h.spine;
+      previous = refl;
+    }
 
 -- a place in a definition, with all that strings read of one
 abbrev read_at : Position → Surroundings → List Name → Option Name → Found → At → At
@@ -157,15 +137,6 @@ module _ (context : Context) (at other : At) (place : at.place ≡ other.place)
       ∙ ap (λ f. found_at (record other { found = f }) name (layout context.ending p)) found
       ∙ ap (λ l. found_at other name (layout context.ending l)) same
 
--- of two findings, what each gives
-abbrev later_found : Found → Found → Found
-later_found one two = record {
-  heading = or_else two.heading one.heading;
-  destination = or_else two.destination one.destination;
-  title = or_else two.title one.title;
-  resource = or_else two.resource one.resource;
-}
-
 pub outcomes-alike :
     (context : Context) (a b : Surroundings) (x y : Before) (c : Content) (forest : Forest) →
     is_callless c ≡ true → Fits c forest → Alike a b x y →
@@ -195,15 +166,12 @@ outcomes-alike context a b x y c (Node name start end children rest) h fits alik
           alike.spine;
       previous = refl;
     }) in
-    let is : _ = plain c name h fits.0 in
-    let found = found-alike context at other refl alike (inner_of context a x name children).pieces
-    (inner_of context b y name children).pieces inner.0 name inner.1 in (
-      ap (λ l. l ++ (outcome context a next rest).pieces)
-          (prints-alike context at other refl alike (inner_of context a x name children).pieces
-          (inner_of context b y name children).pieces inner.0 name is inner.1)
-          ∙ ap (λ l. prints context other name (inner_of context b y name children).pieces ++ l)
-          later.0,
-      ap (λ f. later_found f (outcome context a next rest).found) found
-          ∙ ap (λ f. later_found (node_of context b y lastt name start end children).found f)
-          later.1,
+    let ps = (inner_of context a x name children).pieces in
+    let qs = (inner_of context b y name children).pieces in (
+      rw (
+        prints-alike context at other refl alike ps qs inner.0 name (plain c name h fits.0)
+            inner.1,
+        later.0,
+      ) refl,
+      rw (later.1, found-alike context at other refl alike ps qs inner.0 name inner.1) refl,
     )

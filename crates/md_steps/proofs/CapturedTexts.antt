@@ -1,40 +1,24 @@
 -- A node's captured text and the one around it, and how the surroundings come back.
-use Rattle.std.proofs.Common.{◌≡◌, ℕ, Bool, true, false, not, ◌&&◌, List, [], ◌∷◌, Option, refl, ap}
-use Rattle.std.proofs.Common.{sym, ◌∙◌, unwrap_or}
+use Rattle.std.proofs.Common.{arith, ◌≡◌, ℕ, Bool, true, false, not, ◌&&◌, List, [], ◌∷◌, Option}
+use Rattle.std.proofs.Common.{refl, ap}
+use Rattle.std.proofs.Common.{◌∙◌}
 use Rattle.std.specs.Prelude.{if◌then◌else◌}
 use Rattle.std.proofs.lemmas.Bool.{and_from, and_parts}
 use Rattle.md_base.specs.declared.event.Name.{Name}
 use Rattle.md_base.specs.declared.event.Name.TheVariants as name_variants
-use name_variants.{SpaceOrTab, BlockQuotePrefix, Other, Definition, Resource, GfmFootnoteDefinition}
+use name_variants.{Definition, Resource, GfmFootnoteDefinition}
 use name_variants.{GfmFootnoteDefinitionPrefix, HeadingSetextText}
 use Rattle.md_base.proofs.Lies.{lie}
 use Rattle.md_base.specs.Is.{is}
-use Rattle.md_base.specs.Tree.{Forest, Empty, Node}
-use Rattle.md_base.specs.Children.{is_empty}
-use Rattle.md_meaning.specs.declared.surroundings.Surroundings.{Surroundings}
 use Rattle.md_meaning.specs.Meaning.Layout.{Piece, laid_after, layout}
-use Rattle.md_meaning.specs.Meaning.At.{Context, Before}
-use Rattle.md_meaning.specs.Meaning.Nodes.{outcome}
+use Rattle.md_meaning.specs.Meaning.At.{Context}
 use Rattle.md_steps.specs.Content.{Content, content_inside}
 use Rattle.md_steps.specs.State.{State, NodeFacts, Scope, captures}
 use Rattle.md_steps.specs.Sides.{closes}
 use Rattle.md_steps.specs.State.{outside}
 use Rattle.md_steps.specs.Steps.{first_or, others_of}
-use Rattle.md_steps.specs.Claim.{is_laid, node_of, next_before, before_past}
-use Rattle.md_steps.proofs.Past.{unwrap-else}
+use Rattle.md_steps.specs.Claim.{is_laid}
 use Rattle.md_steps.proofs.Standing.{is_set_aside, implies, follows, Facts}
-
--- ---- what a heading's text is after some nodes
-pub past-heading : (context : Context) (around : Surroundings) (before : Before) (forest : Forest) →
-    (before_past context around before forest).heading
-    ≡ unwrap_or (outcome context around before forest).found.heading before.heading
-past-heading context around before Empty = refl
-past-heading context around before (Node name start end children rest) =
-    let last : Bool = around.is_outermost && is_empty rest in
-    let next : Before = next_before context around before last name start end children in
-    past-heading context around next rest
-    ∙ sym (unwrap-else (outcome context around next rest).found.heading
-    (node_of context around before last name start end children).found.heading before.heading)
 
 -- ---- a node's captured text, and the one around it
 pub record Texts (context : Context) (c : Content) (name : Name) (opened : List ℕ)
@@ -54,7 +38,7 @@ pub texts : (context : Context) (c : Content) (name : Name) (opened : List ℕ)
     Texts context c name opened below pieces s
 texts context c name opened below pieces s allows laid kept = record {
   outer = λ h. outer (captures name) refl laid kept h;
-  inner = λ h. inner (captures name) (laid h);
+  inner = λ h. let said = laid h in grind arith;
   under = lower (captures name) kept;
 }
   where
@@ -65,12 +49,7 @@ texts context c name opened below pieces s allows laid kept = record {
         ≡ laid_after context.ending opened (if b then [] else pieces)
     outer true e l k h = ap (λ u. first_or [] u) k
     outer false e l k h =
-        l (allows.laid (and_from (is_laid c) (not (captures name)) h (ap (λ t. not t) e)))
-
-    inner : (b : Bool) → s.text ≡ laid_after context.ending (if b then [] else opened) pieces →
-        (if b then s.text else []) ≡ (if b then layout context.ending pieces else [])
-    inner true l = l
-    inner false l = refl
+        l (allows.laid (and_from _ _ h (ap (λ t. not t) e)))
 
     lower : (b : Bool) → s.below ≡ (if b then opened ∷ below else below) →
         (if b then others_of s.below else s.below) ≡ below
@@ -85,10 +64,7 @@ unread : (context : Context) (left : State) (ended : Option Name) (facts : NodeF
 unread context left ended facts x y c Resource h k = refl
 unread context left ended facts x y c Definition h k = refl
 unread context left ended facts x y c GfmFootnoteDefinitionPrefix h k = refl
-unread context left ended facts x y c SpaceOrTab h k = lie (sym h ∙ k)
-unread context left ended facts x y c BlockQuotePrefix h k = lie (sym h ∙ k)
-unread context left ended facts x y c (Other number) h k = lie (sym h ∙ k)
-unread context left ended facts x y c _ h k = lie (sym h)
+unread context left ended facts x y c _ h k = grind arith
 
 pub read : (context : Context) (left : State) (ended : Option Name) (facts : NodeFacts)
     (x y : List ℕ)
@@ -116,8 +92,7 @@ aside-captured c Resource = refl
 aside-captured c _ = refl
 
 pub aside-kept : (c : Content) (name : Name) → is_set_aside name ≡ true → Kept c name
-aside-kept c name h = and_parts (captures name) (is_laid (content_inside c name))
-    (follows (is_set_aside name) _ (aside-captured c name) h)
+aside-kept c name h = and_parts _ _ (follows (is_set_aside name) _ (aside-captured c name) h)
 
 pub footnote-kept : (c : Content) (name : Name) → is GfmFootnoteDefinition name ≡ true → Kept c name
 footnote-kept c GfmFootnoteDefinition h = (refl, refl)

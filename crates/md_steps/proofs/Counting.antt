@@ -6,10 +6,10 @@ use Rattle.std.specs.Option.{option_map_or}
 use Rattle.std.specs.List.{list_any}
 use Rattle.std.proofs.lemmas.List.Sums.{sum_by-append}
 use Rattle.std.proofs.lemmas.List.Folds.{list_any-append}
-use Rattle.std.proofs.Math.Bool.{or-false}
 use Rattle.md_base.specs.declared.event.Name.{Name}
 use Rattle.md_base.specs.declared.event.Name.TheVariants as name_variants
 use name_variants.{SpaceOrTab, BlockQuotePrefix, Other, GfmTableCell}
+use Rattle.std.proofs.lemmas.Bool.{cond-false}
 use Rattle.md_base.proofs.Lies.{lie}
 use Rattle.md_base.specs.Is.{is}
 use Rattle.md_base.specs.Children.{spine_names}
@@ -44,11 +44,7 @@ marker-after c name spine children inner k h = sym (mark-push spine name)
 -- ---- cells
 count-push : (p : Name → Bool) (xs : List Name) (x : Name) →
     count_by p (xs ++ x ∷ []) ≡ count_by p xs + cond (p x) 1 0
-count-push p xs x = sum_by-append (λ y. cond (p y) 1 0) xs (x ∷ [])
-    ∙ ap (λ n. count_by p xs + n) (zero_plus (cond (p x) 1 0))
-  where
-    zero_plus : (n : ℕ) → 0 + n ≡ n
-    zero_plus n = omega arith
+count-push p xs x = omega (arith, sum_by-append (λ y. cond (p y) 1 0) xs (x ∷ []))
 
 in_row : (name : Name) (spine : List Name) (start inner : ℕ) → is_cell name ≡ true →
     start ≡ count_by (is GfmTableCell) spine → inner ≡ start →
@@ -57,17 +53,13 @@ in_row GfmTableCell spine start inner h k keep =
     ap (λ n. n + 1) (keep ∙ k) ∙ sym (count-push (is GfmTableCell) spine GfmTableCell)
 in_row _ spine start inner h k keep = lie h
 
-pub when_not : {A : Type 0} (b : Bool) (x y : A) → b ≡ false → (if b then x else y) ≡ y
-when_not true x y h = lie (sym h)
-when_not false x y h = refl
-
 in-cells : (c : Content) (name : Name) (spine : List Name) (start inner : ℕ) → Facts c name →
     is_transparent name ≡ false → KnowsCells c spine start →
     (keeps_cells (content_inside c name) ≡ true → inner ≡ (if is_row name then 0 else start)) →
     KnowsCells (content_past c) (spine ++ name ∷ []) (cells_after name inner)
 in-cells Cells name spine start inner facts solid k keep =
     let f = facts.in_cells (ap (λ t. not t) solid) in
-    in_row name spine start inner f.2 k (keep f.0 ∙ when_not (is_row name) 0 start f.1)
+    in_row name spine start inner f.2 k (keep f.0 ∙ cond-false (is_row name) 0 start f.1)
 in-cells _ name spine start inner facts solid k keep = tt
 
 pub cells-known :
@@ -94,27 +86,18 @@ pub cells-kept : (c : Content) (name : Name) (start inner : ℕ) → Facts c nam
     keeps_cells c ≡ true → cells_after name inner ≡ start
 cells-kept c name start inner facts keep h =
     let f = facts.cells h in
-    no-cell name inner f.2 ∙ keep f.0 ∙ when_not (is_row name) 0 start f.1
+    no-cell name inner f.2 ∙ keep f.0 ∙ cond-false (is_row name) 0 start f.1
 
 -- ---- fences and chunks
 abbrev fences_after : Name → ℕ → ℕ
 fences_after name fences = if is_fence name then fences + 1 else fences
 
 plus_if : (b : Bool) (n : ℕ) → (if b then n + 1 else n) ≡ n + cond b 1 0
-plus_if true n = refl
-plus_if false n = omega arith
-
-or_comm : (a b : Bool) → a || b ≡ b || a
-or_comm true true = refl
-or_comm true false = refl
-or_comm false true = refl
-or_comm false false = refl
+plus_if b n = grind arith
 
 chunk-push : (p : Name → Bool) (xs : List Name) (x : Name) →
     list_any p (xs ++ x ∷ []) ≡ p x || list_any p xs
-chunk-push p xs x =
-    list_any-append p xs (x ∷ []) ∙ ap (λ b. list_any p xs || b) (or-false (p x))
-    ∙ or_comm (list_any p xs) (p x)
+chunk-push p xs x = grind (arith, list_any-append p xs (x ∷ []))
 
 in-lines : (c : Content) (name : Name) (spine : List Name) (fences inner : ℕ)
     (chunk within : Bool) → Facts c name →
@@ -125,10 +108,10 @@ in-lines : (c : Content) (name : Name) (spine : List Name) (fences inner : ℕ)
     (is_chunk name || within)
 in-lines Lines name spine fences inner chunk within facts solid k keep keeps =
     let f = facts.in_lines (ap (λ t. not t) solid) in (
-      ap (λ n. fences_after name n) (keep f.0 ∙ when_not (is_raw name) 0 fences f.1 ∙ k.0)
+      ap (λ n. fences_after name n) (keep f.0 ∙ cond-false (is_raw name) 0 fences f.1 ∙ k.0)
           ∙ plus_if (is_fence name) (count_by is_fence spine)
           ∙ sym (count-push is_fence spine name),
-      ap (λ b. is_chunk name || b) (keeps f.0 ∙ when_not (is_raw name) false chunk f.1 ∙ k.1)
+      ap (λ b. is_chunk name || b) (keeps f.0 ∙ cond-false (is_raw name) false chunk f.1 ∙ k.1)
           ∙ sym (chunk-push
           is_chunk spine name),
     )
@@ -156,11 +139,12 @@ pub fences-kept : (c : Content) (name : Name) (fences inner : ℕ) → Facts c n
     keeps_lines c ≡ true → fences_after name inner ≡ fences
 fences-kept c name fences inner facts keep h =
     let f = facts.lines h in
-    when_not (is_fence name) (inner + 1) inner f.2 ∙ keep f.0 ∙ when_not (is_raw name) 0 fences f.1
+    cond-false (is_fence name) (inner + 1) inner f.2 ∙ keep f.0 ∙ cond-false (is_raw name) 0 fences
+    f.1
 
 pub chunk-kept : (c : Content) (name : Name) (chunk within : Bool) → Facts c name →
     (keeps_lines (content_inside c name) ≡ true → within ≡ (if is_raw name then false else chunk)) →
     keeps_lines c ≡ true → is_chunk name || within ≡ chunk
 chunk-kept c name chunk within facts keeps h =
     let f = facts.lines h in
-    ap (λ b. b || within) f.3 ∙ keeps f.0 ∙ when_not (is_raw name) false chunk f.1
+    ap (λ b. b || within) f.3 ∙ keeps f.0 ∙ cond-false (is_raw name) false chunk f.1

@@ -1,5 +1,5 @@
 -- What a definition defines doesn't depend on where it stands.
-use Rattle.std.proofs.Common.{◌≡◌, Bool, true, false, ◌&&◌, List, [], ◌∷◌, ◌++◌, refl, ap, sym, ◌∙◌}
+use Rattle.std.proofs.Common.{◌≡◌, Bool, true, false, ◌&&◌, [], ◌∷◌, ◌++◌, refl, ap, sym, ◌∙◌}
 use Rattle.std.proofs.Common.{append-nil, unwrap_or}
 use Rattle.std.specs.Prelude.{if◌then◌else◌}
 use Rattle.md_base.specs.declared.event.Name.{Name}
@@ -19,54 +19,23 @@ use Rattle.md_meaning.specs.Meaning.At.{Context, Before, target_in, identifier_o
 use Rattle.md_meaning.specs.Meaning.Before.{before_children, nothing_before}
 use Rattle.md_meaning.specs.Meaning.Nodes.{outcome}
 use Rattle.md_content.specs.Underlined.{IsUnderlined, waits_after, waits_past}
-use Rattle.md_steps.specs.Content.{Content, Blocks, BeforeLabel, Sources, Fits, is_allowed}
-use Rattle.md_steps.specs.Content.{content_inside, content_past, content_after_node}
+use Rattle.md_steps.specs.Content.{Content, Blocks, Sources, Fits, is_allowed}
+use Rattle.md_steps.specs.Content.{content_inside, content_after_node}
 use Rattle.md_steps.specs.State.{State, facts_of}
 use Rattle.md_steps.specs.Steps.{entered, over, beginning, is_passed}
 use Rattle.md_steps.specs.Claim.{Done, inner_of, next_before}
 use Rattle.md_steps.specs.Run.{defined}
 use Rattle.md_steps.proofs.Past.{or_else-none}
-use Rattle.md_steps.proofs.Standing.{allowed-facts, is_callless}
-use Rattle.md_steps.proofs.Staying.{node-same}
+use Rattle.md_steps.proofs.Staying.{node-same, past-as}
 use Rattle.md_steps.proofs.Inside.{children_know}
 use Rattle.md_steps.proofs.Runs.{nodes, begins}
-use Rattle.md_steps.proofs.Quiet.{no-calls, past-callless}
-use Rattle.md_steps.proofs.AlikeStrings.{is_plain, plain, outcomes-alike}
+use Rattle.md_steps.proofs.Quiet.{no-calls}
+use Rattle.md_steps.proofs.AlikeStrings.{outcomes-alike}
 use Rattle.md_steps.proofs.BlocksApart.{is_blocks, Open, open-inside}
-
-past-blocks : (c : Content) → is_blocks (content_past c) ≡ is_blocks c
-past-blocks BeforeLabel = refl
-past-blocks _ = refl
 
 defined_at : (c : Content) → is_allowed c Definition ≡ true → is_blocks c ≡ true
 defined_at Blocks h = refl
 defined_at _ h = lie h
-
-plain-defines : (name : Name) → is_plain name ≡ true → is Definition name ≡ false
-plain-defines Definition h = lie h
-plain-defines _ h = refl
-
-no-definitions :
-    (context : Context) (around : Surroundings) (before : Before) (c : Content) (forest : Forest) →
-    is_callless c ≡ true → Fits c forest → (outcome context around before forest).definitions ≡ []
-no-definitions context around before c Empty h fits = refl
-no-definitions context around before c (Node name start end children rest) h fits =
-    let facts = (allowed-facts c name fits.0).callless h in
-    let last : Bool = around.is_outermost && is_empty rest in
-    let next = next_before context around before last name start end children in
-    none (inner_of context around before name children).definitions
-    (outcome context around next rest).definitions
-    (is Definition name) _
-    (no-definitions context (inside context.options (is_loose children) name around)
-    (before_children name children before)
-    (content_inside c name) children facts.0 fits.1) (plain-defines name (plain c name h fits.0))
-    (no-definitions context around next (content_after_node c name children) rest
-    (node-same is_callless past-callless c name children ∙ h) fits.2)
-  where
-    none : {A : Type 0} (a b : List A) (t : Bool) (x : A) → a ≡ [] → t ≡ false → b ≡ [] →
-        (a ++ when t (x ∷ [])) ++ b ≡ []
-    none a b t x h k l =
-        ap (λ m. (m ++ when t (x ∷ [])) ++ b) h ∙ ap (λ u. when u (x ∷ []) ++ b) k ∙ l
 
 -- the target of a definition is the one that its own events give
 target-defined : (context : Context) (around : Surroundings) (before : Before) (start end : Point)
@@ -127,7 +96,8 @@ defined-known context around before c waits (Node name start end children rest)
     } ∷ [] else defined context children) ++ l)
     (defined-known context around next (content_after_node c name children)
     (if is_transparent name then waits_after waits children else waits_past waits name) rest fits.2
-    lines.2 (λ k. plain_there (sym (node-same is_blocks past-blocks c name children) ∙ k)))
+    lines.2 (λ k. plain_there (sym (node-same is_blocks (past-as is_blocks refl) c name children) ∙
+    k)))
   where
     here : (n : Name) → is_allowed c n ≡ true → Fits (content_inside c n) children →
         IsUnderlined (if is_transparent n then waits else false) children →
@@ -141,13 +111,10 @@ defined-known context around before c waits (Node name start end children rest)
               (facts_of context.bytes false children start end) Definition beginning)).target;
         } ∷ [] else defined context children)
     here Definition h f l again =
-        ap (λ ds. ds ++ record {
-          identifier = identifier_of context.bytes children;
-          target = target_in (inner_of context around before Definition children).found;
-        } ∷ []) (no-definitions context (inside context.options (is_loose children) Definition
-        around)
-        (before_children Definition children before) Sources children refl f)
-        ∙ ap (λ t. record { identifier = identifier_of context.bytes children; target = t } ∷ [])
-        (target-defined context around before start end children (plain_there (defined_at c h)).0
-        (plain_there (defined_at c h)).1 f l)
+        rw (
+          (no-calls context (inside context.options (is_loose children) Definition around)
+              (before_children Definition children before) Sources children refl f).2,
+          target-defined context around before start end children (plain_there (defined_at c h)).0
+              (plain_there (defined_at c h)).1 f l,
+        ) refl
     here _ h f l again = append-nil _ ∙ again

@@ -1,28 +1,26 @@
 -- What a state knows of a node where it is left, and what is printed at the two ends of nodes whose
 -- ends look at more than the node.
-use Rattle.std.proofs.Common.{◌≡◌, ℕ, ◌+◌, ◌==◌, suc, Bool, true, false, not, ◌&&◌, ◌||◌, List, []}
+use Rattle.std.proofs.Common.{◌≡◌, ℕ, ◌==◌, Bool, true, false, not, ◌&&◌, List, []}
 use Rattle.std.proofs.Common.{◌∷◌, ◌++◌, Option, Some, None, refl, ap, sym, ◌∙◌, append_assoc}
-use Rattle.std.proofs.Common.{arith, ne_eqb, codes, cond}
+use Rattle.std.proofs.Common.{arith, codes, cond}
 use Rattle.std.proofs.lemmas.List.Sums.{sum_by-cons}
-use Rattle.std.specs.Prelude.{count_by, unwrap_or, if◌then◌else◌}
+use Rattle.std.specs.Prelude.{count_by, unwrap_or}
 use Rattle.std.specs.Option.{option_map_or}
 use Rattle.std.specs.List.{list_any}
-use Rattle.std.specs.Fmt.{decimal}
 use Rattle.md_base.specs.declared.event.AlignKind.{AlignKind}
 use Rattle.md_base.specs.declared.event.Name.{Name}
 use Rattle.md_base.specs.declared.event.Name.TheVariants.{GfmTableCell}
 use Rattle.md_base.specs.Is.{is}
 use Rattle.md_base.specs.Children.{spine_names, last_name}
 use Rattle.md_base.specs.NameTests.{is_transparent, is_fence, is_chunk, is_cell, is_call}
-use Rattle.md_meaning.specs.Meaning.Layout.{Piece, Text, said, when}
-use Rattle.md_meaning.specs.Meaning.At.{Context, At, Target, identifier_of, target_in}
-use Rattle.md_meaning.specs.Meaning.At.{nothing_found}
+use Rattle.md_meaning.specs.Meaning.Layout.{Piece, said, when}
+use Rattle.md_meaning.specs.Meaning.At.{Context, At, identifier_of}
 use Rattle.md_meaning.specs.Meaning.Media.{leads_to, target_defined}
 use Rattle.md_tree.specs.declared.mention.Referral.TheVariants.{Missing}
 use Rattle.md_tree.specs.Rules.{target_of}
 use Rattle.md_meaning.specs.Meaning.Before.{is_first_fence}
 use Rattle.md_meaning.specs.Meaning.Tables.{cell_of}
-use Rattle.md_meaning.specs.Meaning.Footnotes.{call, call_id, count_of, distinct, id_of}
+use Rattle.md_meaning.specs.Meaning.Footnotes.{call, distinct}
 use Rattle.md_meaning.specs.Meaning.Footnotes.{place_among}
 use Rattle.md_content.specs.Underlined.{is_underline}
 use Rattle.md_steps.specs.State.{State, NodeFacts, facts_of, is_resource}
@@ -69,22 +67,14 @@ cell_sides head (Some kind) text = refl
 
 pub list_sides : (a b c inner d : List Piece) →
     a ++ (b ++ (c ++ (inner ++ d))) ≡ (a ++ (b ++ c)) ++ (inner ++ d)
-list_sides a b c inner d =
-    sym (append_assoc a (b ++ c) (inner ++ d) ∙ ap (λ l. a ++ l) (append_assoc b c (inner ++ d)))
+list_sides a b c inner d = simp append_assoc
 
 -- no fence among names is none counted
 pub none-counted : (test : Name → Bool) (names : List Name) →
     (count_by test names == 0) ≡ not (list_any test names)
 none-counted test [] = refl
 none-counted test (name ∷ names) =
-    ap (λ n. n == 0) (sum_by-cons (λ n. cond (test n) 1 0) name names) ∙ elim (test name) as
-    (λ b. (cond b 1 0 + count_by test names == 0) ≡ not (b || list_any test names)) [
-      | true ↦ ne_eqb (1 + count_by test names) 0 (λ e. omega (arith, e))
-      | false ↦ ap (λ n. n == 0) (zero_plus (count_by test names)) ∙ none-counted test names
-    ]
-  where
-    zero_plus : (n : ℕ) → 0 + n ≡ n
-    zero_plus n = omega arith
+    grind (arith, sum_by-cons (λ n. cond (test n) 1 0) name names, none-counted test names)
 
 pub fence-sides : (at : At) (left : State) (inner : List Piece) →
     left.fences ≡ count_by is_fence at.before.spine →
@@ -101,31 +91,17 @@ pub call-sides : (context : Context) (at : At) (left : State) → at.calls ≡ l
     (facts_at context at)
 call-sides context at left calls later whole =
     let id : List ℕ = identifier_of context.bytes at.children in
-    ap (λ n. pieces n at.calls)
-    (ap (λ l. place_among (distinct l) id) whole ∙ place-so-far at.calls id later)
-    ∙ ap (λ cs. pieces (place_among (distinct (cs ++ id ∷ [])) id) cs) calls
-  where
-    pieces : ℕ → List (List ℕ) → List Piece
-    pieces number calls = when (not at.around.in_image) (Text (codes "<sup><a href=\"#")
-        ∷ Text (id_of context.options (codes "fn-") (identifier_of context.bytes at.children)
-        number)
-        ∷ Text (codes "\" id=\"")
-        ∷ Text (call_id context.options (identifier_of context.bytes at.children) number
-        (suc (count_of calls (identifier_of context.bytes at.children))))
-        ∷ Text (codes "\" data-footnote-ref=\"\" aria-describedby=\"footnote-label\">")
-        ∷ Text (decimal number) ∷ Text (codes "</a></sup>") ∷ [])
+    rw (ap (λ l. place_among (distinct l) id) whole ∙ place-so-far at.calls id later, calls) refl
 
 -- a resource that the meaning found, or the definition to which the node refers
 pub led-sides : (context : Context) (at : At) →
     (at.found.resource ≡ None → is_resource (target_of at.children Missing) ≡ false) →
     leads_to context at ≡ unwrap_or at.found.resource (referred context (facts_at context at))
 led-sides context at refers =
-    by at.found.resource (is_resource (target_of at.children Missing)) refers
-  where
-    by : (o : Option Target) (b : Bool) → (o ≡ None → b ≡ false) →
-        unwrap_or o (target_defined context (identifier_of context.bytes at.children))
-        ≡ unwrap_or o (if b then target_in nothing_found
-        else target_defined context (identifier_of context.bytes at.children))
-    by None b h = ap (λ t. if t then target_in nothing_found
-        else target_defined context (identifier_of context.bytes at.children)) (sym (h refl))
-    by (Some target) b h = refl
+    elim at.found.resource as (λ o.
+    (o ≡ None → is_resource (target_of at.children Missing) ≡ false) →
+    unwrap_or o (target_defined context (identifier_of context.bytes at.children))
+    ≡ unwrap_or o (referred context (facts_at context at))) [
+      | None ↦ λ h. rw (h refl) refl
+      | Some target ↦ λ h. refl
+    ] refers

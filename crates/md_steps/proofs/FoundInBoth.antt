@@ -6,17 +6,13 @@ use Rattle.md_base.specs.Tree.{Forest}
 use Rattle.md_base.specs.Children.{or_else}
 use Rattle.md_meaning.specs.Meaning.At.{Target, Found}
 use Rattle.md_steps.specs.Content.{Content, Strings, BeforeLabel, AfterLabel, Sources, Nothing}
-use Rattle.md_steps.specs.Content.{Childless, content_past, content_after_node}
+use Rattle.md_steps.specs.Content.{Childless, content_after_node}
 use Rattle.md_steps.specs.Claim.{TargetAfter, ResourceAfter}
 use Rattle.md_steps.proofs.Past.{or_else-assoc, unwrap-else}
-use Rattle.md_steps.proofs.Staying.{node-same, node-stays}
+use Rattle.md_steps.proofs.Staying.{node-same, past-as, node-stays}
 
 abbrev is_media : Content → Bool
 is_media c = elim c [ BeforeLabel ↦ true | AfterLabel ↦ true | _ ↦ false ]
-
-past-media : (c : Content) → is_media (content_past c) ≡ is_media c
-past-media BeforeLabel = refl
-past-media _ = refl
 
 media-after : (c : Content) (found : Found) (one other : Option Target) → is_media c ≡ true →
     ResourceAfter c found one other → other ≡ or_else found.resource one
@@ -44,19 +40,15 @@ target-both Nothing name children one two a b d k l =
 target-both Childless name children one two a b d k l =
     subst (λ c. TargetAfter c two b d) (node-stays Childless name children refl) l ∙ k
 target-both Sources name children one two a b d k l =
-    subst (λ c. TargetAfter c two b d) (node-stays Sources name children refl) l
+    rw (
+      unwrap-else two.destination one.destination a.destination,
+      or_else-assoc two.title one.title a.title,
+    )
+    (subst (λ c. TargetAfter c two b d) (node-stays Sources name children refl) l
     ∙ ap (λ (t : Target). record {
       destination = unwrap_or two.destination t.destination;
       title = or_else two.title t.title;
-    }) k
-    ∙ ap (λ x. record {
-      destination = x;
-      title = or_else two.title (or_else one.title a.title);
-    }) (sym (unwrap-else two.destination one.destination a.destination))
-    ∙ ap (λ x. record {
-      destination = unwrap_or (or_else two.destination one.destination) a.destination;
-      title = x;
-    }) (sym (or_else-assoc two.title one.title a.title))
+    }) k)
 target-both _ name children one two a b d k l = tt
 
 pub resource-both : (c : Content) (name : Name) (children : Forest) (one two : Found)
@@ -71,10 +63,10 @@ resource-both Childless name children one two a b d k l =
     subst (λ c. ResourceAfter c two b d) (node-stays Childless name children refl) l ∙ k
 resource-both BeforeLabel name children one two a b d k l =
     media-after (content_after_node BeforeLabel name children) two b d
-    (node-same is_media past-media BeforeLabel name children) l
+    (node-same is_media (past-as is_media refl) BeforeLabel name children) l
     ∙ ap (λ r. or_else two.resource r) k ∙ sym (or_else-assoc two.resource one.resource a)
 resource-both AfterLabel name children one two a b d k l =
     media-after (content_after_node AfterLabel name children) two b d
-    (node-same is_media past-media AfterLabel name children) l
+    (node-same is_media (past-as is_media refl) AfterLabel name children) l
     ∙ ap (λ r. or_else two.resource r) k ∙ sym (or_else-assoc two.resource one.resource a)
 resource-both _ name children one two a b d k l = tt

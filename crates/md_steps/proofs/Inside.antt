@@ -1,6 +1,6 @@
 -- What a state knows where a node's children begin.
-use Rattle.std.proofs.Common.{◌≡◌, ℕ, Bool, true, false, not, ◌&&◌, List, [], Option, None}
-use Rattle.std.proofs.Common.{refl, ap, sym, ◌∙◌}
+use Rattle.std.proofs.Common.{arith, ◌≡◌, ℕ, Bool, true, false, not, ◌&&◌, List, [], Option, None}
+use Rattle.std.proofs.Common.{refl, ap, ◌∙◌}
 use Rattle.std.specs.Prelude.{if◌then◌else◌}
 use Rattle.md_base.specs.declared.event.Name.{Name}
 use Rattle.md_base.specs.declared.event.Name.TheVariants as name_variants
@@ -33,37 +33,20 @@ ended-inside : (c : Content) (name : Name) (ended : Option Name) →
 ended-inside c LineEnding ended = tt
 ended-inside c other ended = any_ended (content_inside c other) None
 
-through-value : (name : Name) → implies (is_transparent name) (is_value name) ≡ true
-through-value LineEnding = refl
-through-value _ = refl
-
-value-marks : (name : Name) →
-    implies (not (is_transparent name) && is_value name) (not (has_marks (content_of name))) ≡ true
-value-marks LineEnding = refl
-value-marks _ = refl
+told : (name : Name) → (implies (is_transparent name) (is_value name) ≡ true)
+    × (implies (not (is_transparent name) && is_value name) (not (has_marks (content_of name)))
+    ≡ true)
+    × (implies (is_lines (content_of name)) (is_raw name) ≡ true)
+    × (implies (is_transparent name) (not (is_raw name)) ≡ true)
+told LineEnding = (refl, refl, refl, refl)
+told _ = (refl, refl, refl, refl)
 
 marker-inside : (c : Content) (name : Name) (spine : List Name) (m : ℕ) →
     (has_marks c ≡ true → m ≡ mark_after spine) → has_marks (content_inside c name) ≡ true →
     (if is_value name then m else 38) ≡ mark_after (if is_transparent name then spine else [])
-marker-inside c name spine m k =
-    by (is_transparent name) (is_value name) (through-value name) (value-marks name)
-  where
-    by : (t v : Bool) → implies t v ≡ true →
-        implies (not t && v) (not (has_marks (content_of name))) ≡ true →
-        has_marks (if t then c else content_of name) ≡ true →
-        (if v then m else 38) ≡ mark_after (if t then spine else [])
-    by true true h l e = k e
-    by true false h l e = lie h
-    by false true h l e = lie (ap (λ b. not b) (sym e) ∙ l)
-    by false false h l e = refl
-
-raw-lines : (name : Name) → implies (is_lines (content_of name)) (is_raw name) ≡ true
-raw-lines LineEnding = refl
-raw-lines _ = refl
-
-through-raw : (name : Name) → implies (is_transparent name) (not (is_raw name)) ≡ true
-through-raw LineEnding = refl
-through-raw _ = refl
+marker-inside c name spine m k h =
+    let t = told name in
+    grind arith
 
 begin-lines : (c : Content) (raw : Bool) (fences : ℕ) (chunk : Bool) →
     implies (is_lines c) raw ≡ true →
@@ -77,7 +60,7 @@ lines-inside : (c : Content) (name : Name) (spine : List Name) (fences : ℕ) (c
     KnowsLines (content_inside c name) (if is_transparent name then spine else [])
     (if is_raw name then 0 else fences) (if is_raw name then false else chunk)
 lines-inside c name spine fences chunk k =
-    by (is_transparent name) (is_raw name) (through-raw name) (raw-lines name)
+    by (is_transparent name) (is_raw name) (told name).3 (told name).2
   where
     by : (t r : Bool) → implies t (not r) ≡ true → implies (is_lines (content_of name)) r ≡ true →
         KnowsLines (if t then c else content_of name) (if t then spine else [])

@@ -1,5 +1,6 @@
 -- The other parts of a state where a node is left: headings, calls, footnotes, endings to slurp.
-use Rattle.std.proofs.Common.{◌≡◌, ℕ, ◌==◌, Bool, true, false, ◌&&◌, ◌||◌, List, [], ◌∷◌, ◌++◌}
+use Rattle.std.proofs.Common.{arith, ◌≡◌, ℕ, ◌==◌, Bool, true, false, ◌&&◌, ◌||◌, List, [], ◌∷◌}
+use Rattle.std.proofs.Common.{◌++◌}
 use Rattle.std.proofs.Common.{refl, ap, sym, ◌∙◌, append_assoc, append-nil, unwrap_or}
 use Rattle.std.specs.Prelude.{if◌then◌else◌, count_by}
 use Rattle.md_base.specs.declared.event.Name.{Name}
@@ -19,7 +20,6 @@ use Rattle.md_steps.specs.Steps.{heading_after, calls_after, noted, footnotes_af
 use Rattle.md_steps.specs.Claim.{noted_all, seen}
 use Rattle.md_steps.proofs.Noted.{noted-append}
 use Rattle.md_steps.proofs.EachSide.{none-counted}
-use Rattle.md_steps.proofs.Standing.{picked}
 
 -- ---- the text of a heading
 pub heading-known : (name : Name) (at : At) (waits after : Bool) (inner text heading : List ℕ) →
@@ -75,11 +75,6 @@ fence-lets : (name : Name) (at : At) (slurps : Bool) →
 fence-lets LineEnding at slurps = refl
 fence-lets _ at slurps = refl
 
-or_falses : (a s : Bool) → a || s ≡ a || false || false || false || s && true
-or_falses true s = refl
-or_falses false true = refl
-or_falses false false = refl
-
 -- any other name by the surroundings alone
 abbrev slurping : At → Bool → Bool → Name → Bool → Bool
 slurping at defines code name slurps = if defines then slurps
@@ -96,38 +91,22 @@ SlurpsSo defines code slurps name at left =
 
 slurps-so : (defines code slurps : Bool) (name : Name) (at : At) (left : State) →
     SlurpsSo defines code slurps name at left
-slurps-so true code slurps LineEnding at left = refl
-slurps-so true code slurps _ at left = refl
-slurps-so false true true LineEnding at left = refl
-slurps-so false true true _ at left = refl
-slurps-so false true false LineEnding at left = refl
-slurps-so false true false _ at left = refl
-slurps-so false false true LineEnding at left = refl
-slurps-so false false true _ at left = refl
-slurps-so false false false LineEnding at left = refl
-slurps-so false false false _ at left = refl
+slurps-so true true true LineEnding at left = refl
+slurps-so _ true true LineEnding at left = refl
+slurps-so _ _ true LineEnding at left = refl
+slurps-so _ _ _ LineEnding at left = refl
+slurps-so _ _ _ _ at left = refl
 
 pub slurps-known : (name : Name) (at : At) (left : State) (inner : Bool) → left.slurps ≡ inner →
     (is_fence name ≡ true → left.fences ≡ count_by is_fence at.before.spine) →
     slurps_after name (record left { scope = seen at.around at.before.columns })
     ≡ (if at.around.in_definition then inner else lets_slurp at name inner)
 slurps-known name at left inner k fence =
-    by (is_fence name) refl
-    ∙ ap (λ s. if at.around.in_definition then s else lets_slurp at name s) k
-  where
-    by : (b : Bool) → is_fence name ≡ b →
-        slurps_after name (record left { scope = seen at.around at.before.columns })
-        ≡ (if at.around.in_definition then left.slurps else lets_slurp at name left.slurps)
-    by true e =
-        picked (is_fence name) _ _
-        (fence-slurps name (record left { scope = seen at.around at.before.columns })) e
-        ∙ ap (λ b. if at.around.in_definition then left.slurps else b || left.slurps)
-        (ap (λ n. n == 0) (fence e) ∙ none-counted is_fence at.before.spine)
-        ∙ ap (λ b. if at.around.in_definition then left.slurps else b)
-        (or_falses (is_first_fence at) left.slurps
-        ∙ sym (picked (is_fence name) _ _ (fence-lets name at left.slurps) e))
-    by false e =
-        ap (λ b. if b
-        then slurping at at.around.in_definition at.around.in_code name left.slurps
-        else slurps_after name (record left { scope = seen at.around at.before.columns })) (sym e)
-        ∙ slurps-so at.around.in_definition at.around.in_code left.slurps name at left
+    let counted : is_fence name ≡ true → (left.fences == 0) ≡ is_first_fence at =
+    λ e. ap (λ n. n == 0) (fence e) ∙ none-counted is_fence at.before.spine in
+    grind (
+      arith,
+      fence-lets name at inner,
+      fence-slurps name (record left { scope = seen at.around at.before.columns }),
+      slurps-so at.around.in_definition at.around.in_code left.slurps name at left,
+    )

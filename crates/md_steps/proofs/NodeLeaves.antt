@@ -1,5 +1,5 @@
 -- What is known of a node where it is left.
-use Rattle.std.proofs.Common.{◌≡◌, ℕ, Bool, true, false, not, List, [], ◌∷◌, ◌++◌, Option}
+use Rattle.std.proofs.Common.{◌≡◌, ℕ, Bool, true, false, List, [], ◌∷◌, ◌++◌, Option}
 use Rattle.std.proofs.Common.{None, refl, ap, sym, subst, ◌∙◌}
 use Rattle.std.specs.Prelude.{if◌then◌else◌, count_by}
 use Rattle.std.specs.List.{list_any}
@@ -23,26 +23,41 @@ use Rattle.md_steps.specs.Content.{Content, Lines, BeforeLabel, Cells, Nothing, 
 use Rattle.md_steps.specs.Content.{is_allowed}
 use Rattle.md_steps.specs.Content.{content_inside, content_after, content_after_node}
 use Rattle.md_steps.specs.State.{State, facts_of}
-use Rattle.md_steps.specs.Steps.{entered, restored, is_raw, is_row, is_ending, is_value}
+use Rattle.md_steps.specs.Steps.{entered, restored, is_raw, is_row, is_ending}
 use Rattle.md_steps.specs.Steps.{is_labelled}
 use Rattle.md_steps.specs.Claim.{Knows, KnowsEnded, KnowsCells, KnowsLines, TargetAfter}
 use Rattle.md_steps.specs.Claim.{ResourceAfter, Done, noted_all, has_marks, keeps_cells}
 use Rattle.md_steps.specs.Claim.{keeps_lines, is_laid, at_node, node_of, inner_of, next_before}
 use Rattle.md_steps.specs.Claim.{before_past}
-use Rattle.md_steps.proofs.Past.{past-spine, past-previous, past-calls, or_else-none}
+use Rattle.md_steps.proofs.Past.{past, or_else-none}
 use Rattle.md_steps.proofs.EachSide.{Leaves, is_reference}
-use Rattle.md_steps.proofs.Standing.{Facts, is_lines, picked}
+use Rattle.md_steps.proofs.Standing.{Facts, allowed-facts, is_lines, picked}
 use Rattle.md_steps.proofs.Staying.{stays, childless}
 use Rattle.md_steps.proofs.ResourceFound.{resource-found}
 use Rattle.md_tree.specs.declared.mention.Referral.TheVariants.{Missing}
 
-abbrev pub ChildrenDone : Context → Content → Bool → Surroundings → Before → Bool → Name → Point →
-    Point → Forest → State →
-    State → Type 0
-ChildrenDone context c waits around before last name start end children state s =
-    Done context (content_inside c name) (if is_transparent name then waits else false)
-    (inside context.options (is_loose children) name around) (before_children name children before)
-    children (entered context (facts_of context.bytes last children start end) name state) s
+-- the call that a node is
+abbrev pub own_call : Name → List ℕ → List (List ℕ)
+own_call name identifier = if is GfmFootnoteCall name then identifier ∷ [] else []
+
+-- a node whose children are done, and the calls after it
+pub record Reached (context : Context) (c : Content) (waits : Bool) (around : Surroundings)
+    (before : Before) (last : Bool) (name : Name) (start end : Point) (children : Forest)
+    (state s : State) : Type 0 where
+  pub allowed : is_allowed c name ≡ true
+  pub fits : Fits (content_inside c name) children
+  pub line : is_underline name ≡ true → (waits ≡ true) × (spine_names children ≡ [])
+  pub knows : Knows c waits around before state
+  pub done : Done context (content_inside c name) (if is_transparent name then waits else false)
+      (inside context.options (is_loose children) name around)
+      (before_children name children before)
+      children (entered context (facts_of context.bytes last children start end) name state) s
+  pub same : children ≡ Empty →
+      s ≡ entered context (facts_of context.bytes last children start end) name state
+  pub later : List (List ℕ)
+  pub whole : context.calls
+      ≡ ((before.calls ++ (inner_of context around before name children).calls)
+      ++ own_call name (identifier_of context.bytes children)) ++ later
 
 -- a node is done
 pub record NodeDone (context : Context) (c : Content) (waits : Bool) (around : Surroundings)
@@ -96,66 +111,33 @@ marks_at Childless name facts solid = lie (sym solid ∙ facts.nothing refl)
 marks_at _ name facts solid = refl
 
 -- ---- the content of a node that passes a test, computed for all names
-reference-marks : (c : Content) (name : Name) →
-    (if is_reference name then has_marks (content_inside c name) else false) ≡ false
-reference-marks c Data = refl
-reference-marks c _ = refl
+abbrev Told : Content → Name → Type 0
+Told c name =
+    ((if is_reference name then has_marks (content_inside c name) else false) ≡ false)
+    × ((if is_underline name then has_marks (content_inside c name) else false) ≡ false)
+    × ((if is_ending name then content_inside c name else Childless) ≡ Childless)
+    × ((if is_raw name then content_inside c name else Lines) ≡ Lines)
+    × ((if is_row name then content_inside c name else Cells) ≡ Cells)
+    × ((if is_labelled name then content_inside c name else BeforeLabel) ≡ BeforeLabel)
+    × ((if is_fence name then keeps_lines (content_inside c name) else true) ≡ true)
+    × ((if is_fence name then is_raw name else false) ≡ false)
+    × ((if is_raw name then is_transparent name else false) ≡ false)
+    × ((if is_row name then is_transparent name else false) ≡ false)
 
-underline-marks : (c : Content) (name : Name) →
-    (if is_underline name then has_marks (content_inside c name) else false) ≡ false
-underline-marks c Data = refl
-underline-marks c _ = refl
-
-ending-content : (c : Content) (name : Name) →
-    (if is_ending name then content_inside c name else Childless) ≡ Childless
-ending-content c Data = refl
-ending-content c _ = refl
-
-raw-content : (c : Content) (name : Name) →
-    (if is_raw name then content_inside c name else Lines) ≡ Lines
-raw-content c Data = refl
-raw-content c _ = refl
-
-row-content : (c : Content) (name : Name) →
-    (if is_row name then content_inside c name else Cells) ≡ Cells
-row-content c Data = refl
-row-content c _ = refl
-
-labelled-content : (c : Content) (name : Name) →
-    (if is_labelled name then content_inside c name else BeforeLabel) ≡ BeforeLabel
-labelled-content c Data = refl
-labelled-content c _ = refl
-
-fence-lines : (c : Content) (name : Name) →
-    (if is_fence name then keeps_lines (content_inside c name) else true) ≡ true
-fence-lines c Data = refl
-fence-lines c _ = refl
-
-fence-raw : (name : Name) → (if is_fence name then is_raw name else false) ≡ false
-fence-raw Data = refl
-fence-raw _ = refl
-
-raw-solid : (name : Name) → (if is_raw name then is_transparent name else false) ≡ false
-raw-solid Data = refl
-raw-solid _ = refl
-
-row-solid : (name : Name) → (if is_row name then is_transparent name else false) ≡ false
-row-solid Data = refl
-row-solid _ = refl
+told : (c : Content) (name : Name) → Told c name
+told c Data = (refl, refl, refl, refl, refl, refl, refl, refl, refl, refl)
+told c _ = (refl, refl, refl, refl, refl, refl, refl, refl, refl, refl)
 
 -- the fences before a fence are counted where it is left
-pub fence-counted : (context : Context) (c : Content) (waits : Bool) (around : Surroundings)
-    (before : Before) (last : Bool)
-    (name : Name) (start end : Point) (children : Forest) (state s : State) → Facts c name →
-    Knows c waits around before state →
-    ChildrenDone context c waits around before last name start end children state s →
-    is_fence name ≡ true →
-    s.fences ≡ count_by is_fence before.spine
-fence-counted context c waits around before last name start end children state s facts knows done
-    h =
-    done.fences (picked (is_fence name) _ true (fence-lines c name) h)
-    ∙ ap (λ b. if b then 0 else state.fences) (picked (is_fence name) _ false (fence-raw name) h)
-    ∙ lines_at c before.spine state.fences state.has_chunk (facts.fence h) knows.lines
+pub fence-counted : {context : Context} {c : Content} {waits : Bool} {around : Surroundings}
+    {before : Before} {last : Bool} {name : Name} {start end : Point} {children : Forest}
+    {state s : State} → Reached context c waits around before last name start end children state s →
+    is_fence name ≡ true → s.fences ≡ count_by is_fence before.spine
+fence-counted {c = c} {before = before} {name = name} {state = state} here h =
+    here.done.fences (picked (is_fence name) _ true (told c name).6 h)
+    ∙ ap (λ b. if b then 0 else state.fences) (picked (is_fence name) _ false (told c name).7 h)
+    ∙ lines_at c before.spine state.fences state.has_chunk
+    ((allowed-facts c name here.allowed).fence h) here.knows.lines
 
 -- what is known of raw flow at its end
 raw_known : (context : Context) (waits : Bool) (c : Content) (name : Name) (around : Surroundings)
@@ -168,27 +150,19 @@ raw_known : (context : Context) (waits : Bool) (c : Content) (name : Name) (arou
     × (s.has_chunk ≡ list_any is_chunk (spine_names children)) × (s.ended ≡ last_name children)
 raw_known context waits c name around first children s raw none before k =
     let same : content_after (content_inside c name) children ≡ Lines =
-    ap (λ c. content_after c children) (picked (is_raw name) _ Lines (raw-content c name) raw)
+    ap (λ c. content_after c children) (picked (is_raw name) _ Lines (told c name).3 raw)
     ∙ stays Lines children refl in
-    let spine = past-spine context around first children ∙ ap (λ l. l ++ spine_names children) none
+    let spine = (past context around first children).spine ∙ ap (λ l. l ++ spine_names children)
+    none
     in
-    let lines : KnowsLines Lines (before_past context around first children).spine
-    s.fences s.has_chunk =
-    subst (λ c. KnowsLines c (before_past context around first children).spine s.fences s.has_chunk)
-    same k.lines in
-    let ended : KnowsEnded Lines (before_past context around first children).previous s.ended =
-    subst (λ c. KnowsEnded c (before_past context around first children).previous s.ended)
-    same k.ended in (
-      lines.0 ∙ ap (λ l. count_by is_fence l) spine,
-      lines.1 ∙ ap (λ l. list_any is_chunk l) spine,
-      ended ∙ past-previous context around first children
+    let lines = rw (same, spine) at k.lines in
+    let ended = rw same at k.ended in (
+      lines.0,
+      lines.1,
+      ended ∙ (past context around first children).previous
           ∙ ap (λ o. or_else (last_name children) o) before
           ∙ or_else-none (last_name children),
     )
-
--- the call that a node is
-abbrev pub own_call : Name → List ℕ → List (List ℕ)
-own_call name identifier = if is GfmFootnoteCall name then identifier ∷ [] else []
 
 call-own : (name : Name) (identifier : List ℕ) →
     (if is_call name then own_call name identifier else identifier ∷ []) ≡ identifier ∷ []
@@ -196,23 +170,13 @@ call-own Data identifier = refl
 call-own _ identifier = refl
 
 -- what is known of a node where it is left
-pub leaves : (context : Context) (c : Content) (waits : Bool) (around : Surroundings)
-    (before : Before)
-    (last : Bool) (name : Name) (start end : Point) (children : Forest) (state s : State) →
-    is_allowed c name ≡ true →
-    Facts c name → Fits (content_inside c name) children →
-    (is_underline name ≡ true → (waits ≡ true) × (spine_names children ≡ [])) →
-    Knows c waits around before state →
-    ChildrenDone context c waits around before last name start end children state s →
-    (children ≡ Empty →
-    s ≡ entered context (facts_of context.bytes last children start end) name state) →
-    (later : List (List ℕ)) →
-    context.calls ≡ ((before.calls ++ (inner_of context around before name children).calls)
-    ++ own_call name (identifier_of context.bytes children)) ++ later →
+pub leaves : {context : Context} {c : Content} {waits : Bool} {around : Surroundings}
+    {before : Before} {last : Bool} {name : Name} {start end : Point} {children : Forest}
+    {state s : State} → Reached context c waits around before last name start end children state s →
     Leaves context name (at_node context around before last name start end children) state.cells
     (restored name s) s.ended
-leaves context c waits around before last name start end children state s h facts fits line knows
-    done same later whole =
+leaves {context} {c} {waits} {around} {before} {last} {name} {start} {end} {children} {state} {s}
+    here =
     let within : Surroundings = inside context.options (is_loose children) name around in
     let first : Before = before_children name children before in
     let none : is_transparent name ≡ false → first.spine ≡ [] =
@@ -222,53 +186,56 @@ leaves context c waits around before last name start end children state s h fact
     λ e. picked (is_call name) _ _ (call-own name (identifier_of context.bytes children)) e in
     record {
       marker = λ e.
-          let parts = and_parts (is_value name) (not (is_transparent name)) e in
-          done.marker (picked (is_reference name) _ false (reference-marks c name) e)
+          let parts = and_parts _ _ e in
+          here.done.marker (picked (is_reference name) _ false (told c name).0 e)
           ∙ ap (λ b. if b then state.marker else 38) parts.0
-          ∙ knows.marker (marks_at c name facts (not-true (is_transparent name) parts.1));
+          ∙ here.knows.marker (marks_at c name (allowed-facts c name here.allowed)
+          (not-true (is_transparent name) parts.1));
       ending = λ e.
-          let is = same (childless children (subst (λ c. Fits c children)
-          (picked (is_ending name) _ Childless (ending-content c name) e) fits)) in (
-            ap (λ (t : State). t.slurps) is ∙ knows.slurps,
+          let is = here.same (childless children (subst (λ c. Fits c children)
+          (picked (is_ending name) _ Childless (told c name).2 e) here.fits)) in (
+            ap (λ (t : State). t.slurps) is ∙ here.knows.slurps,
             ap (λ (t : State). t.ended) is ∙ ap (λ b. if b then state.ended else None) e
-                ∙ ended-known c name before.previous state.ended h knows.ended,
+                ∙ ended-known c name before.previous state.ended here.allowed here.knows.ended,
           );
       raw = λ e. raw_known context _ c name within first children s e
-          (none (picked (is_raw name) _ false (raw-solid name) e)) refl done.knows;
-      fences = λ e. fence-counted context c waits around before last name start end children state s
-          facts knows done e;
-      heading = λ e. done.heading (picked (is_underline name) _ false (underline-marks c name) e)
-          ∙ knows.heading (line e).0;
+          (none (picked (is_raw name) _ false (told c name).8 e)) refl here.done.knows;
+      fences = fence-counted here;
+      heading = λ e. here.done.heading (picked (is_underline name) _ false (told c name).1 e)
+          ∙ here.knows.heading (here.line e).0;
       cell = λ e.
           let is = cell-is name e in
-          let k = cell_at c before.spine state.cells (ap (λ n. is_allowed c n) (sym is) ∙ h)
-          knows.cells in (
+          let k = cell_at c before.spine state.cells
+          (ap (λ n. is_allowed c n) (sym is) ∙ here.allowed)
+          here.knows.cells in (
             k,
-            done.cells (ap (λ n. keeps_cells (content_inside c n)) is)
+            here.done.cells (ap (λ n. keeps_cells (content_inside c n)) is)
                 ∙ ap (λ n. if is_row n then 0 else state.cells) is ∙ k,
           );
       row = λ e.
           subst (λ x. KnowsCells x (before_past context within first children).spine s.cells)
-          (ap (λ c. content_after c children) (picked (is_row name) _ Cells (row-content c name) e)
-          ∙ stays Cells children refl) done.knows.cells
+          (ap (λ c. content_after c children) (picked (is_row name) _ Cells (told c name).4 e)
+          ∙ stays Cells children refl) here.done.knows.cells
           ∙ ap (λ names. count_by (is GfmTableCell) names)
-          (past-spine context within first children ∙ ap (λ l. l ++ spine_names children)
-          (none (picked (is_row name) _ false (row-solid name) e)));
+          ((past context within first children).spine ∙ ap (λ l. l ++ spine_names children)
+          (none (picked (is_row name) _ false (told c name).9 e)));
       resource = λ e.
           let found = (inner_of context around before name children).found in
           let kept : s.resource ≡ or_else found.resource (if is_labelled name then None
           else state.resource) =
           subst (λ x. ResourceAfter x found (if is_labelled name then None else state.resource)
-          s.resource) (picked (is_labelled name) _ BeforeLabel (labelled-content c name) e)
-          done.resource in
+          s.resource) (picked (is_labelled name) _ BeforeLabel (told c name).5 e)
+          here.done.resource in
           sym (kept ∙ ap (λ b. or_else found.resource (if b then None else state.resource)) e
           ∙ or_else-none found.resource);
-      referred = λ lost. resource-found context within first (content_inside c name) children fits
+      referred = λ lost. resource-found context within first (content_inside c name) children
+          here.fits
           lost Missing refl;
       calls = λ e. (
-        sym (done.knows.calls ∙ past-calls context within first children),
-        later,
-        whole ∙ ap (λ l. ((before.calls ++ (inner_of context around before name children).calls)
-            ++ l) ++ later) (own e),
+        sym (here.done.knows.calls ∙ (past context within first children).calls),
+        here.later,
+        here.whole ∙ ap (λ l. ((before.calls ++
+            (inner_of context around before name children).calls)
+            ++ l) ++ here.later) (own e),
       );
     }

@@ -1,13 +1,11 @@
 -- The first footnote with each identifier is kept, and no other one is read.
-use Rattle.std.proofs.Common.{◌≡◌, ℕ, true, false, not, List, [], ◌∷◌, ◌++◌, length, Option, Some}
-use Rattle.std.proofs.Common.{refl, ap, sym, ◌∙◌, append-nil, bytes_eq, codes}
-use Rattle.std.specs.Prelude.{◌==◌, if◌then◌else◌, find}
+use Rattle.std.proofs.Common.{arith, ◌≡◌, ℕ, true, false, List, [], ◌∷◌, ◌++◌, Option}
+use Rattle.std.proofs.Common.{refl, ap, sym, ◌∙◌, append-nil, bytes_eq}
+use Rattle.std.specs.Prelude.{if◌then◌else◌, find}
 use Rattle.std.specs.List.{flat_map}
-use Rattle.std.specs.Option.{option_map_or}
-use Rattle.md_meaning.specs.Meaning.Layout.{Text, Forced, on_own_line, when}
 use Rattle.md_meaning.specs.Meaning.At.{Footnote, Context}
-use Rattle.md_meaning.specs.Meaning.Footnotes.{distinct, item, body, id_of, place_among, count_of}
-use Rattle.md_meaning.specs.Meaning.Footnotes.{backreferences, section, section_start}
+use Rattle.md_meaning.specs.Meaning.Footnotes.{distinct, item}
+use Rattle.md_meaning.specs.Meaning.Footnotes.{section}
 use Rattle.md_meaning.proofs.Identifiers.{same}
 use Rattle.md_steps.specs.Steps.{noted}
 use Rattle.md_steps.specs.Claim.{noted_all}
@@ -26,28 +24,20 @@ first_with footnotes identifier =
 found-beside : (xs : List Footnote) (y : Footnote) (ys : List Footnote) (q : List ℕ) →
     bytes_eq y.identifier q ≡ false →
     first_with (xs ++ ys) q ≡ first_with (xs ++ y ∷ ys) q
-found-beside [] y ys q h = ap (λ b. if b then Some y else first_with ys q) (sym h)
-found-beside (x ∷ xs) y ys q h =
-    ap (λ o. if bytes_eq x.identifier q then Some x else o) (found-beside xs y ys q h)
+found-beside [] y ys q h = grind arith
+found-beside (x ∷ xs) y ys q h = grind (arith, found-beside xs y ys q h)
 
 -- the first with an identifier is the same one, before any others
 found-noted : (xs : List Footnote) (y : Footnote) (ys : List Footnote) (q : List ℕ) →
     first_with (noted xs y ++ ys) q ≡ first_with (xs ++ y ∷ ys) q
 found-noted [] y ys q = refl
 found-noted (x ∷ xs) y ys q =
-    elim (bytes_eq x.identifier q) as (λ b. bytes_eq x.identifier q ≡ b → (if b then Some x
-    else first_with ((if bytes_eq x.identifier y.identifier then xs else noted xs y) ++ ys) q)
-    ≡ (if b then Some x else first_with (xs ++ y ∷ ys) q)) [
-      | true ↦ λ e. refl
-      | false ↦ λ e.
-          elim (bytes_eq x.identifier y.identifier) as
-          (λ b. bytes_eq x.identifier y.identifier ≡ b →
-          first_with ((if b then xs else noted xs y) ++ ys) q ≡ first_with (xs ++ y ∷ ys) q) [
-            | true ↦ λ k.
-                found-beside xs y ys q
-                (ap (λ i. bytes_eq i q) (sym (same x.identifier y.identifier k)) ∙ e)
-            | false ↦ λ k. found-noted xs y ys q
-          ] refl
+    elim (bytes_eq x.identifier y.identifier) as (λ b. bytes_eq x.identifier y.identifier ≡ b →
+    first_with (x ∷ (if b then xs else noted xs y) ++ ys) q ≡ first_with (x ∷ xs ++ y ∷ ys) q) [
+      | true ↦ λ k.
+          let e = ap (λ i. bytes_eq i q) (same x.identifier y.identifier k) in
+          grind (arith, found-beside xs y ys q)
+      | false ↦ λ k. grind (arith, found-noted xs y ys q)
     ] refl
 
 pub found-all : (xs ys : List Footnote) (q : List ℕ) →
@@ -62,21 +52,10 @@ items-same : (context : Context) (xs ys : List Footnote) →
     flat_map (item context xs) identifiers ≡ flat_map (item context ys) identifiers
 items-same context xs ys found [] = refl
 items-same context xs ys found (identifier ∷ identifiers) =
-    ap (λ ps. item context xs identifier ++ ps) (items-same context xs ys found identifiers)
-    ∙ ap (λ ps. ps ++ flat_map (item context ys) identifiers) (item-same identifier)
-  where
-    item-same : (q : List ℕ) → item context xs q ≡ item context ys q
-    item-same q =
-        let number : ℕ = place_among (distinct context.calls) q in
-        ap (λ o. Forced ∷ Text (codes "<li id=\"")
-        ∷ Text (id_of context.options (codes "fn-") q number) ∷ Text (codes "\">") ∷ Forced
-        ∷ (body (option_map_or (λ footnote. footnote.text) o []) (backreferences context.options q
-        number (count_of context.calls q)) ++ on_own_line (codes "</li>"))) (found q)
+    rw (found identifier, items-same context xs ys found identifiers) refl
 
 pub section-noted : (context : Context) (footnotes : List Footnote) →
     section context (noted_all [] footnotes) ≡ section context footnotes
 section-noted context footnotes =
-    ap (λ ps. when (not (length context.calls == 0)) (section_start context.options
-    ++ (ps ++ (Forced ∷ Text (codes "</ol>") ∷ Forced ∷ Text (codes "</section>") ∷ Forced ∷ []))))
-    (items-same context (noted_all [] footnotes) footnotes (λ q. found-all [] footnotes q)
-    (distinct context.calls))
+    rw (items-same context (noted_all [] footnotes) footnotes (λ q. found-all [] footnotes q)
+    (distinct context.calls)) refl

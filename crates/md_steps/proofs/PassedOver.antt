@@ -1,5 +1,5 @@
 -- The steps skip a definition, and it prints nothing.
-use Rattle.std.proofs.Common.{◌≡◌, Bool, true, false, ◌&&◌, ◌++◌, refl, ap, sym, subst, ◌∙◌}
+use Rattle.std.proofs.Common.{arith, ◌≡◌, Bool, true, ◌&&◌, ◌++◌, refl, ap, sym, subst, ◌∙◌}
 use Rattle.std.proofs.Common.{append-nil}
 use Rattle.std.specs.Prelude.{if◌then◌else◌}
 use Rattle.md_base.specs.declared.event.Name.{Name}
@@ -25,10 +25,6 @@ use Rattle.md_steps.proofs.NodeLeaves.{NodeDone}
 definition_stands : (c : Content) → is_allowed c Definition ≡ true → c ≡ Blocks
 definition_stands Blocks h = refl
 definition_stands _ h = lie h
-
-and_true : (b : Bool) → b && true ≡ b
-and_true true = refl
-and_true false = refl
 
 definition-passed : (context : Context) (waits : Bool) (around : Surroundings) (before : Before)
     (last : Bool) (start end : Point) (children : Forest) (state : State) → Fits Sources children →
@@ -72,8 +68,7 @@ definition-passed context waits around before last start end children state fits
     }
   where
     one_or_both : (b s : Bool) → s ≡ (if b then s else s && true)
-    one_or_both true s = refl
-    one_or_both false s = sym (and_true s)
+    one_or_both b s = grind arith
 
 pub definition-node : (context : Context) (c : Content) (waits : Bool) (around : Surroundings)
     (before : Before) (last : Bool)

@@ -1,9 +1,11 @@
 -- A call's number is its place among the calls so far: later ones don't change it.
-use Rattle.std.proofs.Common.{◌≡◌, ℕ, suc, Bool, true, false, not, ◌||◌, List, [], ◌∷◌, ◌++◌, refl}
-use Rattle.std.proofs.Common.{ap, sym, ◌∙◌, subst, bytes_eq, filter}
-use Rattle.std.specs.Prelude.{if◌then◌else◌}
+use Rattle.std.proofs.Common.{arith, ◌≡◌, ℕ, Bool, true, false, not, ◌||◌, List, [], ◌∷◌, ◌++◌}
+use Rattle.std.proofs.Common.{refl}
+use Rattle.std.proofs.Common.{ap, sym, ◌∙◌, bytes_eq, filter}
 use Rattle.std.specs.List.{list_any}
 use Rattle.std.proofs.lemmas.Slice.Eq.{bytes_eq-Decides}
+use Rattle.std.proofs.lemmas.Bool.{or_right}
+use Rattle.std.proofs.lemmas.List.Elements.{filter-append}
 use Rattle.md_base.proofs.Lies.{lie}
 use Rattle.md_meaning.specs.Meaning.Footnotes.{distinct, place_among}
 
@@ -16,16 +18,6 @@ is_other first other = not (bytes_eq other first)
 -- an identifier is among others
 abbrev among : List Identifier → Identifier → Bool
 among xs x = list_any (λ y. bytes_eq y x) xs
-
-filter-append : (p : Identifier → Bool) (xs ys : List Identifier) →
-    filter p (xs ++ ys) ≡ filter p xs ++ filter p ys
-filter-append p [] ys = refl
-filter-append p (x ∷ xs) ys =
-    elim (p x) as (λ b. (if b then x ∷ filter p (xs ++ ys) else filter p (xs ++ ys))
-    ≡ (if b then x ∷ filter p xs else filter p xs) ++ filter p ys) [
-      | true ↦ ap (λ l. x ∷ l) (filter-append p xs ys)
-      | false ↦ filter-append p xs ys
-    ]
 
 -- the distinct ones of more begin with those of fewer
 distinct-append : (xs ys : List Identifier) →
@@ -41,12 +33,7 @@ distinct-append (x ∷ xs) ys =
 place-append : (xs more : List Identifier) (x : Identifier) → among xs x ≡ true →
     place_among (xs ++ more) x ≡ place_among xs x
 place-append [] more x h = lie h
-place-append (y ∷ xs) more x h = elim (bytes_eq y x) as (λ b. (b || among xs x) ≡ true →
-    (if b then 1 else suc (place_among (xs ++ more) x))
-    ≡ (if b then 1 else suc (place_among xs x))) [
-      | true ↦ λ e. refl
-      | false ↦ λ e. ap (λ n. suc n) (place-append xs more x e)
-    ] h
+place-append (y ∷ xs) more x h = grind (arith, place-append xs more x)
 
 same-self : (x : Identifier) → bytes_eq x x ≡ true
 same-self x = (bytes_eq-Decides x x).1 refl
@@ -56,27 +43,16 @@ filter-keeps : (p : Identifier → Bool) (xs : List Identifier) (x : Identifier)
     among (filter p xs) x ≡ true
 filter-keeps p [] x h k = lie h
 filter-keeps p (y ∷ xs) x h k =
-    elim (bytes_eq y x) as (λ b. bytes_eq y x ≡ b → (b || among xs x) ≡ true →
-    among (if p y then y ∷ filter p xs else filter p xs) x ≡ true) [
-      | true ↦ λ e g. subst (λ c. among (if c then y ∷ filter p xs else filter p xs) x ≡ true)
-          (sym (ap p ((bytes_eq-Decides y x).0 e) ∙ k)) (ap (λ b. b || among (filter p xs) x) e)
-      | false ↦
-          λ e g. elim (p y) as (λ c. among (if c then y ∷ filter p xs else filter p xs) x ≡ true) [
-            | true ↦ ap (λ b. b || among (filter p xs) x) e ∙ filter-keeps p xs x g k
-            | false ↦ filter-keeps p xs x g k
-          ]
-    ] refl h
+    let passes : bytes_eq y x ≡ true → p y ≡ true =
+    λ e. ap p ((bytes_eq-Decides y x).0 e) ∙ k in
+    grind (arith, passes, filter-keeps p xs x)
 
 -- what is among some is among the distinct ones
 distinct-has : (xs : List Identifier) (x : Identifier) → among xs x ≡ true →
     among (distinct xs) x ≡ true
 distinct-has [] x h = lie h
 distinct-has (y ∷ xs) x h =
-    elim (bytes_eq y x) as (λ b. bytes_eq y x ≡ b → (b || among xs x) ≡ true →
-    (b || among (filter (is_other y) (distinct xs)) x) ≡ true) [
-      | true ↦ λ e g. refl
-      | false ↦ λ e g. filter-keeps (is_other y) (distinct xs) x (distinct-has xs x g) (other e)
-    ] refl h
+    grind (arith, distinct-has xs x, filter-keeps (is_other y) (distinct xs) x, other)
   where
     other : bytes_eq y x ≡ false → is_other y x ≡ true
     other e = elim (bytes_eq x y) as (λ b. bytes_eq x y ≡ b → not b ≡ true) [
@@ -87,10 +63,7 @@ distinct-has (y ∷ xs) x h =
 
 last-among : (xs : List Identifier) (x : Identifier) → among (xs ++ x ∷ []) x ≡ true
 last-among [] x = ap (λ b. b || false) (same-self x)
-last-among (y ∷ xs) x = elim (bytes_eq y x) as (λ b. (b || among (xs ++ x ∷ []) x) ≡ true) [
-  | true ↦ refl
-  | false ↦ last-among xs x
-]
+last-among (y ∷ xs) x = or_right _ _ (last-among xs x)
 
 pub place-so-far : (calls : List Identifier) (x : Identifier) (later : List Identifier) →
     place_among (distinct ((calls ++ x ∷ []) ++ later)) x

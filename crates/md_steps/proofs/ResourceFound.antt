@@ -1,11 +1,12 @@
 -- If the grammar finds a resource in a node, the meaning has found its target.
-use Rattle.std.proofs.Common.{◌≡◌, ℕ, Bool, true, false, ◌&&◌, List, Option, Some, None, refl, ap}
+use Rattle.std.proofs.Common.{arith, ◌≡◌, ℕ, Bool, true, false, ◌&&◌, List, Option, Some, None}
+use Rattle.std.proofs.Common.{refl, ap}
 use Rattle.std.proofs.Common.{sym, ◌∙◌}
 use Rattle.md_base.specs.declared.event.Name.{Name}
 use Rattle.md_base.specs.declared.event.Name.TheVariants as name_variants
 use name_variants.{BlockQuotePrefix, Other, GfmFootnoteDefinitionPrefix}
-use name_variants.{GfmFootnoteDefinitionLabelString, DefinitionLabelString, Label, LabelText}
-use name_variants.{Resource, ReferenceString}
+use name_variants.{Label}
+use name_variants.{Resource}
 use Rattle.md_base.specs.declared.event.Position.{Position}
 use Rattle.md_base.specs.Children.{is_empty, or_else}
 use Rattle.md_base.specs.NameTests.{is_transparent}
@@ -39,10 +40,8 @@ past-same BeforeLabel h = lie (sym h)
 past-same _ h = refl
 
 none-stands : (c : Content) → refers c ≡ false → is_allowed c Resource ≡ true → false ≡ true
-none-stands BeforeLabel h k = lie (sym h)
-none-stands AfterLabel h k = lie (sym h)
 none-stands Blocks h k = k
-none-stands _ h k = k
+none-stands _ h k = grind arith
 
 -- a name that doesn't leave a resource
 step-none : (c : Content) (name : Name) (found : Referral) (inner : Referral → Referral)
@@ -55,11 +54,7 @@ step-none c (Other number) found inner at may h own k = own h found k
 step-none c Label found inner at may h own k = own refl Missing refl
 step-none c GfmFootnoteDefinitionPrefix found inner at may h own k = own refl Missing refl
 step-none c Resource found inner at may h own k = lie (none-stands c h may)
-step-none c LabelText found inner at may h own k = refl
-step-none c ReferenceString found inner at may h own k = refl
-step-none c DefinitionLabelString found inner at may h own k = refl
-step-none c GfmFootnoteDefinitionLabelString found inner at may h own k = refl
-step-none c _ found inner at may h own k = k
+step-none c _ found inner at may h own k = grind (arith, k)
 
 -- no resource is found where none may stand
 none-found : (c : Content) (forest : Forest) → refers c ≡ false → Fits c forest →
@@ -98,12 +93,7 @@ step-lost c Resource at text found inner where_it_is through own lost k = some l
     some : {t : Target} → Some t ≡ None → is_resource (target_after (standing_of Resource) found
         inner where_it_is) ≡ false
     some e = cc
-step-lost c LabelText at text found inner where_it_is through own lost k = refl
-step-lost c ReferenceString at text found inner where_it_is through own lost k = refl
-step-lost c DefinitionLabelString at text found inner where_it_is through own lost k = refl
-step-lost c GfmFootnoteDefinitionLabelString at text found inner where_it_is through own lost k =
-    refl
-step-lost c _ at text found inner where_it_is through own lost k = k
+step-lost c _ at text found inner where_it_is through own lost k = grind (arith, k)
 
 pub resource-found : (context : Context) (around : Surroundings) (before : Before) (c : Content)
     (forest : Forest) → Fits c forest →

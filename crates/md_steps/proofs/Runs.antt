@@ -1,5 +1,5 @@
 -- The steps over some nodes print what these mean: one induction.
-use Rattle.std.proofs.Common.{◌≡◌, ℕ, Bool, true, false, ◌&&◌, List, [], ◌++◌, Option, refl, ap}
+use Rattle.std.proofs.Common.{◌≡◌, ℕ, Bool, true, false, ◌&&◌, List, ◌++◌, Option, refl, ap}
 use Rattle.std.proofs.Common.{sym, subst, ◌∙◌, append_assoc}
 use Rattle.std.specs.Prelude.{if◌then◌else◌}
 use Rattle.md_base.specs.declared.event.Name.{Name}
@@ -8,7 +8,7 @@ use name_variants.{BlockQuote}
 use Rattle.md_base.specs.declared.event.Point.{Point}
 use Rattle.md_base.proofs.Lies.{lie}
 use Rattle.md_base.specs.Tree.{Forest, Empty, Node}
-use Rattle.md_base.specs.Children.{is_empty, spine_names}
+use Rattle.md_base.specs.Children.{is_empty}
 use Rattle.md_base.specs.NameTests.{is_transparent}
 use Rattle.md_pattern.specs.Looseness.{is_loose}
 use Rattle.md_text.specs.declared.options.CompileOptions.{CompileOptions}
@@ -18,9 +18,9 @@ use Rattle.md_meaning.specs.Meaning.Layout.{laid_after}
 use Rattle.md_meaning.specs.Meaning.At.{Target, Context, Before, identifier_of}
 use Rattle.md_meaning.specs.Meaning.Before.{before_children, nothing_before}
 use Rattle.md_meaning.specs.Meaning.Nodes.{Outcome, outcome}
-use Rattle.md_content.specs.Underlined.{is_underline, waits_past, waits_after, IsUnderlined}
+use Rattle.md_content.specs.Underlined.{waits_past, waits_after, IsUnderlined}
 use Rattle.md_steps.specs.Content.{Content, Blocks, Strings, BeforeLabel, AfterLabel, Sources}
-use Rattle.md_steps.specs.Content.{Nothing, Childless, Fits, is_allowed, content_inside}
+use Rattle.md_steps.specs.Content.{Nothing, Childless, Fits, content_inside}
 use Rattle.md_steps.specs.Content.{content_after_node}
 use Rattle.md_steps.specs.State.{State, NodeFacts, facts_of}
 use Rattle.md_steps.specs.Steps.{entered, exited, over, passed, is_passed, beginning}
@@ -29,9 +29,9 @@ use Rattle.md_steps.specs.Claim.{has_marks, keeps_cells, keeps_lines, is_laid, n
 use Rattle.md_steps.specs.Claim.{next_before}
 use Rattle.md_steps.proofs.Laid.{laid-append}
 use Rattle.md_steps.proofs.Noted.{noted-append}
-use Rattle.md_steps.proofs.Staying.{node-same, past-cells, past-lines, past-marks, past-laid}
+use Rattle.md_steps.proofs.Staying.{node-same, past-as}
 use Rattle.md_steps.proofs.Inside.{children_know}
-use Rattle.md_steps.proofs.NodeLeaves.{ChildrenDone, NodeDone, own_call}
+use Rattle.md_steps.proofs.NodeLeaves.{Reached, NodeDone, own_call}
 use Rattle.md_steps.proofs.NodeRuns.{node}
 use Rattle.md_steps.proofs.PassedOver.{definition-node}
 use Rattle.md_steps.proofs.FoundInBoth.{target-both, resource-both}
@@ -40,16 +40,13 @@ use Rattle.md_steps.proofs.FoundInBoth.{target-both, resource-both}
 module _ (context : Context) (a i o r l : List (List ℕ))
     (whole : context.calls ≡ (a ++ ((i ++ o) ++ r)) ++ l) where
   in_children : context.calls ≡ (a ++ i) ++ ((o ++ r) ++ l)
-  in_children =
-      whole ∙ ap (λ x. (a ++ x) ++ l) (append_assoc i o r)
-      ∙ ap (λ x. x ++ l) (sym (append_assoc a i (o ++ r))) ∙ append_assoc (a ++ i) (o ++ r) l
+  in_children = whole ∙ simp append_assoc
 
   in_own : context.calls ≡ ((a ++ i) ++ o) ++ (r ++ l)
-  in_own = in_children ∙ ap (λ x. (a ++ i) ++ x) (append_assoc o r l)
-      ∙ sym (append_assoc (a ++ i) o (r ++ l))
+  in_own = whole ∙ simp append_assoc
 
   in_rest : context.calls ≡ ((a ++ (i ++ o)) ++ r) ++ l
-  in_rest = whole ∙ ap (λ x. x ++ l) (sym (append_assoc a (i ++ o) r))
+  in_rest = whole ∙ simp append_assoc
 
 -- ---- one node after another
 never_outermost : (options : CompileOptions) (loose : Bool) (name : Name) (around : Surroundings) →
@@ -58,31 +55,20 @@ never_outermost options loose BlockQuote around = refl
 never_outermost options loose _ around = refl
 
 -- a node, skipped or not
-one-node : (context : Context) (c : Content) (waits : Bool) (around : Surroundings)
-    (before : Before)
-    (last : Bool) (name : Name) (start end : Point) (children : Forest) (state s : State) →
-    is_allowed c name ≡ true →
-    Fits (content_inside c name) children →
-    (is_underline name ≡ true → (waits ≡ true) × (spine_names children ≡ [])) →
-    Knows c waits around before state →
-    ChildrenDone context c waits around before last name start end children state s →
-    (children ≡ Empty →
-    s ≡ entered context (facts_of context.bytes last children start end) name state) →
-    (later : List (List ℕ)) →
-    context.calls ≡ ((before.calls ++ (inner_of context around before name children).calls)
-    ++ own_call name (identifier_of context.bytes children)) ++ later →
+one-node : {context : Context} {c : Content} {waits : Bool} {around : Surroundings}
+    {before : Before} {last : Bool} {name : Name} {start end : Point} {children : Forest}
+    {state s : State} → Reached context c waits around before last name start end children state s →
     NodeDone context c waits around before last name start end children state (if is_passed name
     then passed state else exited context (facts_of context.bytes last children start end) name s)
-one-node context c waits around before last name start end children state s h fits line knows
-    done same later whole =
+one-node {context} {c} {waits} {around} {before} {last} {name} {start} {end} {children} {state} {s}
+    here =
     elim (is_passed name) as (λ b. is_passed name ≡ b →
     NodeDone context c waits around before last name start end children state
     (if b then passed state
     else exited context (facts_of context.bytes last children start end) name s)) [
       | true ↦ λ p. definition-node context c waits around before last name start end children
-          state p h fits knows
-      | false ↦ λ p. node context c waits around before last name start end children state s h fits
-          line knows done same later whole
+          state p here.allowed here.fits here.knows
+      | false ↦ λ p. node here
     ] refl
 
 -- the steps over some nodes print what they mean
@@ -138,23 +124,28 @@ nodes context c waits around before (Node name start end children rest) state fi
     let waits_next : Bool =
     if is_transparent name then waits_after waits children else waits_past waits name in
     let here : NodeDone context c waits around before last name start end children state after =
-    one-node context c waits around before last name start end children state s fits.0
-    fits.1 lines.0 knows
-    (subst (λ b. Done context (content_inside c name) (if is_transparent name then waits else false)
-    within first children begun (over context b children begun))
-    (never_outermost context.options (is_loose children) name around)
-    (nodes context (content_inside c name) (if is_transparent name then waits else false) within
-    first
-    children begun fits.1 lines.1
-    (children_know context c waits around before last name start end children state knows) (
-      (own ++ (outcome context around next rest).calls) ++ whole.0,
-      in_children context before.calls inner.calls own
-          (outcome context around next rest).calls whole.0 whole.1,
-    )))
-    (λ e. ap (λ f. over context false f begun) e)
-    ((outcome context around next rest).calls ++ whole.0)
-    (in_own context before.calls inner.calls own
-    (outcome context around next rest).calls whole.0 whole.1) in
+    one-node {s = s} (record {
+      allowed = fits.0;
+      fits = fits.1;
+      line = lines.0;
+      knows = knows;
+      done =
+          subst (λ b. Done context (content_inside c name)
+          (if is_transparent name then waits else false) within first children begun
+          (over context b children begun))
+          (never_outermost context.options (is_loose children) name around)
+          (nodes context (content_inside c name) (if is_transparent name then waits else false)
+          within first children begun fits.1 lines.1
+          (children_know context c waits around before last name start end children state knows) (
+            (own ++ (outcome context around next rest).calls) ++ whole.0,
+            in_children context before.calls inner.calls own
+                (outcome context around next rest).calls whole.0 whole.1,
+          ));
+      same = λ e. ap (λ f. over context false f begun) e;
+      later = (outcome context around next rest).calls ++ whole.0;
+      whole = in_own context before.calls inner.calls own
+          (outcome context around next rest).calls whole.0 whole.1;
+    }) in
     let later : Done context (content_after_node c name children) waits_next around next rest after
     (over context around.is_outermost rest after) =
     nodes context (content_after_node c name children) waits_next around next rest after
@@ -165,7 +156,7 @@ nodes context c waits around before (Node name start end children rest) state fi
     ) in
     record {
       text = λ laid.
-          later.text (node-same is_laid past-laid c name children ∙ laid)
+          later.text (node-same is_laid (past-as is_laid refl) c name children ∙ laid)
           ∙ ap (λ t. laid_after context.ending t (outcome context around next rest).pieces)
           (here.text laid) ∙ sym (laid-append context.ending state.text
           (node_of context around before
@@ -174,15 +165,20 @@ nodes context c waits around before (Node name start end children rest) state fi
       scopes = later.scopes ∙ here.scopes;
       knows = later.knows;
       cells = λ keeps.
-          later.cells (node-same keeps_cells past-cells c name children ∙ keeps) ∙ here.cells keeps;
-      fences = λ keeps. later.fences (node-same keeps_lines past-lines c name children ∙ keeps)
+          later.cells (node-same keeps_cells (past-as keeps_cells refl) c name children ∙ keeps) ∙
+          here.cells keeps;
+      fences = λ keeps. later.fences (node-same keeps_lines (past-as keeps_lines refl) c name
+          children ∙ keeps)
           ∙ here.fences keeps;
       chunk = λ keeps.
-          later.chunk (node-same keeps_lines past-lines c name children ∙ keeps) ∙ here.chunk keeps;
+          later.chunk (node-same keeps_lines (past-as keeps_lines refl) c name children ∙ keeps) ∙
+          here.chunk keeps;
       marker = λ none.
-          later.marker (node-same has_marks past-marks c name children ∙ none) ∙ here.marker none;
+          later.marker (node-same has_marks (past-as has_marks refl) c name children ∙ none) ∙
+          here.marker none;
       heading = λ none.
-          later.heading (node-same has_marks past-marks c name children ∙ none) ∙ here.heading none;
+          later.heading (node-same has_marks (past-as has_marks refl) c name children ∙ none) ∙
+          here.heading none;
       target =
           target-both c name children
           (node_of context around before last name start end children).found

@@ -1,7 +1,8 @@
 -- What is printed at a node's two ends is what the node means, and its surroundings change as those
 -- of the meaning. For most names both sides compute to the same, once the facts in the state are
 -- substituted.
-use Rattle.std.proofs.Common.{◌≡◌, ℕ, ◌==◌, Bool, true, false, not, ◌||◌, List, [], ◌∷◌, ◌++◌}
+use Rattle.std.proofs.Common.{arith, ◌≡◌, ℕ, ◌==◌, Bool, true, false, not, ◌||◌, List, [], ◌∷◌}
+use Rattle.std.proofs.Common.{◌++◌}
 use Rattle.std.proofs.Common.{Option, refl, ap, sym, ◌∙◌, append-nil, codes}
 use Rattle.std.specs.Prelude.{if◌then◌else◌, count_by, slice_get}
 use Rattle.std.specs.List.{list_any}
@@ -30,7 +31,7 @@ use Rattle.md_steps.specs.State.{State, opens_scope, scope_inside, captures}
 use Rattle.md_steps.specs.Steps.{is_ending, is_raw, is_row, is_labelled}
 use Rattle.md_steps.specs.Sides.{opens, closes, list_opening}
 use Rattle.md_steps.specs.Claim.{seen, mark_after}
-use Rattle.md_steps.proofs.Standing.{is_quiet, is_set_aside, picked}
+use Rattle.md_steps.proofs.Standing.{is_quiet, is_set_aside}
 use Rattle.md_steps.proofs.EachSide.{facts_at, is_reference, Leaves, cell_sides}
 use Rattle.md_steps.proofs.EachSide.{list_sides, fence-sides, call-sides, led-sides}
 
@@ -58,8 +59,7 @@ abbrev ended_at : Name → At → Option Name → Option Name
 ended_at name at ended = if is_raw name then last_name at.children else ended
 
 chosen : {A : Type 0} (b : Bool) (x y : A) → (b ≡ true → y ≡ x) → (if b then x else y) ≡ y
-chosen true x y h = sym (h refl)
-chosen false x y h = refl
+chosen b x y h = grind arith
 
 informed-is : (context : Context) (name : Name) (at : At) (cells : ℕ) (left : State)
     (ended : Option Name) → Leaves context name at cells left ended →
@@ -67,18 +67,13 @@ informed-is : (context : Context) (name : Name) (at : At) (cells : ℕ) (left : 
 informed-is context name at cells left ended k =
     let slurps = chosen (is_ending name) at.before.slurps left.slurps (λ e. (k.ending e).0) in
     let previous = chosen (is_ending name) at.before.previous left.ended (λ e. (k.ending e).1) in
-    let marker = chosen (is_reference name) (mark_after at.before.spine) left.marker k.marker in
-    let fences = chosen (is_raw name) (count_by is_fence (spine_names at.children)) left.fences
-    (λ e. (k.raw e).0) in
-    let chunk = chosen (is_raw name) (list_any is_chunk (spine_names at.children)) left.has_chunk
-    (λ e. (k.raw e).1) in
+    let marker = chosen (is_reference name) _ left.marker k.marker in
+    let fences = chosen (is_raw name) _ left.fences (λ e. (k.raw e).0) in
+    let chunk = chosen (is_raw name) _ left.has_chunk (λ e. (k.raw e).1) in
     let heading = chosen (is_underline name) at.before.heading left.heading k.heading in
-    let row = chosen (is_row name) (count_by (is GfmTableCell) (spine_names at.children))
-    left.cells k.row in
-    let cell = chosen (is_cell name) (count_by (is GfmTableCell) at.before.spine) left.cells
-    (λ e. (k.cell e).1) in
-    let resource = chosen (is_labelled name) at.found.resource left.resource
-    (λ e. sym (k.resource e)) in
+    let row = chosen (is_row name) _ left.cells k.row in
+    let cell = chosen (is_cell name) _ left.cells (λ e. (k.cell e).1) in
+    let resource = chosen (is_labelled name) _ left.resource (λ e. sym (k.resource e)) in
     cc
 
 -- ---- both sides, name by name
@@ -105,11 +100,8 @@ ended_by name inner stop = if captures name || is_quiet name then stop
 ended-is : (c q o : Bool) (inner stop : List Piece) → (q ≡ true → inner ≡ []) →
     (if c || q then stop else (if o then inner ++ stop else joined inner stop))
     ≡ (if c then [] else inner) ++ stop
-ended-is true q o inner stop h = refl
-ended-is false true o inner stop h = ap (λ i. i ++ stop) (sym (h refl))
-ended-is false false true inner stop h = refl
-ended-is false false false inner [] h = sym (append-nil inner)
-ended-is false false false inner (piece ∷ pieces) h = refl
+ended-is c q o inner [] h = grind (arith, append-nil inner)
+ended-is c q o inner (piece ∷ pieces) h = grind arith
 
 -- what a node prints, from what its children print, in a state that has the facts that it needs
 abbrev Ends : Context → At → ℕ → State → Option Name → List Piece → Name → List Piece
@@ -132,8 +124,7 @@ BothSides context at cells left ended inner name =
 tight_sides : (b : Bool) (inner start : List Piece) (piece : Piece) (pieces : List Piece) →
     (if b then inner else start ++ (inner ++ (piece ∷ pieces)))
     ≡ when (not b) start ++ joined inner (when (not b) (piece ∷ pieces))
-tight_sides true inner start piece pieces = refl
-tight_sides false inner start piece pieces = refl
+tight_sides b inner start piece pieces = grind arith
 
 both-sides : (context : Context) (at : At) (cells : ℕ) (left : State) (ended : Option Name)
     (inner : List Piece) (name : Name) → Leaves context name at cells left ended →
@@ -163,37 +154,28 @@ both-sides context at cells left ended inner name k =
     ]
 
 -- the end of a fence depends on the fences before it
-fence-meant : (context : Context) (at : At) (inner : List Piece) (name : Name) →
-    (if is_fence name then Meant context at inner name
-    else inner ++ when (is_first_fence at) (said (codes ">")))
-    ≡ inner ++ when (is_first_fence at) (said (codes ">"))
-fence-meant context at inner Paragraph = refl
-fence-meant context at inner _ = refl
-
-fence-ends : (context : Context) (at : At) (cells : ℕ) (left : State) (ended : Option Name)
+fence-told : (context : Context) (at : At) (cells : ℕ) (left : State) (ended : Option Name)
     (inner : List Piece) (name : Name) →
-    (if is_fence name then Ends context at cells left ended inner name
+    ((if is_fence name then Meant context at inner name
+    else inner ++ when (is_first_fence at) (said (codes ">")))
+    ≡ inner ++ when (is_first_fence at) (said (codes ">")))
+    × ((if is_fence name then Ends context at cells left ended inner name
     else inner ++ when (left.fences == 0) (said (codes ">")))
-    ≡ inner ++ when (left.fences == 0) (said (codes ">"))
-fence-ends context at cells left ended inner Paragraph = refl
-fence-ends context at cells left ended inner _ = refl
+    ≡ inner ++ when (left.fences == 0) (said (codes ">")))
+fence-told context at cells left ended inner Paragraph = (refl, refl)
+fence-told context at cells left ended inner _ = (refl, refl)
 
 ends-meant : (context : Context) (at : At) (cells : ℕ) (left : State) (ended : Option Name)
     (inner : List Piece) (name : Name) → is_set_aside name ≡ false →
     Leaves context name at cells left ended →
     Meant context at inner name ≡ Ends context at cells left ended inner name
 ends-meant context at cells left ended inner name aside k =
-    by (is_fence name) refl (both-sides context at cells left ended inner name k)
-  where
-    by : (b : Bool) → is_fence name ≡ b →
-        (if is_set_aside name || b then Ends context at cells left ended inner name
-        else Meant context at inner name) ≡ Ends context at cells left ended inner name →
-        Meant context at inner name ≡ Ends context at cells left ended inner name
-    by true e h = picked (is_fence name) _ _ (fence-meant context at inner name) e
-        ∙ fence-sides at left inner (k.fences e)
-        ∙ sym (picked (is_fence name) _ _ (fence-ends context at cells left ended inner name) e)
-    by false e h = ap (λ a. if a || false then Ends context at cells left ended inner name
-        else Meant context at inner name) (sym aside) ∙ h
+    let sides = both-sides context at cells left ended inner name k in
+    let told = fence-told context at cells left ended inner name in
+    let fences : is_fence name ≡ true → inner ++ when (is_first_fence at) (said (codes ">"))
+    ≡ inner ++ when (left.fences == 0) (said (codes ">")) =
+    λ e. fence-sides at left inner (k.fences e) in
+    grind (arith, told.0, told.1)
 
 -- the two ends of a node, in the surroundings that the meaning sees
 pub sides-seen :
@@ -232,13 +214,11 @@ contained_is kind = elim kind [ container.Nothing ↦ false | _ ↦ true ]
 
 tight_is : (loose : Bool) →
     not loose ≡ is_tight (if loose then container.Another else container.TightList)
-tight_is true = refl
-tight_is false = refl
+tight_is loose = grind arith
 
 contained_list : (loose : Bool) →
     true ≡ contained_is (if loose then container.Another else container.TightList)
-contained_list true = refl
-contained_list false = refl
+contained_list loose = grind arith
 
 abbrev table_or : Name → List AlignKind → List AlignKind → List AlignKind
 table_or name own columns = if is GfmTable name then own else columns
@@ -250,19 +230,7 @@ pub scope_inside-seen :
     else seen around columns) ≡ seen (inside context.options (is_loose at.children) name around)
     (table_or name (alignments at.children) columns)
 scope_inside-seen context around columns at ListUnordered =
-    ap (λ b. record (seen around columns) { is_contained = true; is_tight = b })
-    (tight_is (is_loose at.children)) ∙ ap (λ b. record (seen around columns) {
-      is_contained = b;
-      is_tight =
-          is_tight (if is_loose at.children then container.Another else container.TightList);
-    })
-    (contained_list (is_loose at.children))
+    rw (← tight_is (is_loose at.children), ← contained_list (is_loose at.children)) refl
 scope_inside-seen context around columns at ListOrdered =
-    ap (λ b. record (seen around columns) { is_contained = true; is_tight = b })
-    (tight_is (is_loose at.children)) ∙ ap (λ b. record (seen around columns) {
-      is_contained = b;
-      is_tight =
-          is_tight (if is_loose at.children then container.Another else container.TightList);
-    })
-    (contained_list (is_loose at.children))
+    rw (← tight_is (is_loose at.children), ← contained_list (is_loose at.children)) refl
 scope_inside-seen context around columns at _ = refl

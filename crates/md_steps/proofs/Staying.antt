@@ -1,17 +1,15 @@
 -- A content that nothing changes, and tests that it passes.
-use Rattle.std.proofs.Common.{◌≡◌, Bool, true, false, refl, ap, ◌∙◌}
+use Rattle.std.proofs.Common.{arith, ◌≡◌, Bool, refl, ap, ◌∙◌}
 use Rattle.std.specs.Prelude.{if◌then◌else◌}
 use Rattle.md_base.specs.declared.event.Name.{Name}
 use Rattle.md_base.proofs.Lies.{lie}
 use Rattle.md_base.specs.Tree.{Forest, Empty, Node}
 use Rattle.md_base.specs.NameTests.{is_transparent}
-use Rattle.md_steps.specs.Content.{Content, BeforeLabel, Childless, Fits, content_past}
+use Rattle.md_steps.specs.Content.{Content, BeforeLabel, AfterLabel, Childless, Fits, content_past}
 use Rattle.md_steps.specs.Content.{content_after, content_after_node}
-use Rattle.md_steps.specs.Claim.{is_laid, keeps_cells, keeps_lines, has_marks}
 
 pub one_or_other : {A : Type 0} (b : Bool) {x y z : A} → x ≡ z → y ≡ z → (if b then x else y) ≡ z
-one_or_other true h k = h
-one_or_other false h k = k
+one_or_other b h k = grind arith
 
 pub stays : (content : Content) (forest : Forest) → content_past content ≡ content →
     content_after content forest ≡ content
@@ -27,8 +25,7 @@ node-stays content name children h = one_or_other (is_transparent name) (stays c
 
 either : (p : Content → Bool) (b : Bool) (x y : Content) (v : Bool) → p x ≡ v → p y ≡ v →
     p (if b then x else y) ≡ v
-either p true x y v h k = h
-either p false x y v h k = k
+either p b x y v h k = grind arith
 
 -- a test that doesn't distinguish a content from what follows it
 pub after-same : (p : Content → Bool) → ((c : Content) → p (content_past c) ≡ p c) →
@@ -47,21 +44,10 @@ node-same p past content name children =
     either p (is_transparent name) (content_after content children) (content_past content)
     (p content) (after-same p past content children) (past content)
 
-pub past-cells : (c : Content) → keeps_cells (content_past c) ≡ keeps_cells c
-past-cells BeforeLabel = refl
-past-cells _ = refl
-
-pub past-lines : (c : Content) → keeps_lines (content_past c) ≡ keeps_lines c
-past-lines BeforeLabel = refl
-past-lines _ = refl
-
-pub past-marks : (c : Content) → has_marks (content_past c) ≡ has_marks c
-past-marks BeforeLabel = refl
-past-marks _ = refl
-
-pub past-laid : (c : Content) → is_laid (content_past c) ≡ is_laid c
-past-laid BeforeLabel = refl
-past-laid _ = refl
+pub past-as : (p : Content → Bool) → p AfterLabel ≡ p BeforeLabel → (c : Content) →
+    p (content_past c) ≡ p c
+past-as p same BeforeLabel = same
+past-as p same _ = refl
 
 -- nothing stands there
 pub childless : (forest : Forest) → Fits Childless forest → forest ≡ Empty

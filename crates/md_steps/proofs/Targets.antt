@@ -1,12 +1,13 @@
 -- The target of a node at its exit: the target so far, and the resource after a label.
-use Rattle.std.proofs.Common.{◌≡◌, ℕ, Bool, true, false, not, ◌||◌, List, [], Option, Some, None}
+use Rattle.std.proofs.Common.{arith, ◌≡◌, ℕ, Bool, true, false, not, ◌||◌, List, [], Option, Some}
+use Rattle.std.proofs.Common.{None}
 use Rattle.std.proofs.Common.{refl, ap, sym, ◌∙◌, unwrap_or}
 use Rattle.std.specs.Prelude.{if◌then◌else◌}
 use Rattle.md_base.specs.declared.event.Name.{Name}
 use Rattle.md_base.specs.declared.event.Name.TheVariants as name_variants
 use name_variants.{SpaceOrTab, BlockQuotePrefix, Other, Label, Resource, ReferenceString}
+use Rattle.std.proofs.lemmas.Bool.{cond-false, or_from}
 use Rattle.md_base.proofs.Lies.{lie}
-use Rattle.md_base.specs.Is.{is}
 use Rattle.md_base.specs.Children.{or_else}
 use Rattle.md_base.specs.Tree.{Forest}
 use Rattle.md_base.specs.NameTests.{is_transparent, is_label}
@@ -19,7 +20,6 @@ use Rattle.md_steps.specs.Steps.{target_after, resource_after, nowhere, begins_t
 use Rattle.md_steps.specs.Claim.{KnowsResource, TargetAfter, ResourceAfter}
 use Rattle.md_steps.proofs.Past.{or_else-none}
 use Rattle.md_steps.proofs.Standing.{is_set_aside, Facts, keeps_target, picked}
-use Rattle.md_steps.proofs.Counting.{when_not}
 
 pub kept-target : (c : Content) (found : Found) (one other : Target) → keeps_target c ≡ true →
     TargetAfter c found one other → other ≡ one
@@ -36,29 +36,12 @@ kept-resource Nothing found one other h k = k
 kept-resource Childless found one other h k = k
 kept-resource _ found one other h k = lie h
 
-target-kept : (name : Name) (inner : List ℕ) (target : Target) →
-    (if is_set_aside name || is Resource name then target else target_after name inner target)
-    ≡ target
-target-kept Label inner target = refl
-target-kept _ inner target = refl
-
-no-target : (name : Name) (inner : List ℕ) (target : Target) → is_set_aside name ≡ false →
-    is Resource name ≡ false →
-    target_after name inner target ≡ target
-no-target name inner target h k =
-    sym (ap (λ b. if b || is Resource name then target else target_after name inner target) h
-    ∙ ap (λ b. if b then target else target_after name inner target) k)
-    ∙ target-kept name inner target
-
-no-resource : (name : Name) (target : Target) (resource : Option Target) → is_label name ≡ false →
-    is Resource name ≡ false → resource_after name target resource ≡ resource
-no-resource Label target resource h k = lie (sym h)
-no-resource Resource target resource h k = lie (sym k)
-no-resource _ target resource h k = refl
-
-no_begin : (name : Name) → begins_target name ≡ false → is Resource name ≡ false
-no_begin Resource h = lie (sym h)
-no_begin _ h = refl
+stays-told : (name : Name) (text : List ℕ) (target : Target) (resource : Option Target) →
+    ((if begins_target name || is_set_aside name then target else target_after name text target)
+    ≡ target) × ((if begins_target name || is_label name then resource
+    else resource_after name target resource) ≡ resource)
+stays-told Label text target resource = (refl, refl)
+stays-told _ text target resource = (refl, refl)
 
 -- where the target stays as it is
 target-stays : (c : Content) (name : Name) (text : List ℕ) (found : Found) (state inner : Target) →
@@ -68,9 +51,10 @@ target-stays : (c : Content) (name : Name) (text : List ℕ) (found : Found) (st
     keeps_target c ≡ true → target_after name text inner ≡ state
 target-stays c name text found state inner facts k h =
     let f = facts.target h in
-    no-target name text inner f.2 (no_begin name f.1)
+    sym (cond-false _ inner (target_after name text inner) (or_from _ _ f.1 f.2))
+    ∙ (stays-told name text inner None).0
     ∙ kept-target (content_inside c name) found _ inner f.0 k
-    ∙ when_not (begins_target name) nowhere state f.1
+    ∙ cond-false (begins_target name) nowhere state f.1
 
 resource-stays :
     (c : Content) (name : Name) (target : Target) (found : Found) (state inner : Option Target) →
@@ -79,9 +63,10 @@ resource-stays :
     keeps_target c ≡ true → resource_after name target inner ≡ state
 resource-stays c name target found state inner facts k h =
     let f = facts.target h in
-    no-resource name target inner f.4 (no_begin name f.1)
+    sym (cond-false _ inner (resource_after name target inner) (or_from _ _ f.1 f.4))
+    ∙ (stays-told name [] target inner).1
     ∙ kept-resource (content_inside c name) found _ inner f.0 k
-    ∙ when_not (is_labelled name) None state f.3
+    ∙ cond-false (is_labelled name) None state f.3
 
 -- what is read of the node's captured text
 abbrev Reads : Name → List ℕ → List ℕ → Type 0
@@ -132,7 +117,7 @@ target-solid Sources name at inner text found state target facts h solid reads k
     let f = facts.in_sources (ap (λ t. not t) solid) in
     in-sources name at inner text state target h solid reads
     (kept-target (content_inside Sources name) found _ target f.0 k
-    ∙ when_not (begins_target name) nowhere state f.1)
+    ∙ cond-false (begins_target name) nowhere state f.1)
 target-solid _ name at inner text found state target facts h solid reads k = tt
 
 pub target-known :
@@ -165,20 +150,14 @@ in-media : (name : Name) (at : At) (text : List ℕ) (state resource : Option Ta
 in-media Resource at text state resource before target h solid t k =
     ap (λ x. Some x) (target-gathered at.found target t)
 in-media ReferenceString at text state resource before target h solid t k = k
-in-media SpaceOrTab at text state resource before target h solid t k = lie (sym solid)
-in-media BlockQuotePrefix at text state resource before target h solid t k = lie (sym solid)
-in-media (Other number) at text state resource before target h solid t k = lie (sym solid)
-in-media _ at text state resource before target h solid t k = lie h
+in-media _ at text state resource before target h solid t k = grind arith
 
 at-label :
     (name : Name) (at : At) (text : List ℕ) (state resource : Option Target) (target : Target) →
     is_allowed BeforeLabel name ≡ true → is_transparent name ≡ false → state ≡ None →
     resource_after name target resource ≡ or_else (found_at at name text).resource state
 at-label Label at text state resource target h solid k = sym k
-at-label SpaceOrTab at text state resource target h solid k = lie (sym solid)
-at-label BlockQuotePrefix at text state resource target h solid k = lie (sym solid)
-at-label (Other number) at text state resource target h solid k = lie (sym solid)
-at-label _ at text state resource target h solid k = lie h
+at-label _ at text state resource target h solid k = grind arith
 
 resource-solid :
     (c : Content) (name : Name) (at : At) (text : List ℕ) (state resource : Option Target)

@@ -1,5 +1,5 @@
 -- The steps over a whole document: over its events, and what they print.
-use Rattle.std.proofs.Common.{◌≡◌, ℕ, zero, suc, ◌+◌, Bool, true, false, ◌&&◌, List, [], ◌∷◌, ◌++◌}
+use Rattle.std.proofs.Common.{◌≡◌, ℕ, zero, suc, Bool, true, false, ◌&&◌, List, [], ◌∷◌, ◌++◌}
 use Rattle.std.proofs.Common.{refl, ap, sym, ◌∙◌, append-nil}
 use Rattle.std.specs.Prelude.{if◌then◌else◌}
 use Rattle.md_base.specs.declared.event.Event.{Event}
@@ -14,7 +14,7 @@ use Rattle.md_meaning.specs.Meaning.Inherited.{inside, outermost}
 use Rattle.md_meaning.specs.Meaning.Layout.{laid_after, layout, when}
 use Rattle.md_meaning.specs.Meaning.At.{Context, Before, identifier_of}
 use Rattle.md_meaning.specs.Meaning.Before.{before_children, nothing_before}
-use Rattle.md_meaning.specs.Meaning.Nodes.{outcome}
+use Rattle.md_meaning.specs.Meaning.Nodes.{Outcome, outcome}
 use Rattle.md_content.proofs.Underlines.{grammatical-underlined}
 use Rattle.md_steps.specs.Content.{Blocks}
 use Rattle.md_steps.specs.State.{State, NodeFacts, facts_of}
@@ -30,7 +30,7 @@ use Rattle.md_meaning.specs.Meaning.Footnotes.{section}
 use Rattle.md_steps.proofs.Laid.{laid-append}
 use Rattle.md_steps.proofs.Noted.{section-noted}
 use Rattle.md_steps.proofs.ContentFits.{shaped-fits}
-use Rattle.md_steps.proofs.Past.{past-calls}
+use Rattle.md_steps.proofs.Past.{past}
 use Rattle.md_steps.proofs.Runs.{nodes, begins}
 use Rattle.md_steps.proofs.Defined.{defined-known}
 use Rattle.md_steps.proofs.Running.{run-over}
@@ -66,7 +66,7 @@ prints-meant context document grammatical calls =
     ([], calls ∙ sym (append-nil (outcome context outermost nothing_before document).calls)) in (
       ap (λ (s : State). s.text) ran ∙ done.text refl,
       ap (λ (s : State). s.calls) ran ∙ done.knows.calls
-          ∙ past-calls context outermost nothing_before document,
+          ∙ (past context outermost nothing_before document).calls,
       ap (λ (s : State). s.footnotes) ran ∙ done.footnotes,
     )
 
@@ -91,17 +91,12 @@ calls-in : (context : Context) (around : Surroundings) (before : Before) (forest
     (outcome context around before forest).calls ≡ calls_in context.bytes forest
 calls-in context around before Empty = refl
 calls-in context around before (Node name start end children rest) =
-    ap (λ l. (l ++ when (is GfmFootnoteCall name) (identifier_of context.bytes children ∷ []))
-    ++ (outcome context around (next_before context around before
-    (around.is_outermost && is_empty rest)
-    name start end children) rest).calls)
-    (calls-in context (inside context.options (is_loose children) name around)
-    (before_children name children before) children) ∙ ap (λ l. (calls_in context.bytes children
-    ++ when (is GfmFootnoteCall name) (identifier_of context.bytes children ∷ []))
-    ++ l) (calls-in context around
-    (next_before context around before (around.is_outermost && is_empty rest) name start end
-    children)
-    rest)
+    rw (
+      calls-in context around (next_before context around before
+          (around.is_outermost && is_empty rest) name start end children) rest,
+      calls-in context (inside context.options (is_loose children) name around)
+          (before_children name children before) children,
+    ) refl
 
 -- no step reads the calls of the document
 over-same :
@@ -109,40 +104,24 @@ over-same :
     (state : State) →
     over (record context { calls = calls }) outermost forest state ≡ over context outermost forest
     state
-over-same context calls outermost Empty state = refl
-over-same context calls outermost (Node name start end children rest) state =
-    let facts : NodeFacts = facts_of context.bytes (outermost && is_empty rest) children start end
-    in
-    over-same context calls outermost rest (if is_passed name then passed state else exited context
-    facts
-    name (over (record context { calls = calls }) false children
-    (entered context facts name state)))
-    ∙ ap (λ s. over context outermost rest
-    (if is_passed name then passed state else exited context facts name s))
-    (over-same context calls false children (entered context facts name state))
+over-same context calls outer Empty state = refl
+over-same context calls outer (Node name start end children rest) state =
+    let facts : NodeFacts = facts_of context.bytes (outer && is_empty rest) children start end in
+    rw (over-same context calls false children (entered context facts name state))
+    (over-same context calls outer rest (if is_passed name then passed state
+    else exited context facts name (over context false children
+    (entered context facts name state))))
 
 defined-same : (context : Context) (calls : List (List ℕ)) (forest : Forest) →
     defined (record context { calls = calls }) forest ≡ defined context forest
 defined-same context calls Empty = refl
 defined-same context calls (Node name start end children rest) =
-    ap (λ s. (if is_passed name then record {
-      identifier = identifier_of context.bytes children;
-      target = s.target;
-    } ∷ [] else defined (record context { calls = calls }) children)
-    ++ defined (record context { calls = calls }) rest) (over-same context calls false children
-    (entered context (facts_of context.bytes false children start end) Definition beginning))
-    ∙ ap (λ l. (if is_passed name then record {
-      identifier = identifier_of context.bytes children;
-      target = (over context false children (entered context
-          (facts_of context.bytes false children start end) Definition beginning)).target;
-    } ∷ []
-    else l) ++ defined (record context { calls = calls }) rest)
-    (defined-same context calls children)
-    ∙ ap (λ l. (if is_passed name then record {
-      identifier = identifier_of context.bytes children;
-      target = (over context false children (entered context
-          (facts_of context.bytes false children start end) Definition beginning)).target;
-    } ∷ [] else defined context children) ++ l) (defined-same context calls rest)
+    rw (
+      over-same context calls false children
+          (entered context (facts_of context.bytes false children start end) Definition beginning),
+      defined-same context calls children,
+      defined-same context calls rest,
+    ) refl
 
 run-same : (context : Context) (calls : List (List ℕ)) (left : ℕ)
     (events : List Event) (seen : List Noticed) (state : State) →
@@ -183,18 +162,7 @@ printed-meant options names bytes document grammatical =
     let same : after mine ≡ after context =
     sym (run-same mine calls 0 (flatten document) (noticed bytes true document) beginning)
     ∙ ap (λ ds. after (record called { definitions = ds })) (sym defines) in
-    ap (λ s. laid_after ending s.text (section (record mine { calls = s.calls }) s.footnotes)) same
-    ∙ ap (λ t. laid_after ending t
-    (section (record mine { calls = (after context).calls }) (after context).footnotes)) says.0
-    ∙ ap (λ cs. laid_after ending
-    (layout ending (outcome context outermost nothing_before document).pieces)
-    (section (record mine { calls = cs }) (after context).footnotes))
-    (says.1 ∙ sym (counted context refl))
-    ∙ ap (λ fs. laid_after ending
-    (layout ending (outcome context outermost nothing_before document).pieces)
-    (section (record mine { calls = calls }) fs)) says.2
-    ∙ ap (λ ps. laid_after ending
-    (layout ending (outcome context outermost nothing_before document).pieces) ps)
-    (section-noted context (outcome context outermost nothing_before document).footnotes)
-    ∙ sym (laid-append ending [] (outcome context outermost nothing_before document).pieces
-    (section context (outcome context outermost nothing_before document).footnotes))
+    let out : Outcome = outcome context outermost nothing_before document in
+    rw (same, says.0, says.1, sym (counted context refl), says.2)
+    (ap (laid_after ending (layout ending out.pieces)) (section-noted context out.footnotes)
+    ∙ sym (laid-append ending [] out.pieces (section context out.footnotes)))

@@ -2,7 +2,7 @@
 use Rattle.md_content.proofs.Resolved.{leads-somewhere}
 use Rattle.md_meaning.specs.Meaning.At.{Defined, Footnote}
 use Rattle.md_content.proofs.Alike.{leads-alike, find-first}
-use Rattle.md_content.proofs.Listed.{definitions-listed, footnotes-listed}
+use Rattle.md_content.proofs.Listed.{listed}
 use Rattle.md_content.proofs.laws.references_lead_somewhere.Goals as goal
 
 pub returns : goal.returns
@@ -11,6 +11,6 @@ returns c = record {
   alike = leads-alike;
   first = find-first (λ (d : Defined). d.identifier);
   first_footnote = find-first (λ (f : Footnote). f.identifier);
-  definitions = definitions-listed;
-  footnotes = footnotes-listed;
+  definitions = λ context around before forest. (listed context around before forest).0;
+  footnotes = λ context around before forest. (listed context around before forest).1;
 }
