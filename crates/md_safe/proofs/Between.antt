@@ -1,5 +1,5 @@
 -- Texts in a row.
-use Rattle.std.proofs.Common.{◌≡◌, ℕ, Bool, ◌&&◌, true, false, List, [], ◌∷◌, ◌++◌, refl, sym, ap}
+use Rattle.std.proofs.Common.{◌≡◌, ℕ, Bool, true, false, List, [], ◌∷◌, ◌++◌, refl, sym, ap}
 use Rattle.std.proofs.Common.{◌∙◌, subst, append-nil, append_assoc}
 use Rattle.md_text.specs.Html.{Attribute, Forest, is_forest, written, IsReading, HasOneReadingWith}
 use Rattle.md_safe.specs.Input.{with_line_feeds, begins_with_line_feed}
@@ -13,6 +13,7 @@ use Rattle.md_safe.specs.Embedded.{ends_with_return}
 use Rattle.md_safe.proofs.Seams.{line_feeds-apart, line_feeds-split}
 use Rattle.md_safe.proofs.ForestLeads.{forest-ends, reading-ends}
 use Rattle.md_safe.proofs.Joining.{leads-on, runs-on, run-on}
+use Rattle.std.proofs.lemmas.Bool.{and_right}
 
 pub alone : (text after : List ℕ) (emits : List Token) → EndsInDataState text emits →
     splits_newline text after ≡ false →
@@ -56,13 +57,8 @@ own-tokens text emits h = subst (λ x. IsRun Data x (emits ++ (EndOfFile ∷ [])
 pub in_place : (f : Forest) (r : List ℕ) (t : List Token) → is_forest f ≡ true →
     begins_with_line_feed r ≡ false →
     IsTokenized r t → IsTokenized (written f ++ r) (tokens f ++ t)
-in_place f r t h n k =
-    tokenized (written f) r (tokens f) t (forest-ends f h) (never (ends_with_return (written f)) n)
-    k
-  where
-    never : (b : Bool) → begins_with_line_feed r ≡ false → (b && begins_with_line_feed r) ≡ false
-    never true n = n
-    never false n = refl
+in_place f r t h n k = tokenized (written f) r (tokens f) t (forest-ends f h) (and_right
+    (ends_with_return (written f)) _ n) k
 
 pub whole : (f : Forest) → is_forest f ≡ true →
     IsTokenized (written f) (tokens f ++ (EndOfFile ∷ []))

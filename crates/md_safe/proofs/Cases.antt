@@ -3,7 +3,8 @@
 use Rattle.std.specs.List.{list_all}
 use Rattle.std.specs.Cmp.Lexicographic.{bytes_decides}
 use Rattle.std.proofs.Common.{◌≡◌, ℕ, Bool, true, ◌||◌, List, [], ◌∷◌, inl, inr, refl, sym, subst}
-use Rattle.std.proofs.lemmas.Bool.{or_cases, and_parts, and_from}
+use Rattle.std.proofs.Common.{arith}
+use Rattle.std.proofs.lemmas.Bool.{or_cases, and_parts}
 use Rattle.md_base.proofs.Lies.{lie}
 use Rattle.md_text.specs.Bytes.{is_one_of}
 
@@ -21,6 +22,4 @@ one_of-passes p (t ∷ ts) name g e =
 pub all-weaker : {A : Type 0} (p q : A → Bool) → ((a : A) → p a ≡ true → q a ≡ true) →
     (xs : List A) → list_all p xs ≡ true → list_all q xs ≡ true
 all-weaker p q weaker [] h = refl
-all-weaker p q weaker (x ∷ xs) h =
-    let parts = and_parts (p x) (list_all p xs) h in
-    and_from (q x) (list_all q xs) (weaker x parts.0) (all-weaker p q weaker xs parts.1)
+all-weaker p q weaker (x ∷ xs) h = grind (arith, weaker x, all-weaker p q weaker xs)

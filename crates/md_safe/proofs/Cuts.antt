@@ -1,7 +1,7 @@
 -- Single texts that end in the data state, and ones that don't.
 use Rattle.std.specs.Str.{bytes_eq}
-use Rattle.std.proofs.Common.{◌≡◌, ℕ, ◌==◌, Bool, true, false, ◌||◌, List, [], ◌∷◌, ◌++◌, refl, ap}
-use Rattle.std.proofs.Common.{◌∙◌, codes}
+use Rattle.std.proofs.Common.{◌≡◌, ℕ, ◌==◌, Bool, true, false, List, [], ◌∷◌, refl, ap}
+use Rattle.std.proofs.Common.{◌∙◌, codes, sym}
 use Rattle.std.specs.List.{list_any}
 use Rattle.md_safe.specs.Token.{Token, Character, StartTag, EndOfFile}
 use Rattle.md_safe.specs.TokenizerStates.{Data}
@@ -11,24 +11,16 @@ use Rattle.md_safe.proofs.Steps.{attribute}
 use Rattle.md_safe.specs.Tokenizes.{Tokenizes}
 use Rattle.md_safe.specs.Embedded.{EndsInDataState}
 use Rattle.md_safe.proofs.Joining.{runs-on}
-
-any-later : (p : Token → Bool) (x y : List Token) → list_any p y ≡ true → list_any p (x ++ y) ≡ true
-any-later p [] y h = h
-any-later p (a ∷ x) y h = by (p a) (list_any p (x ++ y)) (any-later p x y h)
-  where
-    by : (b c : Bool) → c ≡ true → (b || c) ≡ true
-    by true c e = refl
-    by false c e = e
+use Rattle.md_base.proofs.Lies.{lie}
+use Rattle.std.proofs.lemmas.Bool.{or_right}
+use Rattle.std.proofs.lemmas.List.Folds.{list_any-append}
 
 -- the rest would be emitted, and isn't
 lost : (p : Token → Bool) (input mid : List ℕ) (t u all : List Token) → IsRun Data mid u →
     IsRun Data input all → list_any p u ≡ true → list_any p all ≡ false →
     Tokenizes Data input t mid → ⊥
-lost p input mid t u all k l has hasn't h = by (list_any p all) (ap (list_any p)
-    (one_run _ _ _ _ l (runs-on _ _ _ t u h k)) ∙ any-later p t u has) hasn't
-  where
-    by : (b : Bool) → b ≡ true → b ≡ false → ⊥
-    by b e f = cc
+lost p input mid t u all k l has hasn't h = lie (sym hasn't ∙ ap (list_any p) (one_run _ _ _ _ l
+    (runs-on _ _ _ t u h k)) ∙ list_any-append p t u ∙ or_right _ _ has)
 
 abbrev is_byte : ℕ → Token → Bool
 is_byte b token = elim token [ Character c ↦ c == b | _ ↦ false ]
@@ -67,8 +59,6 @@ value emits h =
     refl (h (codes "\">"))
 
 pub two_feeds : Tokenizes Data (10 ∷ []) (Character 10 ∷ []) (10 ∷ []) → ⊥
-two_feeds h = by (one_run _ _ _ _ record { steps = 9; emits = refl }
-    (runs-on _ _ _ _ _ h record { steps = 9; emits = refl }))
-  where
-    by : (Character 10 ∷ EndOfFile ∷ []) ≡ (Character 10 ∷ Character 10 ∷ EndOfFile ∷ []) → ⊥
-    by e = cc
+two_feeds h = cc (one_run _ (10 ∷ []) (Character 10 ∷ EndOfFile ∷ []) (Character 10 ∷ Character 10 ∷
+    EndOfFile ∷ []) record { steps = 9; emits = refl } (runs-on _ _ _ (Character 10 ∷ []) _ h record
+    { steps = 9; emits = refl }))

@@ -1,20 +1,20 @@
 -- A value without a protocol has no scheme, and one with a permitted protocol has that scheme: no
 -- byte that is removed or changed on the way belongs to a scheme.
 use Rattle.std.proofs.Common.{◌≡◌, ℕ, ◌==◌, Bool, true, false, not, ◌&&◌, cond, List, [], ◌∷◌, ◌++◌}
-use Rattle.std.proofs.Common.{refl, sym, ap, ap₂, ◌∙◌, subst, inl, inr, Option, Some, None}
-use Rattle.std.proofs.Common.{append-nil, append_assoc, eqb-true, leb, ltb, arith}
+use Rattle.std.proofs.Common.{refl, sym, ap, ap₂, ◌∙◌, inl, inr, Option, Some, None}
+use Rattle.std.proofs.Common.{append-nil, append_assoc, eqb-true, arith}
 use Rattle.std.specs.List.{list_all}
 use Rattle.std.specs.Option.{option_map_or}
-use Rattle.std.proofs.lemmas.Bool.{and_parts, and_from, and_left, or_cases, or_from, or_left}
-use Rattle.std.proofs.lemmas.Bool.{cases_Bool, eqb-false, leb-true, ltb-true, lt-leb}
+use Rattle.std.proofs.lemmas.Bool.{and_parts, or_left, cases_Bool, eqb-false}
 use Rattle.md_base.proofs.Lies.{lie}
 use Rattle.md_base.specs.Identifier.{is_nonempty}
-use Rattle.md_text.specs.Bytes.{is_between, is_letter, lower, lowered, is_one_of}
+use Rattle.md_text.specs.Bytes.{is_letter, lower, lowered, is_one_of}
 use Rattle.md_text.specs.References.{is_escaped, read_back}
 use Rattle.md_text.specs.Url.{protocol_of, link_protocols, image_protocols}
 use Rattle.md_text.specs.Safe.{is_safe_value}
 use Rattle.md_text.proofs.EncodeLaws.{read_back-other}
-use Rattle.md_text.proofs.ProtocolLemmas.{ends_protocol, none_some, map_some}
+use Rattle.md_text.proofs.ProtocolLemmas.{ends_protocol, none_some, map_some, protocol_of-goes_on}
+use Rattle.md_text.proofs.ProtocolLemmas.{protocol_of-colon, protocol_of-end}
 use Rattle.md_text.proofs.HtmlRead.{passes_not}
 use Rattle.md_safe.proofs.Cases.{one_of-passes, all-weaker}
 use Rattle.md_safe.specs.Input.{with_line_feeds, begins_with_line_feed}
@@ -25,8 +25,8 @@ use Rattle.md_safe.specs.Scheme.{in_scheme_start, scheme_of, has_permitted_schem
 use Rattle.md_safe.proofs.EscapedCases.{IsPlain, by_escaped}
 use Rattle.md_safe.proofs.LineFeeds.{no_return, line_feeds-name, one}
 use Rattle.md_safe.proofs.Steps.{past, here}
-use Rattle.md_safe.proofs.NoProtocol.{goes_on, protocol_of-goes_on, protocol_of-colon}
-use Rattle.md_safe.proofs.NoProtocol.{protocol_of-end, scheme_of-none}
+use Rattle.md_safe.proofs.NoProtocol.{scheme_of-none}
+use Rattle.md_text.specs.Kept.{goes_on}
 
 -- ---- line feeds and references
 
@@ -86,56 +86,37 @@ abbrev pub is_word : List ℕ → Bool
 is_word name = is_nonempty name && list_all is_letter name
 
 lower-letter : (b : ℕ) → is_letter (lower b) ≡ true → is_letter b ≡ true
-lower-letter b h = elim (cases_Bool (is_between 65 90 b)) [
-  | inl upper ↦ or_left (is_between 65 90 b) (is_between 97 122 b) upper
-  | inr not ↦ subst (λ c. is_letter c ≡ true) (past _ not refl) h
-]
+lower-letter b h = grind arith
 
 lowered-letters : (q : List ℕ) → list_all is_letter (lowered q) ≡ true → list_all is_letter q ≡ true
 lowered-letters [] h = refl
-lowered-letters (b ∷ q) h =
-    let p = and_parts (is_letter (lower b)) (list_all is_letter (lowered q)) h in
-    and_from (is_letter b) (list_all is_letter q) (lower-letter b p.0) (lowered-letters q p.1)
+lowered-letters (b ∷ q) h = grind (arith, lower-letter b, lowered-letters q)
 
 letters-no_return : (q : List ℕ) → list_all is_letter q ≡ true → list_all no_return q ≡ true
 letters-no_return q h = all-weaker _ _ (λ b h. ap not (passes_not is_letter b 13 refl h)) q h
 
 letter-control : (b : ℕ) → is_letter b ≡ true → is_control_or_space b ≡ false
-letter-control b h = elim (or_cases (is_between 65 90 b) (is_between 97 122 b) h) [
-  | inl upper ↦ below 65 b refl (and_parts (leb 65 b) (leb b 90) upper).0
-  | inr small ↦ below 97 b refl (and_parts (leb 97 b) (leb b 122) small).0
-]
-  where
-    below : (n b : ℕ) → ltb 32 n ≡ true → leb n b ≡ true → leb b 32 ≡ false
-    below n b e h =
-        let less = ltb-true 32 n e in
-        let at_most = leb-true n b h in
-        lt-leb b 32 (omega arith)
+letter-control b h = grind arith
 
 letter-newline : (b : ℕ) → is_letter b ≡ true → is_tab_or_newline b ≡ false
-letter-newline b h = or_from _ _ (or_from _ _ (passes_not is_letter b 9 refl h)
-    (passes_not is_letter b 10 refl h)) (passes_not is_letter b 13 refl h)
+letter-newline b h = grind arith
 
 letter-scheme : (b : ℕ) → is_letter b ≡ true → is_scheme_byte b ≡ true
 letter-scheme b h = or_left _ _ (or_left _ _ (or_left _ _ (or_left _ _ h)))
 
 leading-word : (q y : List ℕ) → is_word q ≡ true → without_leading (q ++ y) ≡ q ++ y
 leading-word [] y h = lie h
-leading-word (b ∷ q) y h = past _ (letter-control b (and_parts _ _ h).0) refl
+leading-word (b ∷ q) y h = grind (arith, letter-control b)
 
 trailing-word : (q r : List ℕ) → list_all is_letter q ≡ true →
     without_trailing (q ++ (58 ∷ r)) ≡ q ++ (58 ∷ without_trailing r)
 trailing-word [] r h = refl
-trailing-word (b ∷ q) r h =
-    let p = and_parts _ _ h in
-    past _ (and_left _ _ (letter-control b p.0)) (ap (λ y. b ∷ y) (trailing-word q r p.1))
+trailing-word (b ∷ q) r h = grind (arith, letter-control b, trailing-word q r)
 
 newlines-word : (q r : List ℕ) → list_all is_letter q ≡ true →
     without_newlines (q ++ (58 ∷ r)) ≡ q ++ (58 ∷ without_newlines r)
 newlines-word [] r h = refl
-newlines-word (b ∷ q) r h =
-    let p = and_parts (is_letter b) (list_all is_letter q) h in
-    past _ (letter-newline b p.0) (ap (λ y. b ∷ y) (newlines-word q r p.1))
+newlines-word (b ∷ q) r h = grind (arith, letter-newline b, newlines-word q r)
 
 in_scheme-word : (buffer q r : List ℕ) → list_all is_letter q ≡ true →
     in_scheme buffer (q ++ (58 ∷ r)) ≡ Some (buffer ++ lowered q)

@@ -1,13 +1,12 @@
 -- Step by step: a run from a state, by a run from the state after its first step.
 use Rattle.std.proofs.Common.{◌≡◌, ℕ, ◌==◌, Bool, true, false, cond, List, [], ◌∷◌, ◌++◌, map, refl}
-use Rattle.std.proofs.Common.{sym, ap, ◌∙◌, Some, option_map, suc}
+use Rattle.std.proofs.Common.{sym, ap, ◌∙◌, Some, option_map, suc, arith}
 use Rattle.std.proofs.lemmas.Bool.{eqb-false}
 use Rattle.md_text.specs.References.{is_escaped, read_back}
 use Rattle.md_text.proofs.EncodeLaws.{read_back-other}
 use Rattle.md_safe.specs.Token.{Token, Character, TokenAttribute}
 use Rattle.md_safe.specs.Tag.{Tag, with_value}
 use Rattle.md_safe.specs.TokenizerStates.{State, Data, AttributeValueDoubleQuoted, Goes, Rcdata}
-use Rattle.md_safe.specs.TokenizerStates.{in_value}
 use Rattle.md_safe.specs.Tokenizer.{step, run, after_step, IsRun}
 use Rattle.md_safe.proofs.EscapedCases.{IsPlain, by_escaped}
 
@@ -58,12 +57,7 @@ RcdataRuns x = (r : List ℕ) (t : List Token) → IsRun Rcdata r t →
 
 rcdata_step : (b : ℕ) (rest : List ℕ) → IsPlain b →
     step Rcdata (b ∷ rest) ≡ Goes (Character b ∷ []) Rcdata rest
-rcdata_step b rest p =
-    past _ p.no_and
-    (past _ p.no_less (ap (λ bytes. Goes (map Character bytes) Rcdata rest) (in_value-plain b p)))
-  where
-    in_value-plain : (b : ℕ) → IsPlain b → in_value b ≡ b ∷ []
-    in_value-plain b p = past _ p.no_nul refl
+rcdata_step b rest p = simp (p.no_and, p.no_less, p.no_nul)
 
 rcdata-plain : (b : ℕ) (rest : List ℕ) → IsPlain b → RcdataRuns rest → RcdataRuns (b ∷ rest)
 rcdata-plain b rest p later r t h = along _ _ _ _ _ refl (ap (λ x. map Character x ++ t)
@@ -96,7 +90,4 @@ pub value_step : (tag : Tag) (b : ℕ) (rest : List ℕ) → (b == 34) ≡ false
     (b == 38) ≡ false → (b == 0) ≡ false →
     step (AttributeValueDoubleQuoted tag) (b ∷ rest)
     ≡ Goes [] (AttributeValueDoubleQuoted (with_value tag (b ∷ []))) rest
-value_step tag b rest e34 e38 e0 =
-    past _ e34 (past _ e38 (ap (λ c.
-    Goes [] (AttributeValueDoubleQuoted (with_value tag (cond c (239 ∷ 191 ∷ 189 ∷ []) (b ∷ []))))
-    rest) e0))
+value_step tag b rest e34 e38 e0 = grind (arith, e34, e38, e0)

@@ -1,11 +1,10 @@
 -- From `<` or `</` to the end of a tag, and on to the data state; and a run from there.
 use Rattle.std.specs.Str.{bytes_eq}
-use Rattle.std.proofs.Common.{◌≡◌, ℕ, ◌==◌, Bool, true, false, not, ◌&&◌, List, [], ◌∷◌, ◌++◌, refl}
-use Rattle.std.proofs.Common.{sym, ap, ◌∙◌, append-nil, append_assoc}
+use Rattle.std.proofs.Common.{◌≡◌, ℕ, Bool, true, false, not, ◌&&◌, List, [], ◌∷◌, ◌++◌, refl}
+use Rattle.std.proofs.Common.{sym, ap, ◌∙◌, append-nil, append_assoc, arith}
 use Rattle.std.specs.List.{list_any}
-use Rattle.std.proofs.lemmas.Bool.{and_parts, and_from, not-true, or_from, or_parts}
+use Rattle.std.proofs.lemmas.Bool.{and_parts, not-true}
 use Rattle.md_base.proofs.Lies.{lie}
-use Rattle.md_text.specs.Bytes.{is_letter}
 use Rattle.md_text.specs.Html.{Attribute}
 use Rattle.md_text.proofs.HtmlWriting.{attributes_before}
 use Rattle.md_safe.specs.Input.{with_line_feeds}
@@ -89,10 +88,7 @@ fresh-more : (a : TokenAttribute) (earlier : List TokenAttribute) (x : List Attr
     list_any (λ later. bytes_eq a.name later.name) x ≡ false → fresh earlier x ≡ true →
     fresh (a ∷ earlier) x ≡ true
 fresh-more a earlier [] n f = refl
-fresh-more a earlier (b ∷ x) n f =
-    let p = or_parts _ _ n in
-    let q = and_parts _ _ f in
-    and_from _ _ (ap not (or_from _ _ p.0 (not-true _ q.0))) (fresh-more a earlier x p.1 q.1)
+fresh-more a earlier (b ∷ x) n f = grind (arith, fresh-more a earlier x)
 
 kept-onto : (earlier : List TokenAttribute) (x : List Attribute) → are_good x ≡ true →
     fresh earlier x ≡ true → kept (onto earlier x) ≡ kept earlier ++ seen_attributes x
@@ -118,18 +114,12 @@ tag-begins is_end name r t g h =
 pub opens : (name r : List ℕ) → begins_tag name ≡ true →
     step TagOpen (name ++ r) ≡ Goes [] (TagName (tag_with false [] [])) (name ++ r)
 opens [] r g = lie g
-opens (b ∷ name) r g =
-    let p = and_parts (not (b == 33)) (not (b == 47) && is_letter b) g in
-    let q = and_parts (not (b == 47)) (is_letter b) p.1 in
-    past _ (not-true (b == 33) p.0) (past _ (not-true (b == 47) q.0) (here _ q.1 refl))
+opens (b ∷ name) r g = grind arith
 
 pub closes : (name r : List ℕ) → begins_tag name ≡ true →
     step EndTagOpen (name ++ r) ≡ Goes [] (TagName (tag_with true [] [])) (name ++ r)
 closes [] r g = lie g
-closes (b ∷ name) r g =
-    let p = and_parts (not (b == 33)) (not (b == 47) && is_letter b) g in
-    let q = and_parts (not (b == 47)) (is_letter b) p.1 in
-    here _ q.1 refl
+closes (b ∷ name) r g = grind arith
 
 start-leads : {left : List ℕ} (name : List ℕ) (x : List Attribute) (r : List ℕ) (t : List Token) →
     is_good_name name ≡ true → are_good x ≡ true →

@@ -1,21 +1,20 @@
 -- The name of a tag, and the names of its attributes, byte after byte.
 use Rattle.std.proofs.Common.{◌≡◌, ℕ, ◌==◌, true, false, not, List, [], ◌∷◌, ◌++◌, refl, sym, ap}
-use Rattle.std.proofs.Common.{◌∙◌, subst, append-nil, append_assoc}
+use Rattle.std.proofs.Common.{subst, append-nil, append_assoc, arith}
 use Rattle.std.specs.List.{list_all}
-use Rattle.std.proofs.lemmas.Bool.{and_parts, not-true, or_from}
+use Rattle.std.proofs.lemmas.Bool.{and_parts}
 use Rattle.md_base.proofs.Lies.{lie}
-use Rattle.md_text.specs.Bytes.{is_between, lower}
+use Rattle.md_text.specs.Bytes.{is_between}
 use Rattle.md_text.specs.References.{is_escaped, read_back}
 use Rattle.md_safe.proofs.Cases.{all-weaker}
 use Rattle.md_safe.specs.Token.{Token, TokenAttribute}
 use Rattle.md_safe.specs.Tag.{Tag, with_tag_name, with_name}
 use Rattle.md_safe.specs.TokenizerStates.{State, TagName, BeforeAttributeName, AttributeName}
-use Rattle.md_safe.specs.TokenizerStates.{AfterAttributeValueQuoted, Goes, is_space, in_name}
-use Rattle.md_safe.specs.TokenizerStates.{in_value}
+use Rattle.md_safe.specs.TokenizerStates.{AfterAttributeValueQuoted, Goes, is_space}
 use Rattle.md_safe.specs.Tokenizer.{step}
 use Rattle.md_safe.proofs.LineFeeds.{no_return}
 use Rattle.md_safe.proofs.GoodNames.{is_good_byte, is_good_attribute_name}
-use Rattle.md_safe.proofs.Steps.{past, tag_with, attribute}
+use Rattle.md_safe.proofs.Steps.{tag_with, attribute}
 use Rattle.md_safe.proofs.TextLeads.{To, quiet, value-leads}
 
 pub record IsGoodByte (b : ℕ) : Type 0 where
@@ -28,40 +27,16 @@ pub record IsGoodByte (b : ℕ) : Type 0 where
   pub no_return : (b == 13) ≡ false
 
 pub good_parts : (b : ℕ) → is_good_byte b ≡ true → IsGoodByte b
-good_parts b h =
-    let p = and_parts (not (is_space b)) _ h in
-    let q = and_parts (not (b == 47)) _ p.1 in
-    let r = and_parts (not (b == 62)) _ q.1 in
-    let s = and_parts (not (b == 61)) _ r.1 in
-    let u = and_parts (not (is_between 65 90 b)) _ s.1 in
-    let v = and_parts (not (b == 0)) (not (b == 13)) u.1 in
-    record {
-      no_space = not-true (is_space b) p.0;
-      no_slash = not-true (b == 47) q.0;
-      no_angle = not-true (b == 62) r.0;
-      no_equals = not-true (b == 61) s.0;
-      no_upper = not-true (is_between 65 90 b) u.0;
-      no_nul = not-true (b == 0) v.0;
-      no_return = not-true (b == 13) v.1;
-    }
+good_parts b h = grind arith
 
 pub good-no_return : (name : List ℕ) → list_all is_good_byte name ≡ true →
     list_all no_return name ≡ true
 good-no_return name h =
     all-weaker is_good_byte no_return (λ b good. ap not (good_parts b good).no_return) name h
 
-lower-good : (b : ℕ) → is_between 65 90 b ≡ false → lower b ≡ b
-lower-good b e = past _ e refl
-
--- such a byte is appended to a name unchanged
-in_name-good : (b : ℕ) → IsGoodByte b → in_name b ≡ b ∷ []
-in_name-good b g = ap in_value (lower-good b g.no_upper) ∙ past _ g.no_nul refl
-
 pub tag_name_step : (tag : Tag) (b : ℕ) (rest : List ℕ) → IsGoodByte b →
     step (TagName tag) (b ∷ rest) ≡ Goes [] (TagName (with_tag_name tag (b ∷ []))) rest
-tag_name_step tag b rest g =
-    past _ g.no_space (past _ g.no_slash (past _ g.no_angle
-    (ap (λ bytes. Goes [] (TagName (with_tag_name tag bytes)) rest) (in_name-good b g))))
+tag_name_step tag b rest g = simp (g.no_space, g.no_slash, g.no_angle, g.no_upper, g.no_nul)
 
 -- a name, after a first part of it, where each good byte is appended to it
 pub name-leads : {left : List ℕ} (S : List ℕ → State) → ((before : List ℕ) (b : ℕ) (rest : List ℕ) →
@@ -77,9 +52,7 @@ name-leads {left = left} S steps before (b ∷ name) r t g h =
 
 pub attribute_name_step : (tag : Tag) (b : ℕ) (rest : List ℕ) → IsGoodByte b →
     step (AttributeName tag) (b ∷ rest) ≡ Goes [] (AttributeName (with_name tag (b ∷ []))) rest
-attribute_name_step tag b rest g = past _
-    (or_from _ _ (or_from _ _ g.no_space g.no_slash) g.no_angle) (past _ g.no_equals (ap (λ bytes.
-    Goes [] (AttributeName (with_name tag bytes)) rest) (in_name-good b g)))
+attribute_name_step tag b rest g = grind arith
 
 -- where an attribute's name is read, up to here
 abbrev pub AtName : List ℕ → List TokenAttribute → List ℕ → State
@@ -91,11 +64,10 @@ attribute-begins : {left : List ℕ} (tag : List ℕ) (earlier : List TokenAttri
     To left (BeforeAttributeName (tag_with false tag earlier)) (name ++ r) t
 attribute-begins tag earlier [] r t g h = lie g
 attribute-begins tag earlier (b ∷ name) r t g h =
-    let p = and_parts _ _ g in
-    let q = good_parts b p.0 in
-    quiet (past _ q.no_space (past _ (or_from _ _ q.no_slash q.no_angle) (past _ q.no_equals refl)))
-    (name-leads (AtName tag earlier) (λ before b rest good. attribute_name_step
-    (tag_with false tag (attribute before [] ∷ earlier)) b rest good) [] (b ∷ name) r t g h)
+    let q = good_parts b (and_parts _ _ g).0 in
+    quiet (grind (arith, q)) (name-leads (AtName tag earlier) (λ before b rest good.
+    attribute_name_step (tag_with false tag (attribute before [] ∷ earlier)) b rest good) [] (b ∷
+    name) r t g h)
 
 -- a name, `="`, a value and `"`
 pub attribute-leads :
