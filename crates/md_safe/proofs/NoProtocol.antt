@@ -27,35 +27,19 @@ none-drop t b rest other h e =
     let q = or_parts (t 63) (t 35 || t 47) p.1 in
     let r = or_parts (t 35) (t 47) q.1 in
     let past = λ (n : ℕ) (other : t n ≡ false). passes_not t b n other e in
-    grind (
-      arith,
-      h,
-      past 58 p.0,
-      past 63 q.0,
-      past 35 r.0,
-      past 47 r.1,
-      map_none b (protocol_of
-          rest),
-    )
+    let none = map_none b (protocol_of rest) in
+    grind (arith, h, past 58 p.0, past 63 q.0, past 35 r.0, past 47 r.1, none)
 
 line_feeds-none : (x : List ℕ) → HasNone x → HasNone (with_line_feeds x)
 line_feeds-none [] h = refl
-line_feeds-none (b ∷ rest) h = grind (
-  arith,
-  line_feeds-none rest,
-  none-drop (λ b. b == 13) b rest
-      refl h,
-  none-keep b rest (with_line_feeds rest),
-)
+line_feeds-none (b ∷ rest) h =
+    let drop = none-drop (λ b. b == 13) b rest refl h in
+    grind (arith, line_feeds-none rest, drop, none-keep b rest (with_line_feeds rest))
 
 leading-none : (x : List ℕ) → HasNone x → HasNone (without_leading x)
 leading-none [] h = refl
-leading-none (b ∷ rest) h = grind (
-  arith,
-  leading-none rest,
-  none-drop is_control_or_space b rest
-      refl h,
-)
+leading-none (b ∷ rest) h =
+    grind (arith, leading-none rest, none-drop is_control_or_space b rest refl h)
 
 trailing-none : (x : List ℕ) → HasNone x → HasNone (without_trailing x)
 trailing-none [] h = refl

@@ -92,12 +92,8 @@ tag-listed : (rules : List (List ℕ × List (List ℕ))) (name : List ℕ) (att
     ((listed : List (List ℕ)) → are_attributes listed attributes ≡ true →
     list_all (λ a. is_one_of listed a.name) x ≡ true) → is_tag_of rules name x ≡ true
 tag-listed [] name attributes x h f = h
-tag-listed (rule ∷ rules) name attributes x h f = grind (
-  arith,
-  f rule.1,
-  tag-listed rules name
-      attributes x,
-)
+tag-listed (rule ∷ rules) name attributes x h f =
+    grind (arith, f rule.1, tag-listed rules name attributes x)
 
 -- a test of the tables passes each token of a forest
 listed-passes : (q : Attribute → Bool) → PassesTags is_listed q
