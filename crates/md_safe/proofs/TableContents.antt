@@ -74,11 +74,6 @@ Puts mode parent name held =
     is_contained false held inner ≡ true → AreCreated x.created x.active →
     Put (part mode parent x) name attributes inner
 
--- two texts don't follow one another
-joined-texts : (bytes more : List ℕ) (rest : Forest) → has_whole_texts (Text bytes (Text more rest))
-    ≡ true → false ≡ true
-joined-texts bytes more rest h = (and_parts _ _ (and_parts _ _ h).0).1
-
 -- something is read of a text
 fed : (x : List ℕ) → begins_with_line_feed x ≡ true → is_nonempty (with_line_feeds x) ≡ true
 fed [] h = lie h
@@ -87,19 +82,11 @@ fed (b ∷ x) h =
 
 lines-filled : (x : List ℕ) → is_nonempty x ≡ true → is_nonempty (with_line_feeds x) ≡ true
 lines-filled [] h = lie h
-lines-filled (b ∷ x) h =
-    cond_both (b == 13)
-    (cond (begins_with_line_feed x) (with_line_feeds x) (10 ∷ with_line_feeds x))
-    (b ∷ with_line_feeds x) (λ y. is_nonempty y ≡ true)
-    (λ _. cond_both (begins_with_line_feed x) (with_line_feeds x) (10 ∷ with_line_feeds x)
-    (λ y. is_nonempty y ≡ true) (λ e. fed x e) (λ _. refl))
-    (λ _. refl)
+lines-filled (b ∷ x) h = grind (arith, fed x)
 
 read-filled : (x : List ℕ) → is_nonempty x ≡ true → is_nonempty (read_back x) ≡ true
 read-filled [] h = lie h
-read-filled (b ∷ x) h =
-    cond_both (b == 38) (referenced x ∷ read_back_after (reference_tail x) x)
-    (b ∷ read_back_after 0 x) (λ y. is_nonempty y ≡ true) (λ _. refl) (λ _. refl)
+read-filled (b ∷ x) h = grind arith
 
 filled : (bytes : List ℕ) (rest : Forest) → has_whole_texts (Text bytes rest) ≡ true →
     is_nonempty (seen bytes) ≡ true
@@ -147,7 +134,8 @@ set-all (Text bytes rest) content is mode tables parent tabular putting h c x ma
       settles = settle;
       later = omega arith;
     }
-    by (Text more rest) h c wait waits settle later = lie (joined-texts bytes more rest h)
+    by (Text more rest) h c wait waits settle later = lie
+        (and_parts _ _ (and_parts _ _ h).0).1
     by (Void name attributes rest) h c wait waits settle later = lie
         (no_void content name is (and_parts _ _ c).0)
     by (Element name attributes inner rest) h c wait waits settle later = record {

@@ -1,6 +1,6 @@
 -- Texts in a table wait as pending characters, and white space is inserted as it is.
 use Rattle.std.proofs.Common.{◌≡◌, ℕ, ◌==◌, Bool, true, false, cond, List, [], ◌∷◌, ◌++◌, refl, sym}
-use Rattle.std.proofs.Common.{ap, ◌∙◌, subst, map, append_assoc, append-nil}
+use Rattle.std.proofs.Common.{ap, ◌∙◌, subst, map, append_assoc, append-nil, arith}
 use Rattle.std.specs.Prelude.{Option, Some, None, option_and_then}
 use Rattle.std.specs.List.{list_all}
 use Rattle.std.proofs.lemmas.Bool.{and_parts, and_from, cond_both, not-true}
@@ -22,30 +22,22 @@ use Rattle.md_safe.proofs.TreeSteps.{after-one, is_character}
 
 -- ---- white space
 
--- it stays white space as it is read
-space-line_feeds : (x : List ℕ) → list_all is_space x ≡ true →
-    list_all is_space (with_line_feeds x) ≡ true
-space-line_feeds [] h = refl
-space-line_feeds (b ∷ x) h =
-    let parts = and_parts _ _ h in
-    let later = space-line_feeds x parts.1 in
-    cond_both (b == 13) (cond (begins_with_line_feed x) (with_line_feeds x)
-    (10 ∷ with_line_feeds x)) (b ∷ with_line_feeds x) (λ y. list_all is_space y ≡ true) (λ _.
-    cond_both (begins_with_line_feed x) (with_line_feeds x) (10 ∷ with_line_feeds x)
-    (λ y. list_all is_space y ≡ true) (λ _. later) (λ _. later)) (λ _. and_from _ _ parts.0 later)
-
-no_and : (b : ℕ) → is_space b ≡ true → b ≡ 38 → false ≡ true
-no_and b h e = subst (λ b. is_space b ≡ true) e h
+-- a test that passes LF passes what is read
+line_feeds-all : (p : ℕ → Bool) → p 10 ≡ true → (x : List ℕ) → list_all p x ≡ true →
+    list_all p (with_line_feeds x) ≡ true
+line_feeds-all p feed [] h = refl
+line_feeds-all p feed (b ∷ x) h = grind (arith, feed, line_feeds-all p feed x)
 
 space-read : (x : List ℕ) → list_all is_space x ≡ true → list_all is_space (read_back x) ≡ true
 space-read [] h = refl
 space-read (b ∷ x) h =
     let parts = and_parts (is_space b) (list_all is_space x) h in
-    ap (list_all is_space) (read_back-other b x (λ e. lie (no_and b parts.0 e)))
+    ap (list_all is_space) (read_back-other b x (λ e. lie (subst (λ b. is_space b ≡ true) e
+    parts.0)))
     ∙ and_from (is_space b) (list_all is_space (read_back x)) parts.0 (space-read x parts.1)
 
 pub space-seen : (x : List ℕ) → list_all is_space x ≡ true → list_all is_space (seen x) ≡ true
-space-seen x h = space-read (with_line_feeds x) (space-line_feeds x h)
+space-seen x h = space-read (with_line_feeds x) (line_feeds-all is_space refl x h)
 
 -- ---- the pending characters of a table
 
