@@ -167,8 +167,8 @@ means nested d (Node name start end children rest) around before content f =
     }) in
     let one : Means nested d content here = any-node nested d f.white content name t inner refl
     (λ solid. record {
-      escaping = f.ready.suits.0;
-      outside = f.ready.suits.1;
+      escaping = f.ready.suits.escaped refl;
+      outside = f.ready.suits.outside refl;
       fit = f.built.1;
       resource = known.found.resource;
       ids = λ call value. refl;

@@ -36,15 +36,6 @@ Holds p escaping in_image Done x = IsDone in_image x
 Holds p escaping in_image Nothing x = x ≡ []
 Holds p escaping in_image Sources x = Unit {0}
 
--- the surroundings in which a content may stand
-abbrev pub Suits : Bool → Bool → Content → Type 0
-Suits escaping in_image Blocks = (escaping ≡ true) × (in_image ≡ false)
-Suits escaping in_image Spans = (escaping ≡ true) × (in_image ≡ true)
-Suits escaping in_image FirstFence = escaping ≡ true
-Suits escaping in_image InfoAndMeta = escaping ≡ true
-Suits escaping in_image Sources = escaping ≡ true
-Suits escaping in_image _ = Unit {0}
-
 -- the names before a content: no fence before a first one, one before what follows it
 abbrev pub Follows : Content → List Name → Type 0
 Follows FirstFence names = list_any fence_name names ≡ false

@@ -37,6 +37,7 @@ use Rattle.md_safe.proofs.CountedForest.{spent}
 use Rattle.md_safe.proofs.CallNumbers.{ids_after}
 use Rattle.md_safe.proofs.IdsOnce.{note_ids}
 use Rattle.md_safe.proofs.Distinct.{label_id, document-once}
+use Rattle.md_safe.proofs.Insides.{blocks-suit}
 
 -- the texts of the footnotes with some identifiers
 abbrev TextsFor : List ℕ → ℕ → List Footnote → List (List ℕ) → Type 0
@@ -189,7 +190,7 @@ document-counts d w document keeps built underlined called =
     outermost nothing_before false 0 (record {
       built = built;
       ready = record {
-        suits = (refl, refl);
+        suits = blocks-suit;
         follows = tt;
         whole = λ _. record { both = join any_attribute; ids = λ value. refl };
         heading = λ _. holds-none (read_in d);

@@ -15,8 +15,8 @@ use Rattle.md_meaning.specs.Meaning.Layout.{Piece, layout}
 use Rattle.md_meaning.specs.Meaning.Nodes.{found_at}
 use Rattle.md_content.specs.Built.{Content, Blocks, Sources, may_stand, content_inside, IsBuilt}
 use Rattle.md_safe.proofs.Media.{IsEscapedTitle}
-use Rattle.md_safe.proofs.Contents.{Holds, Suits}
-use Rattle.md_safe.proofs.Insides.{is_blocks}
+use Rattle.md_safe.proofs.Contents.{Holds}
+use Rattle.md_safe.proofs.Insides.{is_blocks, asks_escaping, Suits}
 use Rattle.md_safe.proofs.Spot.{Setting, AreTitles, IsGoodTarget, IsFitAt}
 use Rattle.md_safe.proofs.FlowNodes.{Reads}
 use Rattle.md_safe.proofs.Nodes.{inside-alone, Before as PrintsBefore}
@@ -36,11 +36,11 @@ note-blocks Blocks h = refl
 note-blocks _ h = lie h
 
 -- where a title may stand, special characters are escaped
-suits-title : (escaping in_image : Bool) (content : Content) →
+title-asks : (content : Content) →
     (may_stand content DefinitionTitleString || may_stand content ResourceTitleString) ≡ true →
-    Suits escaping in_image content → escaping ≡ true
-suits-title escaping in_image Sources s h = h
-suits-title escaping in_image _ s h = lie s
+    asks_escaping content ≡ true
+title-asks Sources s = refl
+title-asks _ s = lie s
 
 -- a heading's text that was found is as claimed
 abbrev pub IsRead : Setting → Option (List ℕ) → Type 0
@@ -97,15 +97,13 @@ found-node {s = s} {content = content} {inner = inner} t HeadingSetextText i = r
 found-node {s = s} {content = content} {inner = inner} t DefinitionTitleString i = record {
   heading = λ _. tt;
   title = adds-alone (inside-alone s t content DefinitionTitleString i.stands i.fit i.built inner
-      i.before) (suits-title t.around.is_escaping t.around.in_image content (or_left _ _ i.stands)
-      i.suits);
+      i.before) (i.suits.escaped (title-asks content (or_left _ _ i.stands)));
   resource = tt;
 }
 found-node {s = s} {content = content} {inner = inner} t ResourceTitleString i = record {
   heading = λ _. tt;
   title = adds-alone (inside-alone s t content ResourceTitleString i.stands i.fit i.built inner
-      i.before) (suits-title t.around.is_escaping t.around.in_image content (or_right _ _ i.stands)
-      i.suits);
+      i.before) (i.suits.escaped (title-asks content (or_right _ _ i.stands)));
   resource = tt;
 }
 found-node t Resource i = record { heading = λ _. tt; title = tt; resource = i.found.title }

@@ -15,7 +15,7 @@ use Rattle.md_content.specs.Built.{MetaAlone, Nothing, is_fence, is_info, may_st
 use Rattle.md_content.specs.Built.{content_past, content_after, content_inside, content_after_node}
 use Rattle.md_content.specs.Built.{IsBuilt, Blocks}
 use Rattle.md_safe.proofs.Contents.{Follows, spine_after_node, stays-after}
-use Rattle.md_safe.proofs.Insides.{is_chunks, allowed_inside, is_blocks, of-blocks}
+use Rattle.md_safe.proofs.Insides.{is_chunks, allowed_inside, is_blocks, of-blocks, past_of}
 
 -- the two tests of fences are one
 pub same_fence : (name : Name) → is_fence name ≡ fence_name name
@@ -119,16 +119,9 @@ pub inside-blocks : (content : Content) (name : Name) → is_blocks (content_ins
 inside-blocks content name = cond_both _ _ _ (λ c. is_blocks c ≡ true → is_blocks content ≡ true)
     (λ _ h. h) (λ _ h. of-blocks content name h)
 
-past-blocks : (content : Content) (name : Name) → is_blocks (content_past content name) ≡ true →
-    is_blocks content ≡ true
-past-blocks Blocks name h = refl
-past-blocks InfoAndMeta name h = cond_both (is_info name) MetaAlone Nothing
-    (λ c. is_blocks c ≡ true → false ≡ true) (λ _ h. h) (λ _ h. h) h
-past-blocks _ name h = h
-
 -- a condition on blocks alone covers no more after nodes
 pub asked-after-node : (A : Type 0) (content : Content) (name : Name) (children : Forest) →
     (is_blocks content ≡ true → A) → is_blocks (content_after_node content name children) ≡ true → A
 asked-after-node A content name children asked = cond_both _ _ _ (λ c. is_blocks c ≡ true → A) (λ _.
-    stays-after (λ c. is_blocks c ≡ true → A) (λ c name asked h. asked (past-blocks c name h))
-    content children asked) (λ _ h. asked (past-blocks content name h))
+    stays-after (λ c. is_blocks c ≡ true → A) (λ c name asked h. asked ((past_of c name).blocks h))
+    content children asked) (λ _ h. asked ((past_of content name).blocks h))

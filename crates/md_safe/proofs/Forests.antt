@@ -20,8 +20,8 @@ use Rattle.md_meaning.specs.Meaning.Layout.{Piece, layout, when}
 use Rattle.md_meaning.specs.Meaning.Nodes.{Outcome, found_at, node, before_next, outcome}
 use Rattle.md_content.specs.Built.{Content, Blocks, may_stand, content_of, content_inside}
 use Rattle.md_content.specs.Built.{content_after_node, content_after, content_past, IsBuilt}
-use Rattle.md_safe.proofs.Contents.{stays-after, Holds, Suits, Follows}
-use Rattle.md_safe.proofs.Insides.{is_blocks}
+use Rattle.md_safe.proofs.Contents.{stays-after, Holds, Follows}
+use Rattle.md_safe.proofs.Insides.{is_blocks, Suits, past_of}
 use Rattle.md_safe.proofs.Following.{inside-blocks, asked-after-node, second, follows-inside}
 use Rattle.md_safe.proofs.Following.{follows-after-node}
 use Rattle.md_safe.proofs.Suiting.{suits-inside, suits-after-node}
@@ -68,17 +68,11 @@ children-follow content name before children stands f = by (is_transparent name)
     by true e = f
     by false e = follows-inside content name (second _ _ e stands)
 
--- blocks stay blocks
-blocks-past : (content : Content) (name : Name) → is_blocks content ≡ true →
-    is_blocks (content_past content name) ≡ true
-blocks-past Blocks name h = refl
-blocks-past _ name h = lie h
-
 blocks-after-node : (content : Content) (name : Name) (children : Forest) →
     is_blocks content ≡ true → is_blocks (content_after_node content name children) ≡ true
 blocks-after-node content name children h = cond_both _ _ _ (λ c. is_blocks c ≡ true) (λ _.
-    stays-after (λ c. is_blocks c ≡ true) blocks-past content children h)
-    (λ _. blocks-past content name h)
+    stays-after (λ c. is_blocks c ≡ true) (λ c name. (past_of c name).stays) content children h) (λ
+    _. (past_of content name).stays h)
 
 -- what nodes mean: they print what may stand where they are, before what is printed after
 -- them; what is found is good; the titles of definitions are escaped, and the texts of

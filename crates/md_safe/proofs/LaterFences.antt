@@ -12,18 +12,12 @@ use Rattle.md_content.specs.Built.{Content, FirstFence, FirstMathFence, InfoAndM
 use Rattle.md_content.specs.Built.{Nothing, is_fence, is_info, may_stand, content_of, content_past}
 use Rattle.md_content.specs.Built.{content_after, IsBuilt, IsFit}
 use Rattle.md_safe.proofs.Contents.{is_first, stays-after, Follows}
-use Rattle.md_safe.proofs.Insides.{is_raw, allowed_inside}
+use Rattle.md_safe.proofs.Insides.{is_raw, allowed_inside, past_of}
 use Rattle.md_safe.proofs.Following.{same_fences, follows-after, follows-inside}
 use Rattle.md_safe.proofs.FlowNodes.{has-fence}
 
 abbrev IsLater : Content → Type 0
 IsLater content = is_first content ≡ false
-
-later-past : (content : Content) (name : Name) → IsLater content →
-    IsLater (content_past content name)
-later-past InfoAndMeta name h =
-    cond_both (is_info name) MetaAlone Nothing IsLater (λ _. refl) (λ _. refl)
-later-past _ name h = refl
 
 -- in a node without a fence of its own no first one is to come
 later-of : (content : Content) (name : Name) → is_raw name ≡ false →
@@ -37,7 +31,7 @@ later-of content name plain s = by (is_first (content_of name content)) refl
 
 later-after : (content : Content) (forest : Forest) → IsLater content →
     IsLater (content_after content forest)
-later-after content forest h = stays-after IsLater later-past content forest h
+later-after = stays-after IsLater (λ content name h. (past_of content name).later)
 
 -- after a fence no first one is to come
 later-fenced : (content : Content) (names : List Name) → Follows content names →

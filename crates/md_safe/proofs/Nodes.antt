@@ -24,8 +24,8 @@ use Rattle.md_safe.proofs.Cases.{either}
 use Rattle.md_safe.proofs.Texts.{Escaped}
 use Rattle.md_safe.proofs.Laid.{adds-append, adds-text, adds-nothing, adds-weaker, adds-any}
 use Rattle.md_safe.proofs.Elements.{IsDone}
-use Rattle.md_safe.proofs.Contents.{Holds, Suits, Follows, holds-nothing}
-use Rattle.md_safe.proofs.Insides.{is_blocks}
+use Rattle.md_safe.proofs.Contents.{Holds, Follows, holds-nothing}
+use Rattle.md_safe.proofs.Insides.{is_blocks, Suits}
 use Rattle.md_safe.proofs.Following.{second}
 use Rattle.md_safe.proofs.LaterFences.{later-inside}
 use Rattle.md_safe.proofs.Spot.{IsWhole, Setting, IsFitAt, IsGoodTarget, Here, Prints, Inside}
@@ -60,10 +60,10 @@ span-any s t name suits stands fit inner a =
     (sym (silent-prints s.context t name is inner)) (inside-is s t Spans Spans name inner (picked
     (is_silent name && may_stand Spans name) (content_of name Spans) Spans (silent-spans name)
     (and_from _ _ is stands)) a)) (λ c. either _ _ c (λ is. text-node s t Escaped name
-    (λ x h. h suits.0) is fit inner) (λ c. either _ _ c
-    (λ is. shown-in_image s t name suits.0 suits.1 is inner a) (λ c. either _ _ c
-    (λ is. leaf-escaped s t name suits.0 is fit inner)
-    (λ is. autolink-in_image s t name suits.1 is inner)))))
+    (λ x h. h (suits.escaped refl)) is fit inner) (λ c. either _ _ c
+    (λ is. shown-in_image s t name (suits.escaped refl) (suits.image refl) is inner a) (λ c. either _ _ c
+    (λ is. leaf-escaped s t name (suits.escaped refl) is fit inner)
+    (λ is. autolink-in_image s t name (suits.image refl) is inner)))))
 
 -- the info string
 info-node : (s : Setting) (escaping : Bool) {inner rest : List Piece} → escaping ≡ true →
@@ -138,8 +138,8 @@ pub solid-node : (s : Setting) (t : At) (content : Content) (name : Name) →
     (Here s t content) (prints s.context t name inner ++ rest)
 solid-node s t Blocks name solid stands k inner rest a b = adds-append (k.whole refl).both
     (block-node s t name solid (not_part (is_part name || is_source name) stands) inner (record {
-      escaping = k.suits.0;
-      outside = k.suits.1;
+      escaping = k.suits.escaped refl;
+      outside = k.suits.outside refl;
       fit = k.fit;
       resource = k.resource;
       ids = λ _. (k.whole refl).ids;
@@ -157,8 +157,8 @@ solid-node s t FirstMathFence name solid stands k inner rest a b = math_fence-no
     k.follows stands inner rest a b
 solid-node s t Chunks name solid stands k inner rest a b = adds-append escaped-append
     (line-node s t name k.follows stands k.fit inner a) b
-solid-node s t InfoAndMeta name solid stands k inner rest a b = info_or_meta-node s t name k.suits
-    stands inner rest a b
+solid-node s t InfoAndMeta name solid stands k inner rest a b = info_or_meta-node s t name
+    (k.suits.escaped refl) stands inner rest a b
 solid-node s t MetaAlone name solid stands k inner rest a b = meta-node s t name stands inner rest b
 solid-node s t Done name solid stands k inner rest a b = done-node s t name stands inner rest b
 solid-node s t Nothing name solid stands k inner rest a b = lie stands

@@ -94,8 +94,8 @@ plain-prints : {d : Document} {w : List ℕ} {p : Place} {name : Name} {n : ℕ}
     (inner_of d p name).pieces → Adds d.context.ending (Counts w n) (here_of d p name).pieces
 plain-prints {d = d} {w = w} {p = p} {name = name} {n = n} k plain within = block-node
     (counted_in d w n) (at_of d p name) name k.solid k.whole (inner_of d p name).pieces (record {
-      escaping = k.ready.suits.0;
-      outside = k.ready.suits.1;
+      escaping = k.ready.suits.escaped refl;
+      outside = k.ready.suits.outside refl;
       fit = k.fit;
       resource = k.known.found.resource;
       ids = λ call. lie (sym plain.call ∙ call);

@@ -35,6 +35,7 @@ use Rattle.md_safe.proofs.Contents.{stays-after}
 use Rattle.md_safe.proofs.Spot.{PassesIds, IsWhole, Setting}
 use Rattle.md_safe.proofs.BlockNodes.{holds-none}
 use Rattle.md_safe.proofs.Forests.{Ready, means}
+use Rattle.md_safe.proofs.Insides.{blocks-suit}
 
 -- a place, where there is one, has the text of line endings
 abbrev pub IsEnding : List ℕ → Option Position → Type 0
@@ -83,7 +84,7 @@ blocks-stay forest = stays-after (λ content. content ≡ Blocks)
 -- what is known at the document's beginning
 pub outermost-ready : (s : Setting) → IsWhole s.p → Ready s outermost nothing_before Blocks
 outermost-ready s whole = record {
-  suits = (refl, refl);
+  suits = blocks-suit;
   follows = tt;
   whole = λ _. whole;
   heading = λ _. holds-none s;

@@ -12,58 +12,27 @@ use Rattle.md_meaning.specs.Meaning.Inherited.{inside}
 use Rattle.md_content.specs.Built.{Content, Blocks, Spans, FirstFence, InfoAndMeta, MetaAlone}
 use Rattle.md_content.specs.Built.{Nothing, Sources, is_info, is_source, may_stand, content_of}
 use Rattle.md_content.specs.Built.{content_past, content_after_node}
-use Rattle.md_safe.proofs.Contents.{Suits, stays-after}
+use Rattle.md_safe.proofs.Contents.{stays-after}
 use Rattle.md_safe.proofs.Insides.{asks_escaping, asks_image, allowed_inside, is_blocks, of-blocks}
-use Rattle.md_safe.proofs.Insides.{is_blocks-same}
-
-suits-past : (escaping in_image : Bool) (content : Content) (name : Name) →
-    Suits escaping in_image content →
-    Suits escaping in_image (content_past content name)
-suits-past escaping in_image Blocks name h = h
-suits-past escaping in_image Spans name h = h
-suits-past escaping in_image Sources name h = h
-suits-past escaping in_image InfoAndMeta name h =
-    cond_both (is_info name) MetaAlone Nothing (Suits escaping in_image) (λ _. tt) (λ _. tt)
-suits-past escaping in_image _ name h = tt
+use Rattle.md_safe.proofs.Insides.{is_blocks-same, Suits, past_of}
+use Rattle.md_safe.proofs.Cases.{either}
 
 pub suits-after-node : (escaping in_image : Bool) (content : Content) (name : Name)
     (children : Forest) → Suits escaping in_image content → Suits escaping
     in_image (content_after_node content name children)
-suits-after-node escaping in_image content name children h = cond_both _ _ _
-    (Suits escaping in_image) (λ _. stays-after (Suits escaping in_image)
-    (suits-past escaping in_image) content children h)
-    (λ _. suits-past escaping in_image content name h)
-
--- the conditions of a content on its surroundings
-suits : (escaping in_image : Bool) (content : Content) →
-    (asks_escaping content ≡ true → escaping ≡ true) →
-    (asks_image content ≡ true → in_image ≡ true) → (is_blocks content ≡ true → in_image ≡ false) →
-    Suits escaping in_image content
-suits escaping in_image Blocks e i o = (e refl, o refl)
-suits escaping in_image Spans e i o = (e refl, i refl)
-suits escaping in_image FirstFence e i o = e refl
-suits escaping in_image InfoAndMeta e i o = e refl
-suits escaping in_image Sources e i o = e refl
-suits escaping in_image _ e i o = tt
-
-is-escaping : (escaping in_image : Bool) (content : Content) → asks_escaping content ≡ true →
-    Suits escaping in_image content → escaping ≡ true
-is-escaping escaping in_image Blocks asks h = h.0
-is-escaping escaping in_image Spans asks h = h.0
-is-escaping escaping in_image FirstFence asks h = h
-is-escaping escaping in_image InfoAndMeta asks h = h
-is-escaping escaping in_image Sources asks h = h
-is-escaping escaping in_image _ asks h = lie asks
-
-is-in_image : (escaping in_image : Bool) (content : Content) → asks_image content ≡ true →
-    Suits escaping in_image content → in_image ≡ true
-is-in_image escaping in_image Spans asks h = h.1
-is-in_image escaping in_image _ asks h = lie asks
-
-is-outside : (escaping in_image : Bool) (content : Content) → is_blocks content ≡ true →
-    Suits escaping in_image content → in_image ≡ false
-is-outside escaping in_image Blocks is h = h.1
-is-outside escaping in_image _ is h = lie is
+suits-after-node escaping in_image content name children h =
+    cond_both _ _ _ (Suits escaping in_image)
+    (λ _. stays-after (Suits escaping in_image) past content children h) (λ _. past content name h)
+  where
+    past : (content : Content) (name : Name) → Suits escaping in_image content →
+        Suits escaping in_image (content_past content name)
+    past content name h =
+        let after = past_of content name in
+        record {
+          escaped = λ asks. h.escaped (after.escaping asks);
+          image = λ asks. h.image (after.image asks);
+          outside = λ is. h.outside (after.blocks is);
+        }
 
 -- images alone begin an image, and no blocks stand in them
 still-outside : (options : CompileOptions) (loose : Bool) (around : Surroundings) (name : Name) →
@@ -95,19 +64,16 @@ pub suits-inside : (options : CompileOptions) → options.allow_dangerous_html �
     may_stand content name ≡ true → Suits around.is_escaping around.in_image content → Suits
     (inside options loose name around).is_escaping
     (inside options loose name around).in_image (content_of name content)
-suits-inside options html loose around content name s h = suits
-    (inside options loose name around).is_escaping (inside options loose name around).in_image
-    (content_of name content) (λ asks.
-    let needs = (allowed_inside content name s).escaping asks in
-    escaping (is-escaping around.is_escaping around.in_image content needs.0 h) needs.1) (λ asks.
-    elim (or_cases _ _ ((allowed_inside content name s).image asks)) [
-      | inl within ↦ image (is-in_image around.is_escaping around.in_image content within h)
-      | inr is ↦ in-image options loose around name is
-    ])
-    (λ is. still-outside options loose around name
-    (subst (λ c. is_blocks (content_of name c) ≡ true)
-    (is_blocks-same content (of-blocks content name is)) is)
-    (is-outside around.is_escaping around.in_image content (of-blocks content name is) h))
+suits-inside options html loose around content name s h = record {
+  escaped = λ asks.
+      let needs = (allowed_inside content name s).escaping asks in
+      escaping (h.escaped needs.0) needs.1;
+  image = λ asks. either _ _ ((allowed_inside content name s).image asks)
+      (λ within. image (h.image within)) (in-image options loose around name);
+  outside = λ is. still-outside options loose around name (subst (λ c. is_blocks (content_of name c)
+      ≡ true) (is_blocks-same content (of-blocks content name is)) is) (h.outside (of-blocks content
+      name is));
+}
   where
     escaping : around.is_escaping ≡ true → is_source name ≡ false →
         (inside options loose name around).is_escaping ≡ true
