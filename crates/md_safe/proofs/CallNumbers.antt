@@ -14,22 +14,14 @@ use Rattle.std.proofs.lemmas.Bool.{cond_both, or_right}
 
 place-first : (xs : List (List ℕ)) (x : List ℕ) → 1 ≤ place_among xs x
 place-first [] x = omega arith
-place-first (y ∷ ys) x = cond_both (bytes_eq y x) 1 (suc (place_among ys x)) (λ n. 1 ≤ n)
-    (λ _. omega arith) (λ _. omega arith)
+place-first (y ∷ ys) x = grind arith
 
 -- positions determine identifiers
 pub same-place : (xs : List (List ℕ)) (x y : List ℕ) → is_in x xs ≡ true →
     place_among xs x ≡ place_among xs y → x ≡ y
 same-place [] x y h e = lie h
-same-place (z ∷ zs) x y h e = by (bytes_eq z x) refl (bytes_eq z y) refl h e (same-place zs x y)
-  where
-    by : (a : Bool) → bytes_eq z x ≡ a → (b : Bool) → bytes_eq z y ≡ b → (a || is_in x zs) ≡ true
-        → cond a 1 (suc (place_among zs x)) ≡ cond b 1 (suc (place_among zs y))
-        → (is_in x zs ≡ true → place_among zs x ≡ place_among zs y → x ≡ y) → x ≡ y
-    by true f true g h e later = sym (same z x f) ∙ same z y g
-    by true f false g h e later = absurd (omega (e, place-first zs y, arith))
-    by false f true g h e later = absurd (omega (e, place-first zs x, arith))
-    by false f false g h e later = later h (omega (e, arith))
+same-place (z ∷ zs) x y h e =
+    grind (arith, same z x, same z y, place-first zs x, place-first zs y, same-place zs x y)
 
 pub is_in-middle : (xs ys : List (List ℕ)) (x : List ℕ) → is_in x (xs ++ x ∷ ys) ≡ true
 is_in-middle [] ys x = ap (λ b. b || is_in x ys) (itself x)

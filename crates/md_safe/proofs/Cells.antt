@@ -11,7 +11,6 @@ use Rattle.md_meaning.specs.Meaning.Layout.{Piece, Text, Needed}
 use Rattle.md_meaning.specs.Meaning.Tables.{align_attribute, cell_of}
 use Rattle.md_safe.proofs.Laid.{Adds, adds-all, adds-nothing, IsBeside}
 use Rattle.md_safe.proofs.Tags.{IsTest, attribute, Tagged, adds-flat}
-use Rattle.md_safe.proofs.Media.{pass_one}
 
 -- a cell's texts
 abbrev pub cell_texts : Bool → AlignKind → List ℕ → List Piece
@@ -27,25 +26,22 @@ cell-flat : {test : Attribute → Bool} {Q R : List ℕ → Type 0} {ending : Li
     {options : CompileOptions} → IsTest test options → CellTags test Q R →
     (in_head : Bool) (kind : AlignKind) (x : List ℕ) → Q x → Adds ending
     R (cell_texts in_head kind x)
-cell-flat {test = test} {R = R} {ending = ending} known tags in_head kind x r = by in_head kind
+cell-flat {test} {R = R} {ending} known tags in_head kind x r = by in_head kind
   where
-    aligned : (value : List ℕ) → list_all test (attribute (codes "align") value ∷ []) ≡ true
-    aligned value = pass_one test _ (known.other (codes "align") value refl)
+    to : List ℕ → List Attribute
+    to value = attribute (codes "align") value ∷ []
+
+    aligned : (value : List ℕ) → list_all test (to value) ≡ true
+    aligned value = rw (known.other (codes "align") value refl) refl
 
     by : (in_head : Bool) (kind : AlignKind) → Adds ending R (cell_texts in_head kind x)
-    by true align.Left = adds-flat refl (tags.0.tag (attribute (codes "align") (codes "left") ∷ [])
-        x refl (aligned (codes "left")) r)
-    by true align.Right = adds-flat refl (tags.0.tag
-        (attribute (codes "align") (codes "right") ∷ []) x refl (aligned (codes "right")) r)
-    by true align.Center = adds-flat refl (tags.0.tag
-        (attribute (codes "align") (codes "center") ∷ []) x refl (aligned (codes "center")) r)
+    by true align.Left = adds-flat refl (tags.0.tag (to (codes "left")) x refl (aligned _) r)
+    by true align.Right = adds-flat refl (tags.0.tag (to (codes "right")) x refl (aligned _) r)
+    by true align.Center = adds-flat refl (tags.0.tag (to (codes "center")) x refl (aligned _) r)
     by true align.None = adds-flat refl (tags.0.tag [] x refl refl r)
-    by false align.Left = adds-flat refl (tags.1.tag (attribute (codes "align") (codes "left") ∷ [])
-        x refl (aligned (codes "left")) r)
-    by false align.Right = adds-flat refl (tags.1.tag
-        (attribute (codes "align") (codes "right") ∷ []) x refl (aligned (codes "right")) r)
-    by false align.Center = adds-flat refl (tags.1.tag
-        (attribute (codes "align") (codes "center") ∷ []) x refl (aligned (codes "center")) r)
+    by false align.Left = adds-flat refl (tags.1.tag (to (codes "left")) x refl (aligned _) r)
+    by false align.Right = adds-flat refl (tags.1.tag (to (codes "right")) x refl (aligned _) r)
+    by false align.Center = adds-flat refl (tags.1.tag (to (codes "center")) x refl (aligned _) r)
     by false align.None = adds-flat refl (tags.1.tag [] x refl refl r)
 
 -- a cell on a line of its own

@@ -12,6 +12,7 @@ use Rattle.md_safe.proofs.NumberedIds.{EndsInDigit, label-no_digit, note-no_call
 use Rattle.md_safe.proofs.NumberedIds.{call-ends}
 use Rattle.md_safe.proofs.CallNumbers.{ids_after}
 use Rattle.md_safe.proofs.IdsOnce.{note_ids, calls-once, notes-once, in-itself, occurs-other}
+use Rattle.std.proofs.lemmas.Bool.{cond_both}
 
 -- of each of some ids something holds
 abbrev Each : (List ℕ → Type 0) → List (List ℕ) → Type 0
@@ -22,12 +23,9 @@ Each holds (x ∷ xs) = holds x × Each holds xs
 among-each : (holds : List ℕ → Type 0) (w : List ℕ) (xs : List (List ℕ)) → Each holds xs →
     (occurs w xs ≡ 0) ⊎ holds w
 among-each holds w [] all = inl refl
-among-each holds w (x ∷ xs) all = by (bytes_eq x w) refl (among-each holds w xs all.1)
-  where
-    by : (is : Bool) → bytes_eq x w ≡ is → (occurs w xs ≡ 0) ⊎ holds w
-        → (cond is (suc (occurs w xs)) (occurs w xs) ≡ 0) ⊎ holds w
-    by true e later = inr (subst holds (same x w e) all.0)
-    by false e later = later
+among-each holds w (x ∷ xs) all = cond_both (bytes_eq x w) (suc (occurs w xs)) (occurs w xs) (λ n.
+    (n ≡ 0) ⊎ holds w) (λ e. inr (subst holds (same x w e) all.0)) (λ _. among-each holds w xs
+    all.1)
 
 abbrev pub IsNote : CompileOptions → List ℕ → Type 0
 IsNote options w = (n : ℕ) × (w ≡ back_prefix options ++ note_tail n)

@@ -3,7 +3,7 @@ use Rattle.std.proofs.Common.{◌≡◌, ℕ, ◌+◌, ◌≤◌, ◌<◌, ◌^�
 use Rattle.std.proofs.Common.{[], ◌∷◌, ◌++◌, length, refl, sym, ap, ◌∙◌, subst, arith, append_assoc}
 use Rattle.std.proofs.Common.{codes, bytes_eq}
 use Rattle.std.specs.Prelude.{map}
-use Rattle.std.proofs.lemmas.Bool.{or_parts, or_right}
+use Rattle.std.proofs.lemmas.Bool.{or_parts, or_right, cond_both}
 use Rattle.std.proofs.lemmas.List.{length-append}
 use Rattle.md_base.proofs.Lies.{lie}
 use Rattle.md_text.specs.References.{read_back}
@@ -18,20 +18,13 @@ use Rattle.md_safe.proofs.CallNumbers.{number-bound}
 -- another text before some
 pub occurs-other : (w x : List ℕ) (xs : List (List ℕ)) → (x ≡ w → ⊥) →
     occurs w (x ∷ xs) ≡ occurs w xs
-occurs-other w x xs differ = by (bytes_eq x w) refl
-  where
-    by : (is : Bool) → bytes_eq x w ≡ is → cond is (suc (occurs w xs)) (occurs w xs) ≡ occurs w xs
-    by true e = absurd (differ (same x w e))
-    by false e = refl
+occurs-other w x xs differ = grind (arith, differ, same x w)
 
 -- a text that none of the others is
 occurs-once : (w x : List ℕ) (xs : List (List ℕ)) → occurs x xs ≡ 0 → occurs w xs ≤ 1 →
     occurs w (x ∷ xs) ≤ 1
-occurs-once w x xs none few = by (bytes_eq x w) refl
-  where
-    by : (is : Bool) → bytes_eq x w ≡ is → cond is (suc (occurs w xs)) (occurs w xs) ≤ 1
-    by true e = omega (ap (λ w. occurs w xs) (same x w e), none, arith)
-    by false e = few
+occurs-once w x xs none few = cond_both (bytes_eq x w) (suc (occurs w xs)) (occurs w xs) (λ n. n ≤
+    1) (λ e. omega (ap (λ w. occurs w xs) (same x w e), none, arith)) (λ _. few)
 
 -- no later call has the id of an earlier one
 none-later : (options : CompileOptions) → options.gfm_footnote_number_ids ≡ true →

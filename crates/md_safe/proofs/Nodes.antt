@@ -53,17 +53,19 @@ span-any : (s : Setting) (t : At) (name : Name) → Suits t.around.is_escaping t
     Spans → may_stand Spans name ≡ true → IsFitAt s t name → (inner : List Piece) →
     Inside s t Spans name inner → Prints s Escaped (prints s.context t name inner)
 span-any s t name suits stands fit inner a =
+    let e = suits.escaped refl in
+    let image = suits.image refl in
     let sorts = subst (λ b. not b || (is_hidden name || (is_silent name || (is_text name
     || (is_shown name || (is_leaf name || is_autolink name))))) ≡ true) stands (span-sorts name) in
     either _ _ sorts (λ is. subst (Prints s Escaped) (sym (hidden-prints s.context t name is inner))
     (adds-nothing refl)) (λ c. either _ _ c (λ is. subst (Prints s Escaped)
     (sym (silent-prints s.context t name is inner)) (inside-is s t Spans Spans name inner (picked
     (is_silent name && may_stand Spans name) (content_of name Spans) Spans (silent-spans name)
-    (and_from _ _ is stands)) a)) (λ c. either _ _ c (λ is. text-node s t Escaped name
-    (λ x h. h (suits.escaped refl)) is fit inner) (λ c. either _ _ c
-    (λ is. shown-in_image s t name (suits.escaped refl) (suits.image refl) is inner a) (λ c. either _ _ c
-    (λ is. leaf-escaped s t name (suits.escaped refl) is fit inner)
-    (λ is. autolink-in_image s t name (suits.image refl) is inner)))))
+    (and_from _ _ is stands)) a)) (λ c. either _ _ c
+    (λ is. text-node s t Escaped name (λ x h. h e) is fit inner) (λ c. either _ _ c
+    (λ is. shown-in_image s t name e image is inner a) (λ c. either _ _ c
+    (λ is. leaf-escaped s t name e is fit inner)
+    (λ is. autolink-in_image s t name image is inner)))))
 
 -- the info string
 info-node : (s : Setting) (escaping : Bool) {inner rest : List Piece} → escaping ≡ true →

@@ -42,18 +42,11 @@ same-prefix (b ∷ p) (c ∷ q) x y h g e =
 
 -- digits and what follows them
 digit-no_f : (b : ℕ) → is_digit b ≡ true → (b == 102) ≡ false
-digit-no_f b h = by (eqb b 102) refl
-  where
-    by : (is : Bool) → eqb b 102 ≡ is → is ≡ false
-    by true e = lie (sym (ap is_digit (eqb-true b 102 e)) ∙ h)
-    by false e = refl
+digit-no_f b h = grind arith
 
 fn-past : (x y : List ℕ) → list_all is_digit x ≡ true → has_fn (x ++ y) ≡ has_fn y
 fn-past [] y h = refl
-fn-past (b ∷ x) y h =
-    let parts = and_parts (is_digit b) (list_all is_digit x) h in
-    ap (λ is. (is && begins_n (x ++ y)) || has_fn (x ++ y)) (digit-no_f b parts.0)
-    ∙ fn-past x y parts.1
+fn-past (b ∷ x) y h = grind (arith, digit-no_f b, fn-past x y)
 
 fn-digits : (x : List ℕ) → list_all is_digit x ≡ true → has_fn x ≡ false
 fn-digits x h = ap has_fn (sym (append-nil x)) ∙ fn-past x [] h
@@ -71,10 +64,4 @@ call-once n k =
 pub any-occurs : (x : List ℕ) (ys : List (List ℕ)) → list_any (λ y. bytes_eq y x) ys ≡ true →
     1 ≤ occurs x ys
 any-occurs x [] h = lie h
-any-occurs x (y ∷ ys) h = by (bytes_eq y x) (any-occurs x ys) h
-  where
-    by : (is : Bool) → (list_any (λ y. bytes_eq y x) ys ≡ true → 1 ≤ occurs x ys) →
-        (is || list_any (λ y. bytes_eq y x) ys) ≡ true →
-        1 ≤ cond is (suc (occurs x ys)) (occurs x ys)
-    by true later h = omega arith
-    by false later h = later h
+any-occurs x (y ∷ ys) h = grind (arith, any-occurs x ys)

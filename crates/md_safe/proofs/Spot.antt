@@ -28,6 +28,7 @@ use Rattle.md_base.specs.Tree.{Forest}
 use Rattle.md_meaning.specs.Meaning.Nodes.{Outcome}
 use Rattle.md_tree.specs.Rules.{place}
 use Rattle.md_base.specs.Children.{is_empty}
+use Rattle.std.proofs.lemmas.Bool.{cond_both}
 
 -- the title of a target is escaped, where there is one
 abbrev pub IsGoodTarget : Option Target → Type 0
@@ -97,26 +98,19 @@ defined-title : (definitions : List Defined) (identifier : List ℕ) → AreTitl
     (find (λ defined. bytes_eq defined.identifier identifier) definitions)
     (target_in nothing_found)).title
 defined-title [] identifier h = tt
-defined-title (defined ∷ others) identifier h = by (bytes_eq defined.identifier identifier)
-    (defined-title others identifier h.1)
-  where
-    by : (is : Bool) → IsEscapedTitle (option_map_or (λ defined. defined.target)
-        (find (λ defined. bytes_eq defined.identifier identifier) others)
-        (target_in nothing_found)).title
-        → IsEscapedTitle (option_map_or (λ defined. defined.target)
-        (cond is (Some defined) (find (λ defined. bytes_eq defined.identifier identifier) others))
-        (target_in nothing_found)).title
-    by true later = h.0
-    by false later = later
+defined-title (defined ∷ others) identifier h = cond_both (bytes_eq defined.identifier identifier)
+    (Some defined) (find (λ one. bytes_eq one.identifier identifier) others) (λ found.
+    IsEscapedTitle (option_map_or (λ (defined : Defined). defined.target) found (target_in
+    nothing_found)).title) (λ _. h.0) (λ _. defined-title others identifier h.1)
 
 pub target-title : (s : Setting) (t : At) → IsGoodTarget t.found.resource →
     IsEscapedTitle (leads_to s.context t).title
-target-title s t good = by t.found.resource good
-  where
-    by : (resource : Option Target) → IsGoodTarget resource → IsEscapedTitle (unwrap_or resource
-        (target_defined s.context (identifier_of s.context.bytes t.children))).title
-    by None h = defined-title _ _ s.titles
-    by (Some target) h = h
+target-title s t good = elim t.found.resource as (λ resource. IsGoodTarget resource → IsEscapedTitle
+    (unwrap_or resource (target_defined s.context (identifier_of s.context.bytes
+    t.children))).title) [
+  | None ↦ λ h. defined-title _ _ s.titles
+  | Some target ↦ λ h. h
+] good
 
 -- a node in the document, by what its children mean
 abbrev pub at_in : Surroundings → Before → Point → Point → Forest → Forest → Outcome → At

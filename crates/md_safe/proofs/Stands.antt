@@ -3,7 +3,7 @@
 use Rattle.std.specs.List.{list_all}
 use Rattle.std.specs.Option.{option_map_or}
 use Rattle.std.proofs.Common.{◌≡◌, ℕ, ◌==◌, Bool, true, false, ◌||◌, List, [], ◌∷◌, ◌++◌, refl, sym}
-use Rattle.std.proofs.Common.{ap, ap₂, ◌∙◌, subst, inl, inr, append-nil, eqb-true}
+use Rattle.std.proofs.Common.{ap, ap₂, ◌∙◌, subst, inl, inr, append-nil, eqb-true, arith}
 use Rattle.std.specs.Prelude.{Some}
 use Rattle.std.proofs.lemmas.Bool.{and_parts, and_from, or_cases}
 use Rattle.std.proofs.lemmas.List.Folds.{list_all-append}
@@ -23,6 +23,7 @@ use Rattle.md_safe.proofs.Tags.{Turns, TurnsTag, Tagged, Single, Takes}
 use Rattle.md_safe.specs.Contents.{Content, Flow, Phrasing, Linked, Preformatted, Characters}
 use Rattle.md_safe.specs.Contents.{held_in, voids_in, is_space, may_say, is_contained}
 use Rattle.md_safe.specs.Contents.{IsContainedAs}
+use Rattle.md_safe.proofs.Cases.{all-weaker}
 
 -- a text has a reading in which everything stands where it may
 pub record Stands (nested : Bool) (content : Content) (x : List ℕ) : Type 0 where
@@ -50,20 +51,15 @@ contained-once nested x h =
 -- two texts that may stand somewhere may stand there as one
 say-append : (content : Content) (x y : List ℕ) → may_say content x ≡ true →
     may_say content y ≡ true → may_say content (x ++ y) ≡ true
-say-append Flow x y a b = refl
-say-append Phrasing x y a b = refl
-say-append Linked x y a b = refl
-say-append Characters x y a b = refl
 say-append Preformatted x y a b = a
-say-append _ x y a b = list_all-append is_space x y ∙ and_from _ _ a b
+say-append content x y a b = grind (arith, list_all-append is_space x y)
 
 contained-text_before : (nested : Bool) (content : Content) (bytes : List ℕ) (g : Forest) →
     may_say content bytes ≡ true → is_contained nested content g ≡ true →
     is_contained nested content (text_before bytes g) ≡ true
 contained-text_before nested content bytes Empty s h = and_from _ _ s refl
 contained-text_before nested content bytes (Text more rest) s h =
-    let parts = and_parts _ _ h in
-    and_from _ _ (say-append content bytes more s parts.0) parts.1
+    grind (arith, say-append content bytes more)
 contained-text_before nested content bytes g s h = and_from _ _ s h
 
 -- what an element holds stands where it may
@@ -80,11 +76,9 @@ contained-joined nested content (Text bytes rest) g a b =
     contained-text_before nested content bytes (joined rest g) parts.0
     (contained-joined nested content rest g parts.1 b)
 contained-joined nested content (Void name attributes rest) g a b =
-    let parts = and_parts _ _ a in
-    and_from _ _ parts.0 (contained-joined nested content rest g parts.1 b)
+    grind (arith, contained-joined nested content rest g)
 contained-joined nested content (Element name attributes children rest) g a b =
-    let parts = and_parts _ _ a in
-    and_from _ _ parts.0 (contained-joined nested content rest g parts.1 b)
+    grind (arith, contained-joined nested content rest g)
 
 pub stands-join : {nested : Bool} {content : Content} (x y : List ℕ) → Stands nested content x →
     Stands nested content y → Stands nested content (x ++ y)
@@ -185,16 +179,11 @@ stands-white {content = content} {x} is h = stands-text h.0 (by content is)
     by Preformatted is = lie is
     by _ is = h.1
 
+end-space : (b : ℕ) → ((b == 13) || (b == 10)) ≡ true → is_space b ≡ true
+end-space b h = grind arith
+
 line_ends-space : (x : List ℕ) → is_line_ends x ≡ true → list_all is_space x ≡ true
-line_ends-space [] h = refl
-line_ends-space (b ∷ x) h =
-    let parts = and_parts ((b == 13) || (b == 10)) (is_line_ends x) h in
-    and_from (is_space b) (list_all is_space x)
-    (elim (or_cases (b == 13) (b == 10) parts.0) [
-      | inl is ↦ subst (λ b. is_space b ≡ true) (sym (eqb-true b 13 is)) refl
-      | inr is ↦ subst (λ b. is_space b ≡ true) (sym (eqb-true b 10 is)) refl
-    ])
-    (line_ends-space x parts.1)
+line_ends-space = all-weaker _ is_space end-space
 
 pub line_ends-white : (x : List ℕ) → is_line_ends x ≡ true → IsWhite x
 line_ends-white x h = (line_ends-escaped x h, line_ends-space x h)

@@ -69,20 +69,16 @@ calls-fewer bytes (Node name start end children rest) =
     let below : List (List ℕ) = calls_in bytes children in
     let own : List (List ℕ) =
     when (named GfmFootnoteCall name) (identifier_of bytes children ∷ []) in
-    let after : List (List ℕ) = calls_in bytes rest in
+    let one : length own ≤ 1 = grind arith in
     omega (
-      length-append (below ++ own) after,
+      length-append (below ++ own) (calls_in bytes rest),
       length-append below own,
-      one (named GfmFootnoteCall name) (identifier_of bytes children),
+      one,
       length-append (flatten children) (exiting name end ∷ flatten rest),
       calls-fewer bytes children,
       calls-fewer bytes rest,
       arith,
     )
-  where
-    one : (is : Bool) (identifier : List ℕ) → length (when is (identifier ∷ [])) ≤ 1
-    one true identifier = omega arith
-    one false identifier = omega arith
 
 pub distinct-ids : (bytes : List ℕ) (names : List (List ℕ × List ℕ)) (options : CompileOptions)
     (document : Forest) →
@@ -139,24 +135,18 @@ apart-ids : (xs ys : List (List ℕ)) → ((w : List ℕ) → 1 ≤ occurs w xs 
     "footnote-label" ≡ w) → are_apart xs ys ≡ true
 apart-ids [] ys h = refl
 apart-ids (x ∷ xs) ys h = and_from _ _ (of (list_any (λ other. bytes_eq other x) ys) refl)
-    (apart-ids xs ys (λ w some. h w (later w (bytes_eq x w) some)))
+    (apart-ids xs ys (λ w some. h w (later w some)))
   where
-    later : (w : List ℕ) (is : Bool) → 1 ≤ occurs w xs → 1 ≤ cond is
-        (suc (occurs w xs)) (occurs w xs)
-    later w true some = omega (arith, some)
-    later w false some = some
+    later : (w : List ℕ) → 1 ≤ occurs w xs → 1 ≤ occurs w (x ∷ xs)
+    later w some = grind (arith, some)
 
-    first : (is : Bool) → is ≡ true → 1 ≤ cond is (suc (occurs x xs)) (occurs x xs)
-    first true e = omega arith
-    first false e = lie e
+    first : 1 ≤ occurs x (x ∷ xs)
+    first = grind (arith, itself x)
 
     of : (is : Bool) → list_any (λ other. bytes_eq other x) ys ≡ is →
         (bytes_eq (codes "footnote-label") x || not is) ≡ true
     of false e = or_right _ _ refl
-    of true e =
-        let label : codes "footnote-label" ≡ x = h x (first (bytes_eq x x) (itself x))
-        (any-occurs x ys e) in
-        or_left _ _ (ap (λ y. bytes_eq y x) label ∙ itself x)
+    of true e = or_left _ _ (ap (λ y. bytes_eq y x) (h x first (any-occurs x ys e)) ∙ itself x)
 
 pub apart : (bytes other_bytes : List ℕ) (names other_names : List (List ℕ × List ℕ))
     (options other_options : CompileOptions) (document other : Forest) →

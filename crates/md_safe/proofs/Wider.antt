@@ -2,6 +2,7 @@
 use Rattle.std.specs.Str.{bytes_eq}
 use Rattle.std.specs.Option.{option_map_or}
 use Rattle.std.proofs.Common.{◌≡◌, ℕ, Bool, true, false, cond, List, [], ◌∷◌, ◌++◌, refl, ap, ◌∙◌}
+use Rattle.std.proofs.Common.{arith}
 use Rattle.std.specs.Prelude.{Option, Some, None, find, option_map}
 use Rattle.std.proofs.lemmas.Bool.{and_parts, and_from, or_right}
 use Rattle.md_base.proofs.Lies.{lie}
@@ -13,31 +14,25 @@ use Rattle.md_safe.proofs.Stands.{is_held, Stands}
 find-first : {A : Type 0} (test : A → Bool) (xs ys : List A) (x : A) → find test xs ≡ Some x →
     find test (xs ++ ys) ≡ Some x
 find-first test [] ys x e = cc
-find-first test (first ∷ xs) ys x e = by (test first) e (find-first test xs ys x)
-  where
-    by : (passes : Bool) → cond passes (Some first) (find test xs) ≡ Some x →
-        (find test xs ≡ Some x → find test (xs ++ ys) ≡ Some x) →
-        cond passes (Some first) (find test (xs
-        ++ ys)) ≡ Some x
-    by true e later = e
-    by false e later = later e
+find-first test (first ∷ xs) ys x e = grind (arith, find-first test xs ys x)
 
 held-wider : (nested : Bool) (name : List ℕ) (inner : Forest) →
     is_held nested Phrasing name inner ≡ true →
     is_held nested Flow name inner ≡ true
 held-wider nested name inner h =
-    by (find (λ element. bytes_eq element.0 name) (span_elements nested)) refl h
+    by (find test (span_elements nested)) (find-first test (span_elements nested) block_elements) h
   where
-    by : (found : Option (List ℕ × Content)) → find (λ element. bytes_eq element.0 name)
-        (span_elements nested) ≡ found →
+    test : List ℕ × Content → Bool
+    test element = bytes_eq element.0 name
+
+    by : (found : Option (List ℕ × Content)) → ((element : List ℕ × Content) → found ≡ Some element
+        → find test (span_elements nested ++ block_elements) ≡ Some element) →
         option_map_or (λ held. is_contained nested held inner)
         (option_map (λ element. element.1) found) false ≡ true →
         is_held nested Flow name inner ≡ true
     by None e h = lie h
-    by (Some element) e h =
-        ap (λ found. option_map_or (λ held. is_contained nested held inner) (option_map
-        (λ element. element.1) found) false) (find-first (λ element. bytes_eq element.0 name)
-        (span_elements nested) block_elements element e) ∙ h
+    by (Some element) e h = ap (λ found. option_map_or (λ held. is_contained nested held inner)
+        (option_map (λ element. element.1) found) false) (e element refl) ∙ h
 
 contained-wider : (nested : Bool) (f : Forest) → is_contained nested Phrasing f ≡ true →
     is_contained nested Flow f ≡ true
