@@ -1,8 +1,8 @@
 -- How often an id stands in what is printed: what is claimed of texts and of footnotes.
 use Rattle.std.proofs.Common.{◌≡◌, ℕ, ◌+◌, ◌≤◌, Bool, true, false, not, ◌&&◌, List, [], ◌∷◌, ◌++◌}
-use Rattle.std.proofs.Common.{refl, sym, subst, arith, codes}
+use Rattle.std.proofs.Common.{refl, sym, subst, arith, codes, ap}
 use Rattle.std.specs.Prelude.{bytes_eq}
-use Rattle.std.proofs.lemmas.Bool.{and_parts, true≢false}
+use Rattle.std.proofs.lemmas.Bool.{and_parts, true≢false, not-true}
 use Rattle.md_text.specs.References.{read_back}
 use Rattle.md_text.specs.Html.{Attribute, is_tag, elements}
 use Rattle.md_text.proofs.HtmlJoin.{text}
@@ -36,20 +36,13 @@ counting w n = record {
 pub without-test : (w : List ℕ) (options : CompileOptions) → options.allow_dangerous_html ≡ false →
     IsTest (is_without w) options
 without-test w options html = record {
-  other = λ name value h. by name value (and_parts _ _ (and_parts _ _ h).1).1;
+  other = λ name value h. ap (λ b. not (b && bytes_eq (read_back value) w)) (not-true (bytes_eq name
+      (codes "id")) (and_parts _ _ (and_parts _ _ h).1).1);
   link = λ destination. refl;
   anchor = λ rest. refl;
   image = λ destination. refl;
   html = html;
 }
-  where
-    by : (name value : List ℕ) → not (bytes_eq name (codes "id")) ≡ true →
-        not (bytes_eq name (codes "id") && bytes_eq (read_back value) w) ≡ true
-    by name value h = of (bytes_eq name (codes "id")) h
-      where
-        of : (id : Bool) → not id ≡ true → not (id && bytes_eq (read_back value) w) ≡ true
-        of true e = absurd (true≢false (sym e))
-        of false e = refl
 
 -- a heading that waits for its underline has an id at most so often
 abbrev pub Waiting : List ℕ → Bool → ℕ → List ℕ → Type 0

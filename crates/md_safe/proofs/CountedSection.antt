@@ -4,7 +4,7 @@ use Rattle.std.proofs.Common.{◌++◌, length, refl, sym, ap, ◌∙◌, subst,
 use Rattle.std.proofs.Common.{bytes_eq}
 use Rattle.std.specs.Prelude.{Some, find}
 use Rattle.std.specs.Option.{option_map_or}
-use Rattle.std.proofs.lemmas.Bool.{or_parts}
+use Rattle.std.proofs.lemmas.Bool.{or_parts, cond_both}
 use Rattle.md_text.specs.Html.{any_attribute, opening_tag, closing_tag}
 use Rattle.md_text.proofs.HtmlJoin.{join}
 use Rattle.md_base.specs.Tree.{Forest}
@@ -74,13 +74,6 @@ for-others w n footnote footnotes (identifier ∷ others) none h =
       for-others w h.1 footnote footnotes others parts.1 h.4,
     )
 
--- what is known of the first of some identifiers, which is that of the first footnote or isn't
-abbrev Wanted : List ℕ → ℕ → ℕ → Footnote → List Footnote → List ℕ → List (List ℕ) → Bool → Type 0
-Wanted w m k footnote footnotes identifier others is = (i : ℕ) × (j : ℕ) × (i + j ≤ m + k)
-    × Counts w i (option_map_or (λ (f : Footnote). f.text) (cond is (Some footnote)
-    (find (λ f. bytes_eq f.identifier identifier) footnotes)) [])
-    × TextsFor w j (footnote ∷ footnotes) others
-
 -- one footnote more
 for-one : (w : List ℕ) (m k : ℕ) (footnote : Footnote) (footnotes : List Footnote)
     (identifiers : List (List ℕ)) →
@@ -88,13 +81,11 @@ for-one : (w : List ℕ) (m k : ℕ) (footnote : Footnote) (footnotes : List Foo
     TextsFor w (m + k) (footnote ∷ footnotes) identifiers
 for-one w m k footnote footnotes [] apart own h = tt
 for-one w m k footnote footnotes (identifier ∷ others) apart own h =
-    by (bytes_eq footnote.identifier identifier) refl
-    (for-one w m h.1 footnote footnotes others apart.1 own h.4)
-  where
-    by : (is : Bool) → bytes_eq footnote.identifier identifier ≡ is →
-        TextsFor w (m + h.1) (footnote ∷ footnotes) others →
-        Wanted w m k footnote footnotes identifier others is
-    by true e later = (
+    cond_both (bytes_eq footnote.identifier identifier) (Some footnote)
+    (find (λ f. bytes_eq f.identifier identifier) footnotes)
+    (λ found. (i : ℕ) × (j : ℕ) × (i + j ≤ m + k)
+    × Counts w i (option_map_or (λ (f : Footnote). f.text) found [])
+    × TextsFor w j (footnote ∷ footnotes) others) (λ e. (
       m,
       h.1,
       omega (h.2, arith),
@@ -102,8 +93,13 @@ for-one w m k footnote footnotes (identifier ∷ others) apart own h =
       for-others w h.1 footnote footnotes others
           (subst (λ x. is_in x others ≡ false)
           (sym (same footnote.identifier identifier e)) apart.0) h.4,
-    )
-    by false e later = (h.0, m + h.1, omega (h.2, arith), h.3, later)
+    )) (λ _. (
+      h.0,
+      m + h.1,
+      omega (h.2, arith),
+      h.3,
+      for-one w m h.1 footnote footnotes others apart.1 own h.4,
+    ))
 
 texts-for : (w : List ℕ) (n : ℕ) (footnotes : List Footnote) (identifiers : List (List ℕ)) →
     Apart identifiers →

@@ -16,6 +16,7 @@ use Rattle.md_content.specs.Built.{content_past, content_after, content_inside, 
 use Rattle.md_content.specs.Built.{IsBuilt, Blocks}
 use Rattle.md_safe.proofs.Contents.{Follows, spine_after_node, stays-after}
 use Rattle.md_safe.proofs.Insides.{is_chunks, allowed_inside, is_blocks, of-blocks, past_of}
+use Rattle.std.proofs.lemmas.List.Folds.{list_any-append}
 
 -- the two tests of fences are one
 pub same_fence : (name : Name) → is_fence name ≡ fence_name name
@@ -26,32 +27,14 @@ pub same_fences : (names : List Name) → list_any is_fence names ≡ list_any f
 same_fences [] = refl
 same_fences (name ∷ names) = (λ i. same_fence name i || same_fences names i)
 
-any-append : (xs ys : List Name) →
-    list_any fence_name (xs ++ ys) ≡ (list_any fence_name xs || list_any fence_name ys)
-any-append [] ys = refl
-any-append (x ∷ xs) ys = ap (λ b. fence_name x || b) (any-append xs ys)
-    ∙ by (fence_name x) (list_any fence_name xs) (list_any fence_name ys)
-  where
-    by : (a b c : Bool) → (a || (b || c)) ≡ ((a || b) || c)
-    by true b c = refl
-    by false b c = refl
-
-last_fence : (names : List Name) (name : Name) → fence_name name ≡ true →
-    list_any fence_name (names ++ (name ∷ [])) ≡ true
-last_fence names name h = any-append names (name ∷ []) ∙ or_right _ _ (or_left _ _ h)
-
-first_fence : (names more : List Name) → list_any fence_name names ≡ true →
-    list_any fence_name (names ++ more) ≡ true
-first_fence names more h = any-append names more ∙ or_left _ _ h
-
 follows-past : (content : Content) (name : Name) (names : List Name) →
     may_stand content name ≡ true →
     Follows content names → Follows (content_past content name) (names ++ (name ∷ []))
-follows-past FirstFence name names h f =
-    last_fence names name ((allowed_inside FirstFence name h).fence refl)
-follows-past FirstMathFence name names h f =
-    last_fence names name ((allowed_inside FirstMathFence name h).fence refl)
-follows-past Chunks name names h f = first_fence names (name ∷ []) f
+follows-past FirstFence name names h f = list_any-append fence_name names (name ∷ []) ∙ or_right _ _
+    (or_left _ _ ((allowed_inside FirstFence name h).fence refl))
+follows-past FirstMathFence name names h f = list_any-append fence_name names (name ∷ []) ∙ or_right
+    _ _ (or_left _ _ ((allowed_inside FirstMathFence name h).fence refl))
+follows-past Chunks name names h f = list_any-append fence_name names (name ∷ []) ∙ or_left _ _ f
 follows-past InfoAndMeta name names h f = cond_both (is_info name) MetaAlone Nothing
     (λ content. Follows content (names ++ (name ∷ []))) (λ _. tt) (λ _. tt)
 follows-past _ name names h f = tt

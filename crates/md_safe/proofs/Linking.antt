@@ -1,7 +1,7 @@
 -- What stands in a link, where links may stand in links and where not; and none does where a
 -- document has no link in a link.
 use Rattle.std.proofs.Common.{◌≡◌, ◌⊎◌, inl, inr, Bool, true, false, not, ◌&&◌, ◌||◌, cond, refl}
-use Rattle.std.proofs.Common.{sym, ap, ◌∙◌}
+use Rattle.std.proofs.Common.{sym, ap, ◌∙◌, arith}
 use Rattle.std.proofs.lemmas.Bool.{or_parts, or_left, or_right}
 use Rattle.md_base.proofs.Lies.{lie}
 use Rattle.md_base.specs.declared.event.Name.{Name}
@@ -156,21 +156,7 @@ linked-inside nested options loose content name around linked = by (is_transpare
 -- the parts of a node without a link in a link
 parts : (a b c d : Bool) → (a && b || c && d) ≡ false →
     (c ≡ true → d ≡ false) × (a ≡ true → b ≡ false)
-parts true b c d h = (λ e. second-part b c d e h, λ _. first-part b (c && d) h)
-  where
-    first-part : (b x : Bool) → (b || x) ≡ false → b ≡ false
-    first-part true x h = lie (sym h)
-    first-part false x h = refl
-
-    second-part : (b c d : Bool) → c ≡ true → (b || c && d) ≡ false → d ≡ false
-    second-part true c d e h = lie (sym h)
-    second-part false true d e h = h
-    second-part false false d e h = lie e
-parts false b c d h = (λ e. by c d e h, λ e. lie e)
-  where
-    by : (c d : Bool) → c ≡ true → (c && d) ≡ false → d ≡ false
-    by true d e h = h
-    by false d e h = lie e
+parts a b c d h = (λ e. grind (arith, h, e), λ e. grind (arith, h, e))
 
 unnested-parts : (name : Name) (in_link : Bool) (start end : Point) (children rest : Forest) →
     has_nested_link in_link (Node name start end children rest) ≡ false → ((in_link && prints_link

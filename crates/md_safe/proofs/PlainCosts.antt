@@ -29,6 +29,7 @@ use Rattle.md_safe.proofs.Costs.{place_at}
 use Rattle.md_safe.proofs.Laid.{Adds}
 use Rattle.md_text.proofs.HtmlIds.{Counts}
 use Rattle.md_safe.proofs.ReadingNodes.{block-node}
+use Rattle.std.proofs.lemmas.Bool.{false_from_ne_true}
 
 -- the facts about a node that isn't transparent
 pub record Stands (d : Document) (p : Place) (name : Name) : Type 0 where
@@ -120,13 +121,6 @@ around-blocks {d = d} {w = w} {p = p} {name = name} waits k plain blocks b = rec
   few = omega (b.few, cost-least d w p name, arith);
 }
 
-differ : {b : Bool} → b ≡ false → b ≡ true → false ≡ true
-differ other same = sym other ∙ same
-
-isn't : (b : Bool) → (b ≡ true → false ≡ true) → b ≡ false
-isn't true h = sym (h refl)
-isn't false h = refl
-
 no_definition : (content : Content) → may_stand content GfmFootnoteDefinition ≡ true →
     is_blocks content ≡ true
 no_definition Blocks h = refl
@@ -134,7 +128,7 @@ no_definition _ h = lie h
 
 none_here : (content : Content) (name : Name) → (is_transparent name || may_stand content name)
     ≡ true → is_blocks content ≡ false → named GfmFootnoteDefinition name ≡ false
-none_here content GfmFootnoteDefinition stands other = lie (differ other (no_definition _ stands))
+none_here content GfmFootnoteDefinition stands other = lie (sym other ∙ no_definition _ stands)
 none_here content _ stands other = refl
 
 -- no footnote is defined but among blocks
@@ -144,21 +138,14 @@ pub no_footnotes : (d : Document) (content : Content) (forest : Forest) (around 
 no_footnotes d content Empty around before other built = refl
 no_footnotes d content (Node name start end children rest) around before other built =
     let p : Place = place_at around before start end children rest in
-    let here : Outcome = here_of d p name in
-    let next : Before = before_next (at_of d p name) name here in
-    let own : Footnote = record {
-      identifier = identifier_of d.context.bytes children;
-      text = layout d.context.ending (inner_of d p name).pieces;
-    } in
-    ap (λ fs. (fs ++ when (named GfmFootnoteDefinition name) (own ∷ []))
-    ++ (outcome d.context around next rest).footnotes) (no_footnotes d (content_inside content name)
-    children (inner_around d p name) (inner_before p name) (isn't
-    (is_blocks (content_inside content name)) (λ h. differ other (inside-blocks content name h)))
-    built.2) ∙ ap (λ b. when b (own ∷ []) ++ (outcome d.context around next rest).footnotes)
-    (none_here content name built.0 other) ∙ no_footnotes d
-    (content_after_node content name children) rest around next (isn't
-    (is_blocks (content_after_node content name children)) (asked-after-node (false ≡ true) content
-    name children (λ h. differ other h))) built.3
+    let next : Before = before_next (at_of d p name) name (here_of d p name) in
+    let none : is_blocks content ≡ true → ⊥ = λ h. lie (sym other ∙ h) in
+    let inner = no_footnotes d (content_inside content name) children (inner_around d p name)
+    (inner_before p name) (false_from_ne_true _ (λ h. none (inside-blocks content name h))) built.2
+    in
+    let later = no_footnotes d (content_after_node content name children) rest around next
+    (false_from_ne_true _ (asked-after-node ⊥ content name children none)) built.3 in
+    rw (inner, later, none_here content name built.0 other) refl
 
 -- a node in which something else stands
 pub around-others : {d : Document} {w : List ℕ} {p : Place} {name : Name} {m : ℕ} (waits : Bool) →

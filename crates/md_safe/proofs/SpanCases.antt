@@ -123,15 +123,11 @@ pair-node m t content name is inner k a =
 code-node : (m : Claims) (t : At) (content : Content) (name : Name) → is_code name ≡ true →
     SpanPrints m t content name
 code-node m t content name is inner k a =
-    let math : Bool = is_math name in
     let x : List ℕ = layout m.s.context.ending inner in
-    let shown : List ℕ = shown_in t x in
-    let e : Escaped shown = shown-escaped t x
-    (code-text m.s t Blocks name k.escaping is inner k.within) in
-    subst (Prints m content) (sym (code-prints m.s.context t name is inner)) (subst (λ b. Prints m
-    content (cond b (said shown) (Text (code_opening math) ∷ Text shown ∷ Text (codes "</code>")
-    ∷ []))) (sym k.outside) (by math (m.element Characters content (codes "code") a.spans.code)
-    (m.text Characters shown e refl)))
+    let e : Escaped (shown_in t x) = shown-escaped t x (code-text m.s t Blocks name k.escaping is
+    inner k.within) in
+    rw (code-prints m.s.context t name is inner, k.outside) (by (is_math name) (m.element Characters
+    content (codes "code") a.spans.code) (m.text Characters (shown_in t x) e refl))
   where
     by : {Q R : List ℕ → Type 0} {x : List ℕ} (math : Bool) → Tagged m.s.p.test Q R (codes "code") →
         Q x → Adds m.s.context.ending R (Text (code_opening math) ∷ Text x ∷ Text
@@ -145,23 +141,16 @@ code-node m t content name is inner k a =
 break : (m : Claims) (t : At) {content : Content} → AreSpans m.nested content →
     t.around.in_image ≡ false → Prints m
     content (when (not t.around.in_image) (said (codes "<br />")))
-break m t {content} f out = subst (λ b. Prints m content (when (not b) (said (codes "<br />"))))
-    (sym out) (adds-flat refl ((m.void content (codes "br") f.br).tag [] refl refl))
+break m t {content} f out =
+    rw out (adds-flat refl ((m.void content (codes "br") f.br).tag [] refl refl))
 
 single-node : (m : Claims) (t : At) (content : Content) (name : Name) → is_single name ≡ true →
     SpanPrints m t content name
-single-node m t content Link is inner k a =
-    let label : List ℕ = layout m.s.context.ending inner in
-    let target : Target = leads_to m.s.context t in
-    subst (λ b. Prints m content (cond b (said label) (anchor m.s.context.options target label)))
-    (sym k.outside) (subst (λ c. Prints m c (anchor m.s.context.options target label))
-    (sym (a.free refl)) (link m target label (target-title m.s t k.resource)
-    (adds-alone (a.label refl))))
-single-node m t content Image is inner k a =
-    let label : List ℕ = layout m.s.context.ending inner in
-    let target : Target = leads_to m.s.context t in
-    subst (λ b. Prints m content (cond b (said label) (picture m.s.context.options target label)))
-    (sym k.outside) (adds-image m.s.test (m.void content (codes "img") a.spans.img) target label
+single-node m t content Link is inner k a = rw (k.outside, a.free refl) (link m (leads_to
+    m.s.context t) (layout m.s.context.ending inner) (target-title m.s t k.resource) (adds-alone
+    (a.label refl)))
+single-node m t content Image is inner k a = rw k.outside (adds-image m.s.test (m.void content
+    (codes "img") a.spans.img) (leads_to m.s.context t) (layout m.s.context.ending inner)
     (target-title m.s t k.resource) (adds-alone k.within))
 single-node m t content HardBreakEscape is inner k a = break m t a.spans k.outside
 single-node m t content HardBreakTrailing is inner k a = break m t a.spans k.outside
@@ -173,11 +162,9 @@ single-node m t content GfmFootnoteCall is inner k a =
     let identifier : List ℕ = identifier_of m.s.context.bytes t.children in
     let number : ℕ = place_among (distinct m.s.context.calls) identifier in
     let occurrence : ℕ = suc (count_of t.calls identifier) in
-    subst (λ c. Prints m c (call m.s.context t)) (sym (a.free refl)) (subst (λ b. Prints m Phrasing
-    (when (not b) (call_tags m.s.context.options identifier number occurrence))) (sym k.outside)
-    (adds-call m.s.test (a-tag m) (m.element Phrasing Phrasing (codes "sup") refl) (linked-text m)
-    identifier number occurrence (k.ids refl (call_id m.s.context.options identifier number
-    occurrence))))
+    rw (a.free refl, k.outside) (adds-call m.s.test (a-tag m) (m.element Phrasing Phrasing (codes
+    "sup") refl) (linked-text m) identifier number occurrence (k.ids refl (call_id
+    m.s.context.options identifier number occurrence)))
 single-node m t content _ is inner k a = lie is
 
 -- ---- all of them

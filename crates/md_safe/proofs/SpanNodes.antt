@@ -46,49 +46,34 @@ is_shown name = is_pair name || (is_code name || is_single name)
 single-in_image : (s : Setting) (t : At) (name : Name) → t.around.in_image ≡ true →
     is_single name ≡ true → (inner : List Piece) → Inside s t Spans name inner →
     Prints s Escaped (prints s.context t name inner)
-single-in_image s t Link image is inner a = subst (λ b. Prints s Escaped (cond b
-    (said (layout s.context.ending inner)) (anchor s.context.options (leads_to s.context t)
-    (layout s.context.ending inner)))) (sym image) (adds-text (adds-alone {f = Escaped} a))
-single-in_image s t Image image is inner a = subst (λ b. Prints s Escaped (cond b
-    (said (layout s.context.ending inner)) (picture s.context.options (leads_to s.context t)
-    (layout s.context.ending inner)))) (sym image) (adds-text (adds-alone {f = Escaped} a))
-single-in_image s t HardBreakEscape image is inner a = subst (λ b. Prints s Escaped
-    (when (not b) (said (codes "<br />")))) (sym image) (adds-nothing refl)
-single-in_image s t HardBreakTrailing image is inner a = subst (λ b. Prints s Escaped
-    (when (not b) (said (codes "<br />")))) (sym image) (adds-nothing refl)
-single-in_image s t GfmTaskListItemCheck image is inner a = subst (λ b. Prints s Escaped (cond b
-    inner (task_start s.context ++ (inner ++ said (codes "/>"))))) (sym image) (adds-weaker
+single-in_image s t Link image is inner a = rw image (adds-text (adds-alone {f = Escaped} a))
+single-in_image s t Image image is inner a = rw image (adds-text (adds-alone {f = Escaped} a))
+single-in_image s t HardBreakEscape image is inner a = rw image (adds-nothing refl)
+single-in_image s t HardBreakTrailing image is inner a = rw image (adds-nothing refl)
+single-in_image s t GfmTaskListItemCheck image is inner a = rw image (adds-weaker
     {f = IsDone t.around.in_image} (λ x done. elim done [
       | inl e ↦ subst Escaped (sym e) refl
       | inr out ↦ lie (sym out.0 ∙ image)
     ]) a)
-single-in_image s t GfmFootnoteCall image is inner a =
-    let identifier : List ℕ = identifier_of s.context.bytes t.children in
-    subst (λ b. Prints s Escaped (when (not b) (call_tags s.context.options identifier
-    (place_among (distinct s.context.calls) identifier) (suc (count_of t.calls identifier)))))
-    (sym image) (adds-nothing refl)
+single-in_image s t GfmFootnoteCall image is inner a = rw image (adds-nothing refl)
 single-in_image s t _ image is inner a = lie is
 
 pub shown-in_image : (s : Setting) (t : At) (name : Name) → t.around.is_escaping ≡ true →
     t.around.in_image ≡ true → is_shown name ≡ true → (inner : List Piece) →
     Inside s t Spans name inner → Prints s Escaped (prints s.context t name inner)
-shown-in_image s t name e image is inner a = either (is_pair name) _ is (λ is. subst
-    (Prints s Escaped) (sym (pair-prints s.context t name is inner)) (subst (λ b. Prints s Escaped
-    (cond b inner (said (60 ∷ (pair_tag name ++ (62 ∷ [])))
-    ++ (inner ++ said (60 ∷ 47 ∷ (pair_tag name ++ (62 ∷ []))))))) (sym image)
-    (pair-inside s t Spans name is inner a))) (λ c. either (is_code name) (is_single name) c (λ is.
-    let shown : List ℕ = shown_in t (layout s.context.ending inner) in
-    subst (Prints s Escaped) (sym (code-prints s.context t name is inner)) (subst (λ b. Prints s
-    Escaped (cond b (said shown) (Text (code_opening (is_math name)) ∷ Text shown ∷ Text
-    (codes "</code>") ∷ []))) (sym image) (adds-text (shown-escaped t
-    (layout s.context.ending inner) (code-text s t Spans name e is inner a)))))
+shown-in_image s t name e image is inner a = either (is_pair name) _ is
+    (λ is. rw (pair-prints s.context t name is inner, image) (pair-inside s t Spans name is inner
+    a))
+    (λ c. either (is_code name) (is_single name) c
+    (λ is. rw (code-prints s.context t name is inner, image) (adds-text (shown-escaped t (layout
+    s.context.ending inner) (code-text s t Spans name e is inner a))))
     (λ is. single-in_image s t name image is inner a))
 
 -- an autolink, which is plain there
 plain-in_image : (s : Setting) (t : At) (plain : Bool) (prefix : List ℕ) → plain ≡ true →
     Prints s Escaped (autolink s.context t plain prefix)
-plain-in_image s t plain prefix is = subst (λ b. Prints s Escaped (autolink s.context t b prefix))
-    (sym is) (adds-text (is_escaped-encoded (text_in s.context.bytes t.place)))
+plain-in_image s t plain prefix is =
+    rw is (adds-text (is_escaped-encoded (text_in s.context.bytes t.place)))
 
 pub autolink-in_image : (s : Setting) (t : At) (name : Name) → t.around.in_image ≡ true →
     is_autolink name ≡ true → (inner : List Piece) → Prints s
