@@ -3,13 +3,16 @@
 use Rattle.std.specs.List.{list_all}
 use Rattle.std.specs.Cmp.Lexicographic.{bytes_decides}
 use Rattle.std.proofs.Common.{◌≡◌, ℕ, Bool, true, ◌||◌, List, [], ◌∷◌, inl, inr, refl, sym, subst}
-use Rattle.std.proofs.Common.{arith}
-use Rattle.std.proofs.lemmas.Bool.{or_cases, and_parts}
+use Rattle.std.proofs.Common.{arith, false}
+use Rattle.std.proofs.lemmas.Bool.{or_cases, and_parts, cases_Bool}
 use Rattle.md_base.proofs.Lies.{lie}
 use Rattle.md_text.specs.Bytes.{is_one_of}
 
 pub either : {A : Type 0} (a b : Bool) → (a || b) ≡ true → (a ≡ true → A) → (b ≡ true → A) → A
 either a b h f g = elim (or_cases a b h) [ inl is ↦ f is | inr is ↦ g is ]
+
+pub cases : {A : Type 0} (b : Bool) → (b ≡ true → A) → (b ≡ false → A) → A
+cases b f g = elim (cases_Bool b) [ inl e ↦ f e | inr e ↦ g e ]
 
 pub one_of-passes : (p : List ℕ → Bool) (listed : List (List ℕ)) (name : List ℕ) →
     list_all p listed ≡ true → is_one_of listed name ≡ true → p name ≡ true

@@ -35,11 +35,10 @@ begun : (s : Setting) (has_fence : Bool) {holds within later : List ℕ → Type
     has_fence ≡ false → Prints s within inner → Prints s later rest →
     Prints s holds ((inner ++ when (not has_fence) (said (codes ">"))) ++ rest)
 begun s true both e a b = lie (sym e)
-begun s false {holds} {later = later} {inner} {rest} both e a b = subst (Prints s holds)
-    (sym (append_assoc inner (said (codes ">")) rest)) (adds-append
-    {g = λ w. (y : List ℕ) × (w ≡ 62 ∷ y) × later y} (λ x w f g. subst (λ w. holds (x ++ w))
-    (sym g.1) (both x g.0 f g.2)) a (adds-append (λ x y f g. (y, ap (λ x. x ++ y) f, g))
-    (adds-text {f = λ x. x ≡ codes ">"} refl) b))
+begun s false {holds} {later = later} {inner} {rest} both e a b = rw append_assoc (adds-append
+    {g = λ w. (y : List ℕ) × (w ≡ 62 ∷ y) × later y} (λ x w f g. rw g.1 (both x g.0 f g.2)) a
+    (adds-append (λ x y f g. (y, ap (λ x. x ++ y) f, g)) (adds-text {f = λ x. x ≡ codes ">"} refl)
+    b))
 
 -- the text of a fence, and its content
 fence-prints : (context : Context) (t : At) (name : Name) → fence_name name ≡ true →
@@ -81,8 +80,8 @@ pub code_fence-node : (s : Setting) (t : At) (name : Name) →
     list_any fence_name t.before.spine ≡ false → is_code_fence name ≡ true →
     (inner rest : List Piece) → Inside s t FirstFence name inner → Prints s Escaped rest →
     Prints s (IsRaw code_tag) (prints s.context t name inner ++ rest)
-code_fence-node s t name e is inner rest a b = subst (λ x. Prints s (IsRaw code_tag) (x ++ rest))
-    (sym (fence-prints s.context t name ((allowed_inside FirstFence name is).fence refl) inner))
+code_fence-node s t name e is inner rest a b =
+    rw (fence-prints s.context t name ((allowed_inside FirstFence name is).fence refl) inner)
     (begun s (list_any fence_name t.before.spine) (raw code_tag) e (inside-is s t FirstFence
     InfoAndMeta name inner (picked _ _ _ (in-code name) is) a) b)
 
@@ -90,16 +89,15 @@ pub math_fence-node : (s : Setting) (t : At) (name : Name) →
     list_any fence_name t.before.spine ≡ false → is_math_fence name ≡ true →
     (inner rest : List Piece) → Inside s t FirstMathFence name inner → Prints s Escaped rest →
     Prints s (IsRaw math_tag) (prints s.context t name inner ++ rest)
-math_fence-node s t name e is inner rest a b = subst (λ x. Prints s (IsRaw math_tag) (x ++ rest))
-    (sym (fence-prints s.context t name ((allowed_inside FirstMathFence name is).fence refl) inner))
+math_fence-node s t name e is inner rest a b =
+    rw (fence-prints s.context t name ((allowed_inside FirstMathFence name is).fence refl) inner)
     (begun s (list_any fence_name t.before.spine) (λ x y f h. raw math_tag x y (inl f) h) e
     (inside-is s t FirstMathFence MetaAlone name inner (picked _ _ _ (in-math name) is) a) b)
 
 -- a later fence prints nothing
 closed : (s : Setting) (has_fence : Bool) {inner : List Piece} → has_fence ≡ true →
     Prints s IsNil inner → Prints s Escaped (inner ++ when (not has_fence) (said (codes ">")))
-closed s true {inner} e a = subst (Prints s Escaped) (sym (append-nil inner))
-    (adds-weaker (λ x e. subst Escaped (sym e) refl) a)
+closed s true e a = rw append-nil (adds-weaker (λ x e. rw e refl) a)
 closed s false e a = lie e
 
 pub line-node : (s : Setting) (t : At) (name : Name) → list_any fence_name t.before.spine ≡ true →

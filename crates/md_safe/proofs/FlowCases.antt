@@ -29,7 +29,7 @@ use Rattle.md_meaning.specs.declared.surroundings.Surroundings.{Surroundings}
 use Rattle.md_pattern.specs.Looseness.{is_loose}
 use Rattle.md_steps.proofs.Standing.{picked}
 use Rattle.md_text.specs.Html.{Attribute, elements, is_tag, opening_tag}
-use Rattle.md_safe.proofs.Cases.{either}
+use Rattle.md_safe.proofs.Cases.{either, cases}
 use Rattle.md_safe.proofs.Cells.{adds-cell_in}
 use Rattle.md_safe.proofs.Claims.{Claims, Known, NodePrints, Own, Prints, alone, blank-around}
 use Rattle.md_safe.proofs.Claims.{block-pair, ending-around, lined, nothing, plain_tag, turned}
@@ -93,14 +93,12 @@ turns-code m attributes h a = turns-two (plain_tag m {held = Preformatted} {cont
 -- the tag of fenced code or math, with what is said in it
 turns-info : (m : Claims) (math : Bool) (x : List ℕ) → IsInfo (raw_tag math) x →
     TurnsCode m (raw_tag math ++ (x ++ (62 ∷ [])))
-turns-info m false x (inl e) = subst (λ x. TurnsCode m (code_tag ++ (x ++ (62 ∷ [])))) (sym e)
-    (turns-code m [] refl refl)
-turns-info m false x (inr e) = subst (λ x. TurnsCode m (code_tag ++ (x ++ (62 ∷ [])))) (sym e.1)
-    (subst (TurnsCode m) (info_regrouped e.0) (turns-code m
+turns-info m false x (inl e) = rw e (turns-code m [] refl refl)
+turns-info m false x (inr e) = rw e.1 (subst (TurnsCode m) (info_regrouped e.0) (turns-code m
     (attribute (codes "class") (codes "language-" ++ e.0) ∷ []) (code_class e.0 e.2)
     (class-passes m.s.test (codes "language-" ++ e.0))))
-turns-info m true x (inl e) = subst (λ x. TurnsCode m (math_tag ++ (x ++ (62 ∷ [])))) (sym e)
-    (turns-code m (attribute (codes "class") (codes "language-math math-display") ∷ []) refl
+turns-info m true x (inl e) = rw e (turns-code m
+    (attribute (codes "class") (codes "language-math math-display") ∷ []) refl
     (class-passes m.s.test (codes "language-math math-display")))
 turns-info m true x (inr e) = lie (ap (λ tag. bytes_eq tag code_tag) e.3)
 
@@ -173,11 +171,7 @@ covered _ = refl
 -- no item and no part of a table
 outer : (name : Name) → (cond (is_inner (sort_of name)) false true) ≡ true →
     is_inner (sort_of name) ≡ false
-outer name h = by (is_inner (sort_of name)) h
-  where
-    by : (inner : Bool) → cond inner false true ≡ true → inner ≡ false
-    by true h = lie h
-    by false h = refl
+outer name h = cases (is_inner (sort_of name)) (λ e. lie (rw e at h)) (λ e. e)
 
 -- what blocks and spans print
 flow-node : (m : Claims) (t : At) (name : Name) → is_transparent name ≡ false →
@@ -220,9 +214,9 @@ ending-spaced _ stands = refl
 row-node : (m : Claims) (in_head : Bool) (kinds : List AlignKind) (inner : List Piece) →
     Prints m Cells inner → Prints m Rows (on_own_line (codes "<tr>") ++ (inner ++ (flat_map
     (cell_of in_head []) kinds ++ on_own_line (codes "</tr>"))))
-row-node m in_head kinds inner a = subst (λ x. Prints m Rows (on_own_line (codes "<tr>") ++ x))
-    (append_assoc inner (flat_map (cell_of in_head []) kinds) (on_own_line (codes "</tr>")))
-    (block-pair m refl refl (plain_tag m (codes "tr") refl refl) (m.filled in_head kinds inner a))
+row-node m in_head kinds inner a = rw (← (append_assoc inner (flat_map (cell_of in_head []) kinds)
+    (on_own_line (codes "</tr>")))) (block-pair m refl refl (plain_tag m (codes "tr") refl refl)
+    (m.filled in_head kinds inner a))
 
 -- the contents of blocks and of spans
 abbrev is_usual : Content → Bool

@@ -17,6 +17,7 @@ use Rattle.md_content.specs.Built.{IsBuilt, Blocks}
 use Rattle.md_safe.proofs.Contents.{Follows, spine_after_node, stays-after}
 use Rattle.md_safe.proofs.Insides.{is_chunks, allowed_inside, is_blocks, of-blocks, past_of}
 use Rattle.std.proofs.lemmas.List.Folds.{list_any-append}
+use Rattle.md_safe.proofs.Cases.{cases}
 
 -- the two tests of fences are one
 pub same_fence : (name : Name) → is_fence name ≡ fence_name name
@@ -44,36 +45,23 @@ pub second : (a b : Bool) → a ≡ false → (a || b) ≡ true → b ≡ true
 second true b e h = lie (sym e)
 second false b e h = h
 
--- the children of a transparent node
-through : (bytes : List ℕ) (content : Content) (name : Name) (children : Forest) →
-    is_transparent name ≡ true →
-    IsBuilt bytes (content_inside content name) children → IsBuilt bytes content children
-through bytes content name children e built = subst (λ b. IsBuilt bytes
-    (cond b content (content_of name content)) children) e built
-
 follows-node : (content : Content) (name : Name) (names : List Name) (children : Forest) →
     (is_transparent name || may_stand content name) ≡ true → Follows content names → (is_transparent
     name ≡ true → Follows (content_after content children) (names ++ spine_names children)) →
     Follows (content_after_node content name children) (spine_after_node name children names)
-follows-node content name names children stands f inner = by (is_transparent name) refl
-  where
-    by : (through : Bool) → is_transparent name ≡ through → Follows (cond through
-        (content_after content children)
-        (content_past content name)) (names ++ (cond through (spine_names children) (name ∷ [])))
-    by true e = inner e
-    by false e = follows-past content name names (second _ _ e stands) f
+follows-node content name names children stands f inner = cases (is_transparent name)
+    (λ e. rw e (inner e)) (λ e. rw e (follows-past content name names (second _ _ e stands) f))
 
 pub follows-after : (bytes : List ℕ) (content : Content) (names : List Name) (forest : Forest) →
     IsBuilt bytes content forest → Follows content names →
     Follows (content_after content forest) (names ++ spine_names forest)
-follows-after bytes content names Empty built f = subst (Follows content) (sym (append-nil names)) f
+follows-after bytes content names Empty built f = rw append-nil f
 follows-after bytes content names (Node name start end children rest) built f =
     subst (Follows (content_after (content_after_node content name children) rest))
     (append_assoc names (cond (is_transparent name) (spine_names children) (name ∷ []))
     (spine_names rest)) (follows-after bytes (content_after_node content name children)
     (spine_after_node name children names) rest built.3 (follows-node content name names children
-    built.0 f (λ e. follows-after bytes content names children
-    (through bytes content name children e built.2) f)))
+    built.0 f (λ e. follows-after bytes content names children (rw e at built.2) f)))
 
 pub follows-after-node :
     (bytes : List ℕ) (content : Content) (name : Name) (names : List Name) (children : Forest) →
@@ -83,8 +71,7 @@ pub follows-after-node :
     → Follows (content_after_node content name children) (spine_after_node name children names)
 follows-after-node bytes content name names children stands built f =
     follows-node content name names children stands f
-    (λ e. follows-after bytes content names children
-    (through bytes content name children e built) f)
+    (λ e. follows-after bytes content names children (rw e at built) f)
 
 -- nothing stands before a node's first child
 pub follows-inside : (content : Content) (name : Name) → may_stand content name ≡ true →

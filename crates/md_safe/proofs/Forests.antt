@@ -32,6 +32,7 @@ use Rattle.md_safe.proofs.Nodes.{Knows, any-node, inside-alone, Before as Prints
 use Rattle.md_safe.proofs.Findings.{AreFound, AreRead, heading-before, titles-append, texts-append}
 use Rattle.md_safe.proofs.Findings.{Inner, nothing-found, found-node, note-node, later-heading}
 use Rattle.md_safe.proofs.Findings.{later-title, later-resource}
+use Rattle.md_safe.proofs.Cases.{cases}
 
 -- the surroundings of children suit them
 through-suits : (options : CompileOptions) (loose : Bool) (around : Surroundings)
@@ -49,24 +50,17 @@ children-suit : (options : CompileOptions) → options.allow_dangerous_html ≡ 
     (is_transparent name || may_stand content name) ≡ true → Suits around.is_escaping
     around.in_image content → Suits (inside options loose name around).is_escaping
     (inside options loose name around).in_image (content_inside content name)
-children-suit options html loose around content name stands h = by (is_transparent name) refl
-  where
-    by : (through : Bool) → is_transparent name ≡ through → Suits
-        (inside options loose name around).is_escaping
-        (inside options loose name around).in_image (cond through content (content_of name content))
-    by true e = through-suits options loose around content name e h
-    by false e = suits-inside options html loose around content name (second _ _ e stands) h
+children-suit options html loose around content name stands h = cond_both (is_transparent name)
+    content (content_of name content) (Suits (inside options loose name around).is_escaping (inside
+    options loose name around).in_image) (λ e. through-suits options loose around content name e h)
+    (λ e. suits-inside options html loose around content name (second _ _ e stands) h)
 
 -- the state before a node's first child
 children-follow : (content : Content) (name : Name) (before : Before) (children : Forest) →
     (is_transparent name || may_stand content name) ≡ true → Follows content before.spine →
     Follows (content_inside content name) (before_children name children before).spine
-children-follow content name before children stands f = by (is_transparent name) refl
-  where
-    by : (through : Bool) → is_transparent name ≡ through → Follows
-        (cond through content (content_of name content)) (cond through before.spine [])
-    by true e = f
-    by false e = follows-inside content name (second _ _ e stands)
+children-follow content name before children stands f = cases (is_transparent name)
+    (λ e. rw e f) (λ e. rw e (follows-inside content name (second _ _ e stands)))
 
 blocks-after-node : (content : Content) (name : Name) (children : Forest) →
     is_blocks content ≡ true → is_blocks (content_after_node content name children) ≡ true

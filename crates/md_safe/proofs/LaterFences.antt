@@ -15,6 +15,7 @@ use Rattle.md_safe.proofs.Contents.{is_first, stays-after, Follows}
 use Rattle.md_safe.proofs.Insides.{is_raw, allowed_inside, past_of}
 use Rattle.md_safe.proofs.Following.{same_fences, follows-after, follows-inside}
 use Rattle.md_safe.proofs.FlowNodes.{has-fence}
+use Rattle.md_safe.proofs.Cases.{cases}
 
 abbrev IsLater : Content → Type 0
 IsLater content = is_first content ≡ false
@@ -22,12 +23,8 @@ IsLater content = is_first content ≡ false
 -- in a node without a fence of its own no first one is to come
 later-of : (content : Content) (name : Name) → is_raw name ≡ false →
     may_stand content name ≡ true → IsLater (content_of name content)
-later-of content name plain s = by (is_first (content_of name content)) refl
-  where
-    by : (first : Bool) → is_first (content_of name content) ≡ first →
-        IsLater (content_of name content)
-    by true e = lie (sym plain ∙ (allowed_inside content name s).first e)
-    by false e = e
+later-of content name plain s = cases (is_first (content_of name content))
+    (λ e. lie (sym plain ∙ (allowed_inside content name s).first e)) (λ e. e)
 
 later-after : (content : Content) (forest : Forest) → IsLater content →
     IsLater (content_after content forest)
@@ -55,10 +52,7 @@ pub later-inside :
     may_stand content name ≡ true → IsFit bytes name start end children →
     IsBuilt bytes (content_of name content) children
     → IsLater (content_after (content_of name content) children)
-later-inside bytes content name start end children s fit built = by (is_raw name) refl
-  where
-    by : (raw : Bool) → is_raw name ≡ raw →
-        IsLater (content_after (content_of name content) children)
-    by true is = fenced-after bytes (content_of name content) children built
-        (follows-inside content name s) (has-fence bytes name start end children is fit)
-    by false plain = later-after (content_of name content) children (later-of content name plain s)
+later-inside bytes content name start end children s fit built = cases (is_raw name)
+    (λ is. fenced-after bytes (content_of name content) children built
+    (follows-inside content name s) (has-fence bytes name start end children is fit))
+    (λ plain. later-after (content_of name content) children (later-of content name plain s))

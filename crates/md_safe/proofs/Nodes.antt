@@ -20,7 +20,7 @@ use Rattle.md_content.specs.Built.{Chunks, InfoAndMeta, MetaAlone, Done, Nothing
 use Rattle.md_content.specs.Built.{is_source, is_autolink, may_stand, content_of, content_past}
 use Rattle.md_content.specs.Built.{content_after, IsBuilt}
 use Rattle.md_steps.proofs.Standing.{picked}
-use Rattle.md_safe.proofs.Cases.{either}
+use Rattle.md_safe.proofs.Cases.{either, cases}
 use Rattle.md_safe.proofs.Texts.{Escaped}
 use Rattle.md_safe.proofs.Laid.{adds-append, adds-text, adds-nothing, adds-weaker, adds-any}
 use Rattle.md_safe.proofs.Elements.{IsDone}
@@ -210,14 +210,8 @@ pub any-node : (s : Setting) (t : At) (content : Content) (name : Name) →
     (content_of name content)) name inner → Prints s (Here s t (cond (is_transparent name)
     (content_after content t.children) (content_past content name))) rest →
     Prints s (Here s t content) (prints s.context t name inner ++ rest)
-any-node s t content name stands k inner rest = by (is_transparent name) refl
-  where
-    by : (through : Bool) → is_transparent name ≡ through → IsBuilt s.context.bytes
-        (cond through content (content_of name content)) t.children →
-        Before s t (cond through content (content_of name content)) name inner → Prints s (Here s t
-        (cond through (content_after content t.children) (content_past content name))) rest →
-        Prints s (Here s t content) (prints s.context t name inner ++ rest)
-    by true e built a b = through-node s t _ _ e _ _ a b
-    by false e built a b =
-        let may : may_stand content name ≡ true = second _ _ e stands in
-        solid-node s t _ _ e may k _ _ (inside-alone s t _ _ may k.fit built _ a) b
+any-node s t content name stands k inner rest built a b = cases (is_transparent name)
+    (λ e. through-node s t content name e inner rest (rw e at a) (rw e at b)) (λ e.
+    let may : may_stand content name ≡ true = second _ _ e stands in
+    solid-node s t content name e may k inner rest (inside-alone s t content name may k.fit (rw e at
+    built) inner (rw e at a)) (rw e at b))

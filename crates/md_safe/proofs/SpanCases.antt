@@ -25,7 +25,7 @@ use Rattle.md_text.specs.Encode.{encoded}
 use Rattle.md_safe.proofs.BlockNodes.{hidden-prints, is_hidden, is_silent, silent-block}
 use Rattle.md_safe.proofs.BlockNodes.{silent-prints}
 use Rattle.md_safe.proofs.Calls.{adds-call, call_tags}
-use Rattle.md_safe.proofs.Cases.{either}
+use Rattle.md_safe.proofs.Cases.{either, cases}
 use Rattle.md_safe.proofs.Claims.{AreSpans, Claims, Here, Known, Own, Prints, SpanPrints, are-spans}
 use Rattle.md_safe.proofs.Claims.{nothing, pair, plain_tag, says}
 use Rattle.md_safe.proofs.Elements.{adds-task, class-passes}
@@ -70,11 +70,10 @@ autolinked : (m : Claims) {content : Content} → AreSpans m.nested content →
     Prints m content (autolink m.s.context t plain prefix)
 autolinked m {content} f t plain prefix free =
     let x : List ℕ = text_in m.s.context.bytes t.place in
-    let target : Target = record { destination = prefix ++ x; title = None } in
     let said_so : Escaped (encoded true x) = is_escaped-encoded x in
-    cond_both _ _ _ (Prints m content) (λ _. adds-text (says m f _ said_so)) (λ no. subst (λ c.
-    Prints m c (anchor m.s.context.options target (encoded true x))) (sym (free no)) (link m target
-    (encoded true x) tt (linked-text m (encoded true x) said_so)))
+    cond_both _ _ _ (Prints m content) (λ _. adds-text (says m f _ said_so)) (λ other. rw (free
+        other) (link m (record { destination = prefix ++ x; title = None }) (encoded true x) tt
+        (linked-text m (encoded true x) said_so)))
 
 -- a literal autolink, which is plain in links too
 literal-node : (m : Claims) {content : Content} → AreSpans m.nested content →
@@ -111,10 +110,9 @@ pair-blocks _ = refl
 pair-node : (m : Claims) (t : At) (content : Content) (name : Name) → is_pair name ≡ true →
     SpanPrints m t content name
 pair-node m t content name is inner k a =
-    let own = and_parts _ _ (subst (λ b. not b || (is_blocks (content_of name Blocks) && not
-    (named Link name)) ≡ true) is (pair-blocks name)) in
-    subst (Prints m content) (sym (pair-prints m.s.context t name is inner)) (pair m t
-    a.spans.spaced k.outside (by_pair (λ tag. Turns (m.holds content) (m.holds content)
+    let own = and_parts _ _ (rw is at (pair-blocks name)) in
+    rw (pair-prints m.s.context t name is inner) (pair m t a.spans.spaced k.outside
+    (by_pair (λ tag. Turns (m.holds content) (m.holds content)
     (60 ∷ (tag ++ (62 ∷ []))) (60 ∷ 47 ∷ (tag ++ (62 ∷ []))))
     (plain_tag m (codes "em") refl a.spans.em) (plain_tag m (codes "strong") refl a.spans.strong)
     (plain_tag m (codes "del") refl a.spans.del) name is) (a.own own.0 (not-true _ own.1)))
@@ -216,7 +214,18 @@ pub record Spanning (t : At) (content : Content) (name : Name) : Type 0 where
 pub inline-node : (m : Claims) (t : At) (content : Content) (name : Name) → is_inline name ≡ true →
     (inner : List Piece) → Known m t name inner → Own m content name inner →
     Spanning t content name → Prints m content (prints m.s.context t name inner)
-inline-node m t content name is inner k own g = by (is_hidden name) refl
+inline-node m t content name is inner k own g = cases (is_hidden name)
+    (λ h. rw (hidden-prints m.s.context t name h inner) (nothing m spans.spaced)) (λ h.
+    let a = here h in
+    either _ _ is (λ is. escaped (text-node m.s t Escaped name (λ x h. h k.escaping) is k.fit
+    inner)) (λ c. either _ _ c (λ is. either (is_pair name) _ is
+    (λ is. pair-node m t content name is inner k a) (λ c. either (is_code name) _ c
+    (λ is. code-node m t content name is inner k a)
+    (λ is. single-node m t content name is inner k a))) (λ c. either _ _ c
+    (λ is. autolink-node m t content name is inner k a) (λ c. either _ _ c (λ is. escaped
+    (leaf-escaped m.s t name k.escaping is k.fit inner)) (λ c. either _ _ c
+    (λ is. lie (sym h ∙ is)) (λ is. rw (silent-prints m.s.context t name is inner)
+    (a.own (silent-block name is).0 (silent-block name is).1)))))))
   where
     spans : AreSpans m.nested content
     spans = are-spans m.nested content g.spans
@@ -224,10 +233,10 @@ inline-node m t content name is inner k own g = by (is_hidden name) refl
     here : is_hidden name ≡ false → Here m t content name inner
     here shown = record {
       spans = spans;
-      own = λ blocks other. subst (λ c. Prints m c inner)
-          (spans-in m.nested content name g.spans shown is other) (own blocks);
-      label = λ link. subst (λ c. Prints m c inner) (link-in m.nested content name
-          (g.free (link-prints name link)) link) (own (link-blocks name link));
+      own = λ blocks other. rw (spans-in m.nested content name g.spans shown is other) at (own
+          blocks);
+      label = λ link. rw (link-in m.nested content name (g.free (link-prints name link)) link) at
+          (own (link-blocks name link));
       free = g.free;
       plain = g.plain;
     }
@@ -240,20 +249,3 @@ inline-node m t content name is inner k own g = by (is_hidden name) refl
     escaped : Adds m.s.context.ending Escaped (prints m.s.context t name inner) →
         Prints m content (prints m.s.context t name inner)
     escaped a = adds-weaker (says m spans) a
-
-    by : (hidden : Bool) → is_hidden name ≡ hidden → Prints m
-        content (prints m.s.context t name inner)
-    by true h = subst (Prints m content) (sym (hidden-prints m.s.context t name h inner))
-        (nothing m spans.spaced)
-    by false h =
-        let a = here h in
-        either _ _ is (λ is. escaped (text-node m.s t Escaped name (λ x h. h k.escaping) is k.fit
-        inner)) (λ c. either _ _ c (λ is. either (is_pair name) _ is
-        (λ is. pair-node m t content name is inner k a) (λ c. either (is_code name) _ c
-        (λ is. code-node m t content name is inner k a)
-        (λ is. single-node m t content name is inner k a))) (λ c. either _ _ c
-        (λ is. autolink-node m t content name is inner k a) (λ c. either _ _ c (λ is. escaped
-        (leaf-escaped m.s t name k.escaping is k.fit inner)) (λ c. either _ _ c
-        (λ is. lie (sym h ∙ is)) (λ is. subst (Prints m content)
-        (sym (silent-prints m.s.context t name is inner)) (a.own (silent-block name is).0
-        (silent-block name is).1))))))
