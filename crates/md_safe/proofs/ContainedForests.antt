@@ -42,6 +42,7 @@ use Rattle.md_safe.proofs.Claims.{Known}
 use Rattle.md_safe.proofs.SpanCases.{Spanning}
 use Rattle.md_safe.proofs.FlowCases.{solid-node}
 use Rattle.md_safe.proofs.Spot.{at_in}
+use Rattle.md_safe.proofs.Cases.{cases}
 
 -- what nodes mean, where their content stands
 pub record Means (nested : Bool) (d : Document) (content : Content) (means : Outcome) : Type 0 where
@@ -53,12 +54,12 @@ pub record Means (nested : Bool) (d : Document) (content : Content) (means : Out
 through : {nested : Bool} {d : Document} {content : Content} {inner : Outcome} (name : Name)
     (t : At) → is_transparent name ≡ true → t.found ≡ inner.found → Means nested d content inner →
     Means nested d content (node d.context t name inner)
-through {nested = nested} {d = d} {content = content} {inner = inner} name t is same m = subst
-    (Means nested d content) (sym (through-node d.context t name inner is same)) (record {
-      prints = m.prints;
-      heading = m.heading;
-      texts = subst (AreFlow nested) (sym (append-nil inner.footnotes)) m.texts;
-    })
+through {d =
+    d} {inner = inner} name t is same m = rw (through-node d.context t name inner is same) (record {
+  prints = m.prints;
+  heading = m.heading;
+  texts = rw append-nil m.texts;
+})
 
 -- what is known where some nodes stand
 pub record Fits (nested : Bool) (d : Document) (around : Surroundings) (before : Before)
@@ -115,17 +116,11 @@ any-node : (nested : Bool) (d : Document) (white : IsWhite d.context.ending) (co
     (is_blocks (content_inside Blocks name) ≡ false → inner.footnotes ≡ []) →
     (is_spans content ≡ true → Spanning t content name) → Means nested d
     content (node d.context t name inner)
-any-node nested d white content name t inner same k stands placed own none g = by
-    (is_transparent name) refl
-  where
-    by : (looked : Bool) → is_transparent name ≡ looked → Means nested d
-        content (node d.context t name inner)
-    by true e = through name t e same (subst (λ c. Means nested d c inner)
-        (ap (λ b. cond b content (place_in nested content name)) e) (own (ap
-        (λ b. is_blocks (cond b Blocks (content_of name Blocks))) e)))
-    by false e = solid-means white inner e (not_part _ (second _ _ e stands)) (second _ _ e placed)
-        (k e) (λ is. subst (λ c. Means nested d c inner)
-        (ap (λ b. cond b content (place_in nested content name)) e) (own is)) none g
+any-node nested d white content name t inner same k stands placed own none g =
+    cases (is_transparent name)
+    (λ e. through name t e same (rw e at (own (rw e refl))))
+    (λ e. solid-means white inner e (not_part _ (second _ _ e stands)) (second _ _ e placed) (k e)
+    (λ is. rw e at (own is)) none g)
 
 pub means : (nested : Bool) (d : Document) (forest : Forest) (around : Surroundings)
     (before : Before) (content : Content) → Fits nested d around before content forest →

@@ -143,11 +143,7 @@ counts-none w = counts-plain w [] (nothing (is_without w))
 pub no-footnote : (d : Document) (w : List ℕ) (n : ℕ) (p : Place) (name : Name) →
     named GfmFootnoteDefinition name ≡ false → TextsCount w n (inner_of d p name).footnotes →
     TextsCount w n (here_of d p name).footnotes
-no-footnote d w n p name none h =
-    subst (λ b. TextsCount w n ((inner_of d p name).footnotes ++ when b (record {
-      identifier = identifier_of d.context.bytes p.children;
-      text = layout d.context.ending (inner_of d p name).pieces;
-    } ∷ []))) (sym none) (subst (TextsCount w n) (sym (append-nil (inner_of d p name).footnotes)) h)
+no-footnote d w n p name none h = rw (none, append-nil) h
 
 -- a transparent node means what its children do
 pub through-node : (context : Context) (t : At) (name : Name) (inner : Outcome) →

@@ -2,7 +2,7 @@
 -- each is counted once.
 use Rattle.std.proofs.Common.{◌≡◌, ◌⊎◌, ℕ, ◌+◌, ◌≤◌, ◌<◌, ◌^◌, suc, Bool, true, false, cond, List}
 use Rattle.std.proofs.Common.{[], ◌∷◌, ◌++◌, length, refl, sym, ◌∙◌, subst, inl, inr, arith, codes}
-use Rattle.std.proofs.Common.{bytes_eq}
+use Rattle.std.proofs.Common.{bytes_eq, ap}
 use Rattle.md_text.proofs.HtmlIds.{occurs}
 use Rattle.md_text.specs.declared.options.CompileOptions.{CompileOptions}
 use Rattle.md_meaning.specs.Meaning.Footnotes.{distinct, place_among, count_of}
@@ -13,6 +13,7 @@ use Rattle.md_safe.proofs.NumberedIds.{call-ends}
 use Rattle.md_safe.proofs.CallNumbers.{ids_after}
 use Rattle.md_safe.proofs.IdsOnce.{note_ids, calls-once, notes-once, in-itself, occurs-other}
 use Rattle.std.proofs.lemmas.Bool.{cond_both}
+use Rattle.md_safe.proofs.Cases.{cases}
 
 -- of each of some ids something holds
 abbrev Each : (List ℕ → Type 0) → List (List ℕ) → Type 0
@@ -78,11 +79,8 @@ document-once options on w calls small =
     (each-call options on calls [] calls))
   where
     heading : occurs w label_id ≤ 1
-    heading = of (bytes_eq (codes "footnote-label") w)
-      where
-        of : (is : Bool) → cond is (suc 0) 0 ≤ 1
-        of true = omega arith
-        of false = omega arith
+    heading = cond_both (bytes_eq (codes "footnote-label") w) 1 0 (λ n. n ≤ 1) (λ _. omega arith) (λ
+        _. omega arith)
 
     by : occurs w (note_ids options calls (distinct calls)) ≤ 1 →
         occurs w (ids_after options calls [] calls) ≤ 1
@@ -92,19 +90,11 @@ document-once options on w calls small =
         + occurs w (ids_after options calls [] calls) ≤ 1
     by notes called (inl n) (inl c) = omega (heading, n, c, arith)
     by notes called (inl n) (inr c) =
-        omega (
-          label-alone options w (subst EndsInDigit (sym c.2) (call-ends options c.0 c.1)),
-          n,
-          called,
-          arith,
-        )
+        let alone = label-alone options w (rw c.2 (call-ends options c.0 c.1)) in
+        omega (alone, n, called, arith)
     by notes called (inr n) (inl c) =
-        omega (
-          label-alone options w (subst EndsInDigit (sym n.1) (note-ends options n.0)),
-          notes,
-          c,
-          arith,
-        )
+        let alone = label-alone options w (rw n.1 (note-ends options n.0)) in
+        omega (alone, notes, c, arith)
     by notes called (inr n) (inr c) = absurd (note-no_call options n.0 c.0 c.1 (sym n.1 ∙ c.2))
 
 -- an id that stands in a document is that of the heading, of a footnote or of a call
@@ -113,19 +103,14 @@ pub document-known : (options : CompileOptions) →
     1 ≤ occurs w label_id + occurs w (note_ids options calls (distinct calls))
     + occurs w (ids_after options calls [] calls) →
     (codes "footnote-label" ≡ w) ⊎ (IsNote options w ⊎ IsCall options w)
-document-known options on w calls =
-    by (bytes_eq (codes "footnote-label") w) refl
-    (among-each (IsNote options) w (note_ids options calls (distinct calls))
-    (each-note options on calls (distinct calls))) (among-each (IsCall options) w
-    (ids_after options calls [] calls) (each-call options on calls [] calls))
-  where
-    by : (is : Bool) → bytes_eq (codes "footnote-label") w ≡ is →
-        (occurs w (note_ids options calls (distinct calls)) ≡ 0) ⊎ IsNote options w →
-        (occurs w (ids_after options calls [] calls) ≡ 0) ⊎ IsCall options w →
-        1 ≤ (cond is (suc 0) 0) + occurs w (note_ids options calls (distinct calls))
-        + occurs w (ids_after options calls [] calls) →
-        (codes "footnote-label" ≡ w) ⊎ (IsNote options w ⊎ IsCall options w)
-    by true e n c some = inl (same (codes "footnote-label") w e)
-    by false e (inr n) c some = inr (inl n)
-    by false e (inl n) (inr c) some = inr (inr c)
-    by false e (inl n) (inl c) some = absurd (omega (arith, n, c, some))
+document-known options on w calls some = cases (bytes_eq (codes "footnote-label") w)
+    (λ e. inl (same (codes "footnote-label") w e))
+    (λ e. elim (among-each (IsNote options) w (note_ids options calls (distinct calls)) (each-note
+    options on calls (distinct calls))) [
+      | inr n ↦ inr (inl n)
+      | inl n ↦ elim (among-each (IsCall options) w (ids_after options calls [] calls) (each-call
+          options on calls [] calls)) [
+        | inr c ↦ inr (inr c)
+        | inl c ↦ absurd (omega (arith, n, c, some, ap {B = ℕ} (λ is. cond is 1 0) e))
+      ]
+    ])

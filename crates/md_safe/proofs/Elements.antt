@@ -117,13 +117,15 @@ task_tag checkable = codes "<input type=\"checkbox\" " ++ cond checkable [] (cod
 task-read : {test : Attribute → Bool} {R : List ℕ → Type 0} {options : CompileOptions} →
     IsTest test options → Single test R (codes "input") → (checkable : Bool) (x : List ℕ) →
     (x ≡ []) ⊎ (x ≡ codes "checked=\"\" ") → R (task_tag checkable ++ (x ++ codes "/>"))
-task-read {test = test} {R = R} known single checkable x done =
-    elim done [
-      | inl e ↦ subst (λ x. R (task_tag checkable ++ (x ++ codes "/>"))) (sym e) (by checkable)
-      | inr e ↦ subst (λ x. R (task_tag checkable ++ (x ++ codes "/>"))) (sym e) (on checkable)
-    ]
+task-read {test} {R} known single checkable x done = elim done [
+  | inl e ↦ rw e (by checkable)
+  | inr e ↦ rw e (on checkable)
+]
   where
-    kind : test (attribute (codes "type") (codes "checkbox")) ≡ true
+    box : Attribute
+    box = attribute (codes "type") (codes "checkbox")
+
+    kind : test box ≡ true
     kind = known.other (codes "type") (codes "checkbox") refl
 
     disabled : test (attribute (codes "disabled") []) ≡ true
@@ -133,16 +135,14 @@ task-read {test = test} {R = R} known single checkable x done =
     checked = known.other (codes "checked") [] refl
 
     by : (checkable : Bool) → R (task_tag checkable ++ codes "/>")
-    by true = single.tag (attribute (codes "type") (codes "checkbox") ∷ []) refl (cc kind)
-    by false = single.tag (attribute (codes "type") (codes "checkbox") ∷ attribute
-        (codes "disabled") [] ∷ []) refl (rw (kind, disabled) refl)
+    by true = single.tag (box ∷ []) refl (cc kind)
+    by false = single.tag (box ∷ attribute (codes "disabled") [] ∷ []) refl (rw (kind, disabled)
+        refl)
 
     on : (checkable : Bool) → R (task_tag checkable ++ (codes "checked=\"\" " ++ codes "/>"))
-    on true = single.tag (attribute (codes "type") (codes "checkbox") ∷ attribute (codes "checked")
-        [] ∷ []) refl (rw (kind, checked) refl)
-    on false = single.tag (attribute (codes "type") (codes "checkbox") ∷ attribute
-        (codes "disabled") [] ∷ attribute (codes "checked") [] ∷ []) refl
-        (rw (kind, disabled, checked) refl)
+    on true = single.tag (box ∷ attribute (codes "checked") [] ∷ []) refl (rw (kind, checked) refl)
+    on false = single.tag (box ∷ attribute (codes "disabled") [] ∷ attribute (codes "checked") [] ∷
+        []) refl (rw (kind, disabled, checked) refl)
 
 -- a task outside images
 pub adds-task : {test : Attribute → Bool} {R : List ℕ → Type 0} {ending : List ℕ}

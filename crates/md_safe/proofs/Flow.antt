@@ -93,12 +93,10 @@ kind-passes {content} {held} {x} {name} {attributes} {inner} rule there h c insi
           k.0 (λ e. lie (sym (ap is_items k.1) ∙ e)) there))
       | inr (inr (inr (inl k))) ↦ blocked k.0.block (inside.flowing (ap is_flowing k.1) new
           (there-within k.0 (λ e. k.2) there))
-      | inr (inr (inr (inr (inl k)))) ↦ subst (λ name. Passed x name attributes inner) (sym k.0)
-          (table-passes there.here.body there.here.made there.no_p there.resets h (subst
-          (λ held. is_contained false held inner ≡ true) k.1 c))
-      | inr (inr (inr (inr (inr k)))) ↦ subst (λ name. Passed x name attributes inner) (sym k.0)
-          (pre-passes there.here.body there.no_p
-          (subst (λ held. is_contained false held inner ≡ true) k.1 c) (inside.flowing
+      | inr (inr (inr (inr (inl k)))) ↦ rw k.0 (table-passes there.here.body there.here.made
+          there.no_p there.resets h (rw k.1 at c))
+      | inr (inr (inr (inr (inr k)))) ↦ rw k.0 (pre-passes there.here.body there.no_p (rw k.1 at c)
+          (inside.flowing
           (ap is_flowing k.1) (within x (codes "pre") those x.active) (record {
             here = here-within (λ e. e) there.here;
             no_p = there.no_p;
@@ -124,9 +122,7 @@ flow-void-step : {x : Position} {name : List ℕ} (attributes : List TokenAttrib
     (parser_of x) (StartTag name attributes true) ≡ Some (parser_of (with_children x
     (with_element x.node.children name attributes NoNode) x.active (suc x.created)))
 flow-void-step {x = x} attributes (inr v) here none = void-step x attributes here.body here.opened v
-flow-void-step {x = x} attributes (inl e) here none = subst (λ name. step (parser_of x)
-    (StartTag name attributes true) ≡ Some (parser_of (with_children x
-    (with_element x.node.children name attributes NoNode) x.active (suc x.created)))) (sym e)
+flow-void-step {x = x} attributes (inl e) here none = rw e
     (start-in-body x here.body (codes "hr") attributes true refl ∙ ap (λ stack. Some (insert_void
     (codes "hr") attributes (record (parser_of x) { stack = stack })))
     (unclosed (x.node ∷ x.others) none))

@@ -32,15 +32,8 @@ use Rattle.md_safe.proofs.FootnoteBodies.{body-prints}
 -- an element before the content of brackets
 pub turn-after : {Q R S : List ℕ → Type 0} {o c : List ℕ} (h : List ℕ) → Turns R S o c →
     ((x : List ℕ) → Q x → R (h ++ x)) → Turns Q S (o ++ h) c
-turn-after {S = S} {o} {c} h bracket grows =
-    record { turn = λ x rx. subst S (by o h x c) (bracket.turn (h ++ x) (grows x rx)) }
-  where
-    by : (o h x c : List ℕ) → o ++ ((h ++ x) ++ c) ≡ (o ++ h) ++ (x ++ c)
-    by o h x c = simp append_assoc
-
-bracket-after : (p : Claim) (o c h : List ℕ) → Bracket p o c → HasReadingWith p.test h →
-    Bracket p (o ++ h) c
-bracket-after p o c h bracket r = turn-after h bracket (λ x rx. p.before h x r rx)
+turn-after h bracket grows =
+    record { turn = λ x r. simp append_assoc (simp append_assoc at (bracket.turn _ (grows x r))) }
 
 abbrev pub heading_label_of : CompileOptions → List ℕ
 heading_label_of options =
@@ -55,35 +48,18 @@ heading_text tag attributes label =
 
 heading-bracket : (s : Setting) (label : List ℕ) → PassesIds s.p.test → Escaped label →
     Bracket s.p (heading_text (codes "h2") (codes "class=\"sr-only\"") label) (codes "</section>")
-heading-bracket s label ids h = bracket-after s.p
-    (codes "<section data-footnotes=\"\" class=\"footnotes\">") (codes "</section>") (codes
-    "<h2 id=\"footnote-label\" class=\"sr-only\">" ++ (label ++ codes "</h2>")) ((bracket-tag s.p
-    (codes "section")).tag (attribute (codes "data-footnotes") [] ∷ attribute (codes "class")
-    (codes "footnotes") ∷ []) refl (rw (
-      s.test.other (codes "data-footnotes") [] refl,
-      s.test.other (codes "class") (codes "footnotes") refl,
-    )
-    refl)) ((element-read (plain_of s.p) (codes "h2")).tag (attribute (codes "id")
-    (codes "footnote-label") ∷ attribute (codes "class") (codes "sr-only") ∷ []) label refl (rw (
-      ids (codes "footnote-label"),
-      s.test.other (codes "class") (codes "sr-only") refl,
-    ) refl)
-    (text s.p.test label h))
-
--- the same as the options write it
-section-turn : {Q R : List ℕ → Type 0} (options : CompileOptions) → Turns Q R (heading_text
-    (codes "h2") (codes "class=\"sr-only\"") (heading_label_of options)) (codes "</section>") →
-    options.gfm_footnote_label_tag_name ≡ None → options.gfm_footnote_label_attributes ≡ None →
-    Turns Q R (heading_text (tag_of options) (attributes_of options)
-    (heading_label_of options)) (codes "</section>")
-section-turn {Q = Q} {R = R} options turn no_tag no_attributes =
-    let tag : tag_of options ≡ codes "h2" = ap
-    (λ o. option_or (option_map string_bytes o) (codes "h2")) no_tag in
-    let attributes : attributes_of options ≡ codes "class=\"sr-only\"" = ap (λ o. option_map_or
-    string_bytes o (codes "class=\"sr-only\"")) no_attributes in
-    subst (λ tag. Turns Q R (heading_text tag (attributes_of options) (heading_label_of options))
-    (codes "</section>")) (sym tag) (subst (λ attributes. Turns Q R (heading_text (codes "h2")
-    attributes (heading_label_of options)) (codes "</section>")) (sym attributes) turn)
+heading-bracket s label ids h =
+    let class : List ℕ → Attribute = attribute (codes "class") in
+    let notes = s.test.other (codes "data-footnotes") [] refl in
+    let footnotes = s.test.other (codes "class") (codes "footnotes") refl in
+    let id = ids (codes "footnote-label") in
+    let only = s.test.other (codes "class") (codes "sr-only") refl in
+    let heading = (element-read (plain_of s.p) (codes "h2")).tag (attribute (codes "id") (codes
+    "footnote-label") ∷ class (codes "sr-only") ∷ []) label refl (rw (id, only) refl) (text s.p.test
+    label h) in
+    turn-after _ ((bracket-tag s.p (codes "section")).tag (attribute (codes "data-footnotes") [] ∷
+    class (codes "footnotes") ∷ []) refl (rw (notes, footnotes) refl)) (λ x r. s.p.before _ x
+    heading r)
 
 -- an item
 pub li_id : (v : List ℕ) → Escaped v →
@@ -109,14 +85,10 @@ text_among footnotes identifier =
 pub texts-among : (Q : List ℕ → Type 0) → Q [] → (footnotes : List Footnote)
     (identifier : List ℕ) → AreTexts Q footnotes → Q (text_among footnotes identifier)
 texts-among Q none [] identifier h = none
-texts-among Q none (footnote ∷ others) identifier h =
-    by (bytes_eq footnote.identifier identifier) (texts-among Q none others identifier h.1)
-  where
-    by : (is : Bool) → Q (text_among others identifier) →
-        Q (option_map_or (λ footnote. footnote.text) (cond is (Some footnote)
-        (find (λ footnote. bytes_eq footnote.identifier identifier) others)) [])
-    by true later = h.0
-    by false later = later
+texts-among Q none (footnote ∷ others) identifier h = cond_both (bytes_eq footnote.identifier
+    identifier) (Some footnote) (find (λ footnote. bytes_eq footnote.identifier identifier) others)
+    (λ found. Q (option_map_or (λ (footnote : Footnote). footnote.text) found [])) (λ _. h.0) (λ _.
+    texts-among Q none others identifier h.1)
 
 -- the id of a footnote, and the ways back from it
 abbrev pub note_id : Context → List ℕ → List ℕ
@@ -166,16 +138,19 @@ pub adds-section : {W I Q R : List ℕ → Type 0} → IsBeside W → Takes W I 
     context.options.gfm_footnote_label_attributes ≡ None → R [] → (footnotes : List Footnote) →
     Adds context.ending I (flat_map (item context footnotes) (distinct context.calls)) →
     Adds context.ending R (section context footnotes)
-adds-section {R = R} beside takes stays ends context h list turn no_tag no_attributes none footnotes
+adds-section {Q =
+    Q} {R = R} beside takes stays ends context h list turn no_tag no_attributes none footnotes
     a =
     let items : List Piece = flat_map (item context footnotes) (distinct context.calls) in
     let ol : List Piece = Forced ∷ Text (codes "<ol>") ∷ [] in
     let end : List Piece = Forced ∷ Text (codes "</ol>") ∷ [] in
     let last : List Piece = Forced ∷ Text (codes "</section>") ∷ Forced ∷ [] in
     let heads : List Piece = head_texts context.options in
+    let turns : Turns Q R (heading_text (tag_of context.options) (attributes_of context.options)
+    (heading_label_of context.options)) (codes "</section>") = rw (no_tag, no_attributes) turn in
     cond_both _ _ _ (Adds context.ending R) (λ _. subst
     (λ x. Adds context.ending R ((Needed ∷ heads) ++ (ol ++ x))) (append_assoc items end last)
-    (adds-turned stays ends (section-turn context.options turn no_tag no_attributes)
+    (adds-turned stays ends turns
     (adds-framed_flat beside heads refl (adds-needed beside h)) (adds-turned takes stays list
     (framed-forced beside h) a (framed-forced beside h))
     (adds-framed (adds-forced h) (adds-forced h)))) (λ _. adds-nothing none)

@@ -49,18 +49,15 @@ pub record TurnsTag (test : Attribute → Bool) (Q R : List ℕ → Type 0) (nam
 pub bracket-tag : (p : Claim) (name : List ℕ) → TurnsTag p.test p.holds p.holds name
 bracket-tag p name = record {
   tag = λ attributes h a. record {
-    turn = λ x r. subst p.holds (sym (opening-before name attributes (x ++ closing_tag name)))
-        (p.within name attributes x h a r);
+    turn = λ x r. rw (opening-before name attributes (x ++ closing_tag name)) (p.within name
+        attributes x h a r);
   };
 }
 
 pub turns-two : {Q R S : List ℕ → Type 0} {o c o' c' : List ℕ} → Turns R S o c → Turns Q R o' c' →
     Turns Q S (o ++ o') (c' ++ c)
-turns-two {S = S} {o} {c} {o'} {c'} a b =
-    record { turn = λ x r. subst S (by o c o' c' x) (a.turn (o' ++ (x ++ c')) (b.turn x r)) }
-  where
-    by : (o c o' c' x : List ℕ) → o ++ ((o' ++ (x ++ c')) ++ c) ≡ (o ++ o') ++ (x ++ (c' ++ c))
-    by o c o' c' x = simp append_assoc
+turns-two a b =
+    record { turn = λ x r. simp append_assoc (simp append_assoc at (a.turn _ (b.turn x r))) }
 
 -- the same of the whole element, attribute by attribute, and of a void tag
 pub record Tagged (test : Attribute → Bool) (Q R : List ℕ → Type 0) (name : List ℕ) : Type 0 where
@@ -104,27 +101,20 @@ pub record IsFramed (W : List ℕ → Type 0) (c x : List ℕ) : Type 0 where
   pub is_before : W before
   pub is_after : W after
 
-regrouped : (e o f y g c h : List ℕ) →
-    e ++ ((o ++ ((f ++ (y ++ g)) ++ c)) ++ h) ≡ (e ++ (o ++ f)) ++ (y ++ (g ++ (c ++ h)))
-regrouped e o f y g c h = simp append_assoc
-
 enclosed : {W Q R : List ℕ → Type 0} {o c x y z : List ℕ} → Takes W Q → Takes W R → Turns Q R o c →
     IsFramed W o x → Q y → IsFramed W c z → R (x ++ (y ++ z))
-enclosed {R = R} {o} {c} {x} {y} {z} takes stays turns a r b =
-    let inside : List ℕ = a.after ++ (y ++ b.before) in
-    let parts : R ((a.before ++ (o ++ a.after)) ++ (y ++ (b.before ++ (c ++ b.after)))) = subst R
-    (regrouped _ o _ y _ c _) (stays.take a.before (o ++ (inside ++ c)) b.after a.is_before
-    (turns.turn inside (takes.take a.after y b.before a.is_after r b.is_before)) b.is_after) in
-    subst (λ x. R (x ++ (y ++ z))) (sym a.whole) (subst
-    (λ z. R ((a.before ++ (o ++ a.after)) ++ (y ++ z))) (sym b.whole) parts)
+enclosed {y = y} takes stays turns a r b =
+    let inside = takes.take a.after y b.before a.is_after r b.is_before in
+    rw (a.whole, b.whole) (simp append_assoc (simp append_assoc at
+    (stays.take a.before _ b.after a.is_before (turns.turn _ inside) b.is_after)))
 
 -- pieces between those of two texts
 pub adds-turned : {W Q R : List ℕ → Type 0} {ending o c : List ℕ} {xs ys zs : List Piece} →
     Takes W Q → Takes W R → Turns Q R o c → Adds ending (IsFramed W o) xs → Adds ending Q ys →
     Adds ending (IsFramed W c) zs → Adds ending R (xs ++ (ys ++ zs))
-adds-turned {W} {Q} {R} {c = c} takes stays turns a r b = adds-append
-    {g = λ w. (y : List ℕ) × (z : List ℕ) × (w ≡ y ++ z) × Q y × IsFramed W c z} (λ x w f g. subst
-    (λ w. R (x ++ w)) (sym g.2) (enclosed takes stays turns f g.3 g.4)) a
+adds-turned {W} {Q} {c = c} takes stays turns a r b = adds-append
+    {g = λ w. (y : List ℕ) × (z : List ℕ) × (w ≡ y ++ z) × Q y × IsFramed W c z}
+    (λ x w f g. rw g.2 (enclosed takes stays turns f g.3 g.4)) a
     (adds-append (λ y z f g. (y, z, refl, f, g)) r b)
 
 -- pieces between those of a bracket
@@ -195,9 +185,8 @@ are_texts (_ ∷ pieces) = false
 pub adds-flat : {ending : List ℕ} {f : List ℕ → Type 0} {pieces : List Piece} →
     are_texts pieces ≡ true → f (flat pieces) → Adds ending f pieces
 adds-flat {pieces = []} texts h = adds-nothing h
-adds-flat {f = f} {pieces = Text x ∷ pieces} texts h = adds-append (λ y z e g. subst f
-    (sym (ap (λ y. y ++ z) e ∙ ap (λ z. x ++ z) g)) h) (adds-text {f = λ y. y ≡ x} refl)
-    (adds-flat {f = λ z. z ≡ flat pieces} texts refl)
+adds-flat {pieces = Text x ∷ pieces} texts h = adds-append {f = λ y. y ≡ x} {g = λ z. z ≡ flat
+    pieces} (λ y z e g. rw (e, g) h) (adds-text refl) (adds-flat texts refl)
 adds-flat {pieces = Needed ∷ pieces} texts h = absurd (cc texts)
 adds-flat {pieces = Forced ∷ pieces} texts h = absurd (cc texts)
 
