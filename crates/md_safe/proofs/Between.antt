@@ -1,11 +1,11 @@
 -- Texts in a row.
-use Rattle.std.proofs.Common.{◌≡◌, ℕ, Bool, true, false, List, [], ◌∷◌, ◌++◌, refl, sym, ap}
-use Rattle.std.proofs.Common.{◌∙◌, subst, append-nil, append_assoc}
+use Rattle.std.proofs.Common.{◌≡◌, ℕ, Bool, true, false, List, [], ◌∷◌, ◌++◌, refl}
+use Rattle.std.proofs.Common.{append-nil, append_assoc}
 use Rattle.md_text.specs.Html.{Attribute, Forest, is_forest, written, IsReading, HasOneReadingWith}
 use Rattle.md_safe.specs.Input.{with_line_feeds, begins_with_line_feed}
 use Rattle.md_safe.specs.Token.{Token, EndOfFile}
 use Rattle.md_safe.specs.TokenizerStates.{Data}
-use Rattle.md_safe.specs.Tokenizer.{IsRun, IsTokenized}
+use Rattle.md_safe.specs.Tokenizer.{IsTokenized}
 use Rattle.md_safe.specs.Tokens.{tokens}
 use Rattle.md_safe.specs.Tokenizes.{Tokenizes}
 use Rattle.md_safe.specs.Embedded.{EndsInDataState, HasTokensAfter, splits_newline}
@@ -18,18 +18,12 @@ use Rattle.std.proofs.lemmas.Bool.{and_right}
 pub alone : (text after : List ℕ) (emits : List Token) → EndsInDataState text emits →
     splits_newline text after ≡ false →
     Tokenizes Data (with_line_feeds (text ++ after)) emits (with_line_feeds after)
-alone text after emits h n =
-    subst (λ x. Tokenizes Data x emits (with_line_feeds after))
-    (sym (line_feeds-apart text after n))
-    (h (with_line_feeds after))
+alone text after emits h n = rw (line_feeds-apart text after n) (h (with_line_feeds after))
 
 pub split : (text after : List ℕ) (emits : List Token) → EndsInDataState text emits →
     splits_newline text (10 ∷ after) ≡ true →
     Tokenizes Data (with_line_feeds (text ++ (10 ∷ after))) emits (with_line_feeds after)
-split text after emits h n =
-    subst (λ x. Tokenizes Data x emits (with_line_feeds after))
-    (sym (line_feeds-split text after n))
-    (h (with_line_feeds after))
+split text after emits h n = rw (line_feeds-split text after n) (h (with_line_feeds after))
 
 pub tokenized : (text after : List ℕ) (emits later : List Token) → EndsInDataState text emits →
     splits_newline text after ≡ false → IsTokenized after later →
@@ -48,9 +42,8 @@ tokenized-only text after emits all h n k =
 
 pub own-tokens : (text : List ℕ) (emits : List Token) → EndsInDataState text emits →
     IsTokenized text (emits ++ (EndOfFile ∷ []))
-own-tokens text emits h = subst (λ x. IsRun Data x (emits ++ (EndOfFile ∷ [])))
-    (append-nil (with_line_feeds text)) (runs-on _ _ _ _ _ (h [])
-    record { steps = 1; emits = refl })
+own-tokens text emits h = rw (append-nil (with_line_feeds text)) at
+    (runs-on _ _ _ _ _ (h []) record { steps = 1; emits = refl })
 
 -- ---- a forest, before what doesn't begin with LF, and alone
 
@@ -74,12 +67,9 @@ reading-runs p text one =
 pub join : (before text : List ℕ) (earlier emits : List Token) → EndsInDataState before earlier →
     EndsInDataState text emits → splits_newline before text ≡ false →
     EndsInDataState (before ++ text) (earlier ++ emits)
-join before text earlier emits h k n after =
-    subst (λ x. Tokenizes Data x (earlier ++ emits) after)
-    (sym (append_assoc (with_line_feeds before) (with_line_feeds text) after)
-    ∙ ap (λ x. x ++ after) (sym (line_feeds-apart before text n)))
-    (leads-on Data (with_line_feeds before ++ (with_line_feeds text ++ after)) (with_line_feeds text
-    ++ after) after earlier emits (h (with_line_feeds text ++ after)) (k after))
+join before text earlier emits h k n after = rw (line_feeds-apart before text n, append_assoc)
+    (leads-on Data _ (with_line_feeds text ++ after) after earlier emits (h (with_line_feeds text ++
+    after)) (k after))
 
 -- a text that ends so, and one with a reading
 joined : (before text : List ℕ) (earlier : List Token) (f : Forest) →
@@ -95,17 +85,13 @@ pub between : (before text after : List ℕ) (earlier : List Token) (f : Forest)
     splits_newline (before ++ text) after ≡ false →
     Tokenizes Data (with_line_feeds (before ++ (text ++ after))) (earlier ++ tokens f)
     (with_line_feeds after)
-between before text after earlier f h reading n m =
-    subst (λ x. Tokenizes Data (with_line_feeds x) (earlier ++ tokens f) (with_line_feeds after))
-    (append_assoc before text after) (alone (before ++ text) after (earlier ++ tokens f)
-    (joined before text earlier f h reading n) m)
+between before text after earlier f h reading n m = rw append_assoc at (alone (before ++ text) after
+    (earlier ++ tokens f) (joined before text earlier f h reading n) m)
 
 pub between-tokenized : (before text after : List ℕ) (earlier later : List Token) (f : Forest) →
     EndsInDataState before earlier → IsReading text f → splits_newline before text ≡ false →
     splits_newline (before ++ text) after ≡ false → IsTokenized after later →
     IsTokenized (before ++ (text ++ after)) (earlier ++ (tokens f ++ later))
-between-tokenized before text after earlier later f h reading n m k =
-    subst (λ x. IsTokenized x (earlier ++ (tokens f ++ later))) (append_assoc before text after)
-    (subst (λ t. IsTokenized ((before ++ text) ++ after) t) (append_assoc earlier (tokens f) later)
-    (tokenized (before ++ text) after (earlier ++ tokens f) later
-    (joined before text earlier f h reading n) m k))
+between-tokenized before text after earlier later f h reading n m k = simp append_assoc at
+    (tokenized (before ++ text) after (earlier ++ tokens f) later (joined before text earlier f h
+    reading n) m k)

@@ -56,10 +56,10 @@ through : {nested : Bool} {d : Document} {content : Content} {inner : Outcome} (
     Means nested d content (node d.context t name inner)
 through {d =
     d} {inner = inner} name t is same m = rw (through-node d.context t name inner is same) (record {
-  prints = m.prints;
-  heading = m.heading;
-  texts = rw append-nil m.texts;
-})
+      prints = m.prints;
+      heading = m.heading;
+      texts = rw append-nil m.texts;
+    })
 
 -- what is known where some nodes stand
 pub record Fits (nested : Bool) (d : Document) (around : Surroundings) (before : Before)

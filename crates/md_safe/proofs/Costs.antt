@@ -18,7 +18,7 @@ use Rattle.md_meaning.specs.declared.surroundings.Surroundings.{Surroundings}
 use Rattle.md_meaning.specs.Meaning.Inherited.{inside}
 use Rattle.md_meaning.specs.Meaning.At.{Context, Before, At, identifier_of}
 use Rattle.md_meaning.specs.Meaning.Before.{before_children}
-use Rattle.md_meaning.specs.Meaning.Layout.{layout, when}
+use Rattle.md_meaning.specs.Meaning.Layout.{when}
 use Rattle.md_meaning.specs.Meaning.Nodes.{Outcome, node, outcome}
 use Rattle.md_content.specs.Underlined.{waits_after}
 use Rattle.md_safe.proofs.Texts.{Escaped}

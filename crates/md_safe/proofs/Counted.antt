@@ -1,8 +1,8 @@
 -- How often an id stands in what is printed: what is claimed of texts and of footnotes.
 use Rattle.std.proofs.Common.{◌≡◌, ℕ, ◌+◌, ◌≤◌, Bool, true, false, not, ◌&&◌, List, [], ◌∷◌, ◌++◌}
-use Rattle.std.proofs.Common.{refl, sym, subst, arith, codes, ap}
+use Rattle.std.proofs.Common.{refl, subst, arith, codes, ap}
 use Rattle.std.specs.Prelude.{bytes_eq}
-use Rattle.std.proofs.lemmas.Bool.{and_parts, true≢false, not-true}
+use Rattle.std.proofs.lemmas.Bool.{and_parts, not-true}
 use Rattle.md_text.specs.References.{read_back}
 use Rattle.md_text.specs.Html.{Attribute, is_tag, elements}
 use Rattle.md_text.proofs.HtmlJoin.{text}

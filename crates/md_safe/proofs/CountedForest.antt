@@ -4,7 +4,7 @@
 use Rattle.std.proofs.Common.{◌≡◌, ℕ, ◌+◌, Bool, true, false, cond, List, [], refl, ap, ◌∙◌, subst}
 use Rattle.std.proofs.Common.{arith}
 use Rattle.std.specs.Prelude.{Option, Some, None, unwrap_or}
-use Rattle.std.proofs.lemmas.Bool.{or_parts}
+use Rattle.std.proofs.lemmas.Bool.{or_parts, cond_both}
 use Rattle.md_base.specs.declared.event.Name.{Name}
 use Rattle.md_base.specs.Tree.{Forest, Empty, Node}
 use Rattle.md_base.specs.NameTests.{is_transparent}
@@ -25,9 +25,10 @@ use Rattle.md_safe.proofs.Forests.{Ready, Means, ready-inside, ready-after, mean
 use Rattle.md_safe.proofs.Counted.{Waiting, texts-append}
 use Rattle.md_safe.proofs.Costs.{Document, read_in, Costs, Place, here_of, due-append, inner_around}
 use Rattle.md_safe.proofs.Costs.{inner_before, inner_of, at_of, counts-none, through-spent}
-use Rattle.md_safe.proofs.Costs.{place_at}
+use Rattle.md_safe.proofs.Costs.{place_at, Below}
 use Rattle.md_safe.proofs.PlainCosts.{Stands, is_special, IsPlain, around-blocks, around-others}
 use Rattle.md_safe.proofs.SpecialCosts.{BelowBlocks, IsAwaited, special-spent}
+use Rattle.md_safe.proofs.Cases.{cases}
 
 -- what is known where some nodes stand: blocks, each underline where a heading waits for it
 pub record Fits (d : Document) (around : Surroundings) (before : Before) (waits : Bool)
@@ -40,30 +41,33 @@ pub record Fits (d : Document) (around : Surroundings) (before : Before) (waits 
 solid-spent : {d : Document} {w : List ℕ} {p : Place} {name : Name} {m : ℕ} (waits : Bool) →
     Stands d p name → IsAwaited waits name p.children → Waiting w waits m p.before.heading →
     BelowBlocks d w p name false 0 → Costs d w p.before m (waits_past waits name) (here_of d p name)
-solid-spent {d = d} {w = w} {p = p} {name = name} {m = m} waits k awaited h b = by (is_special name)
-    refl (is_blocks (content_of name Blocks)) refl
+solid-spent {d} {w} {p} {name} {m} waits k awaited h b = cases (is_special name)
+    (λ is. special-spent d w p name waits m is awaited h b) (λ other.
+    let first = or_parts _ _ other in
+    let later = or_parts _ _ first.1 in
+    let plain : IsPlain name =
+    record { setext = first.0; call = later.0; footnote = later.1 } in
+    cases (is_blocks (content_of name Blocks))
+    (λ of. around-blocks waits k plain of (b (same ∙ of)))
+    (λ of. around-others waits k plain (same ∙ of) h))
   where
-    plain : is_special name ≡ false → IsPlain name
-    plain other =
-        let first = or_parts _ _ other in
-        let later = or_parts _ _ first.1 in
-        record { setext = first.0; call = later.0; footnote = later.1 }
-
     same : is_blocks (content_inside Blocks name) ≡ is_blocks (content_of name Blocks)
     same = ap (λ b. is_blocks (cond b Blocks (content_of name Blocks))) k.solid
 
-    by : (special : Bool) → is_special name ≡ special → (blocks : Bool) →
-        is_blocks (content_of name Blocks) ≡ blocks → Costs d w p.before m
-        (waits_past waits name) (here_of d p name)
-    by true is blocks of = special-spent d w p name waits m is awaited h b
-    by false is true of = around-blocks waits k (plain is) of (b (same ∙ of))
-    by false is false of = around-others waits k (plain is) (same ∙ of) h
-
--- the heading after two
-heading-both : (later first : Option (List ℕ)) (before : List ℕ) →
-    unwrap_or later (unwrap_or first before) ≡ unwrap_or (or_else later first) before
-heading-both None first before = refl
-heading-both (Some x) first before = refl
+-- what a node costs, transparent or not
+node-spent : {d : Document} {w : List ℕ} {p : Place} {name : Name} {waits : Bool} {m : ℕ} →
+    (is_transparent name ≡ false → Stands d p name) → Waiting w waits m p.before.heading →
+    IsAwaited waits name p.children → BelowBlocks d w p name
+    (cond (is_transparent name) waits false) (cond (is_transparent name) m 0) → Costs d w
+    p.before m (cond (is_transparent name) (waits_after waits p.children)
+    (waits_past waits name)) (here_of d p name)
+node-spent {d} {w} {p} {name} {waits} {m} k h awaited b = cond_both (is_transparent name)
+    (waits_after waits p.children) (waits_past waits name) (λ after. Costs d w p.before m after
+    (here_of d p name))
+    (λ e. through-spent d w p name waits m e (subst (λ t. Below d w p name (cond t waits false)
+    (cond t m 0)) e (b (ap (λ b. is_blocks (cond b Blocks (content_of name Blocks))) e))))
+    (λ e. solid-spent waits (k e) awaited h (subst (λ t. BelowBlocks d w p name (cond t waits false)
+    (cond t m 0)) e b))
 
 pub spent : (d : Document) (w : List ℕ) (forest : Forest) (around : Surroundings) (before : Before)
     (waits : Bool) (m : ℕ) → Fits d around before waits forest → Waiting w waits m before.heading →
@@ -102,7 +106,7 @@ spent d w (Node name start end children rest) around before waits m f h =
       within = within;
       known = known;
     } in
-    let one : Costs d w before m waits' here = by name p waits m k h f.underlined.0 (λ is. spent d w
+    let one : Costs d w before m waits' here = node-spent k h f.underlined.0 (λ is. spent d w
     children (inner_around d p name) (inner_before p name) (cond (is_transparent name) waits false)
     (cond (is_transparent name) m 0) (record {
       built = subst (λ c. IsBuilt d.context.bytes c children)
@@ -124,28 +128,18 @@ spent d w (Node name start end children rest) around before waits m f h =
       notes = one.notes + later.notes;
       prints = adds-append (counts-join w one.body later.body) one.prints later.prints;
       heading = subst (Waiting w (waits_after waits' rest) later.left) (heading-both
-          others.found.heading here.found.heading before.heading) later.heading;
+          others.found.heading here.found.heading) later.heading;
       texts = texts-append w _ _ here.footnotes others.footnotes one.texts later.texts;
       few = omega (one.few, later.few, due-append d w before.calls here.calls others.calls, arith);
     }
   where
+    heading-both : (later first : Option (List ℕ)) →
+        unwrap_or later (unwrap_or first before.heading)
+        ≡ unwrap_or (or_else later first) before.heading
+    heading-both None first = refl
+    heading-both (Some x) first = refl
+
     heading-inside : (through waits : Bool) (m : ℕ) (x : List ℕ) → Waiting w waits m x →
         Waiting w (cond through waits false) (cond through m 0) (cond through x [])
     heading-inside true waits m x h = h
     heading-inside false waits m x h = tt
-
-    by : (name : Name) (p : Place) (waits : Bool) (m : ℕ) →
-        (is_transparent name ≡ false → Stands d p name) → Waiting w waits m p.before.heading →
-        IsAwaited waits name p.children → BelowBlocks d w p name
-        (cond (is_transparent name) waits false) (cond (is_transparent name) m 0) → Costs d w
-        p.before m (cond (is_transparent name) (waits_after waits p.children)
-        (waits_past waits name)) (here_of d p name)
-    by name p waits m k h awaited = of (is_transparent name) refl
-      where
-        of : (through : Bool) → is_transparent name ≡ through →
-            BelowBlocks d w p name (cond through waits false) (cond through m 0) → Costs d w
-            p.before m (cond through (waits_after waits p.children)
-            (waits_past waits name)) (here_of d p name)
-        of true e b = through-spent d w p name waits m e (b (ap
-            (λ b. is_blocks (cond b Blocks (content_of name Blocks))) e))
-        of false e b = solid-spent waits (k e) awaited h b

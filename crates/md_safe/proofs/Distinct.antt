@@ -1,8 +1,7 @@
 -- No two ids by number are equal: the heading's, those of footnotes and those of their calls. So
 -- each is counted once.
-use Rattle.std.proofs.Common.{◌≡◌, ◌⊎◌, ℕ, ◌+◌, ◌≤◌, ◌<◌, ◌^◌, suc, Bool, true, false, cond, List}
-use Rattle.std.proofs.Common.{[], ◌∷◌, ◌++◌, length, refl, sym, ◌∙◌, subst, inl, inr, arith, codes}
-use Rattle.std.proofs.Common.{bytes_eq, ap}
+use Rattle.std.proofs.Common.{◌≡◌, ◌⊎◌, ℕ, ◌+◌, ◌≤◌, ◌<◌, ◌^◌, suc, true, cond, List, [], ◌∷◌, ◌++◌}
+use Rattle.std.proofs.Common.{length, refl, sym, ◌∙◌, subst, inl, inr, arith, codes, bytes_eq, ap}
 use Rattle.md_text.proofs.HtmlIds.{occurs}
 use Rattle.md_text.specs.declared.options.CompileOptions.{CompileOptions}
 use Rattle.md_meaning.specs.Meaning.Footnotes.{distinct, place_among, count_of}
@@ -110,7 +109,7 @@ document-known options on w calls some = cases (bytes_eq (codes "footnote-label"
       | inr n ↦ inr (inl n)
       | inl n ↦ elim (among-each (IsCall options) w (ids_after options calls [] calls) (each-call
           options on calls [] calls)) [
-        | inr c ↦ inr (inr c)
-        | inl c ↦ absurd (omega (arith, n, c, some, ap {B = ℕ} (λ is. cond is 1 0) e))
-      ]
+            | inr c ↦ inr (inr c)
+            | inl c ↦ absurd (omega (arith, n, c, some, ap {B = ℕ} (λ is. cond is 1 0) e))
+          ]
     ])

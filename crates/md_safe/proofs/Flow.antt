@@ -1,7 +1,7 @@
 -- Flow content is built as it is read: blocks, lists, preformatted code, and among them
 -- spans and tables.
 use Rattle.std.proofs.Common.{◌≡◌, ◌⊎◌, inl, inr, ℕ, ◌≤◌, suc, true, false, List, [], ◌∷◌, refl}
-use Rattle.std.proofs.Common.{sym, ap, ◌∙◌, subst, codes, arith}
+use Rattle.std.proofs.Common.{sym, ap, ◌∙◌, codes, arith}
 use Rattle.std.specs.Prelude.{Some, bytes_eq}
 use Rattle.std.proofs.lemmas.Bool.{and_parts, or_cases}
 use Rattle.std.proofs.lemmas.Slice.Eq.{bytes_eq-Decides}

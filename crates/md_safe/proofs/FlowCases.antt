@@ -43,7 +43,7 @@ use Rattle.md_safe.proofs.Insides.{is_raw}
 use Rattle.md_safe.proofs.Laid.{Adds, adds-alone, adds-text, adds-weaker}
 use Rattle.md_safe.proofs.Linking.{is_spans, with_links}
 use Rattle.md_safe.proofs.RawElements.{IsInfo, IsRaw, adds-raw, code-end, code_class, code_tag}
-use Rattle.md_safe.proofs.RawElements.{fenced-end, info_regrouped, math_tag}
+use Rattle.md_safe.proofs.RawElements.{fenced-end, info_regrouped}
 use Rattle.md_safe.proofs.SpanCases.{Spanning, inline-node, is_inline}
 use Rattle.md_safe.proofs.Stands.{is_spaced}
 use Rattle.md_safe.proofs.Tags.{Turns, adds-flat, attribute, framed-forced, framed-needed}

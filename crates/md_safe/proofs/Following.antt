@@ -1,7 +1,7 @@
 -- Which names may stand before a node's children, and before what follows it; blocks occur only in
 -- blocks, and a condition on blocks alone covers no more after nodes.
 use Rattle.std.proofs.Common.{◌≡◌, ℕ, Bool, true, false, ◌||◌, cond, List, [], ◌∷◌, ◌++◌, refl, sym}
-use Rattle.std.proofs.Common.{ap, ◌∙◌, subst, append_assoc, append-nil}
+use Rattle.std.proofs.Common.{◌∙◌, subst, append_assoc, append-nil}
 use Rattle.std.specs.List.{list_any}
 use Rattle.std.proofs.lemmas.Bool.{cond_both, or_left, or_right}
 use Rattle.md_base.proofs.Lies.{lie}
@@ -13,7 +13,7 @@ use Rattle.md_base.specs.Children.{spine_names}
 use Rattle.md_content.specs.Built.{Content, FirstFence, FirstMathFence, Chunks, InfoAndMeta}
 use Rattle.md_content.specs.Built.{MetaAlone, Nothing, is_fence, is_info, may_stand, content_of}
 use Rattle.md_content.specs.Built.{content_past, content_after, content_inside, content_after_node}
-use Rattle.md_content.specs.Built.{IsBuilt, Blocks}
+use Rattle.md_content.specs.Built.{IsBuilt}
 use Rattle.md_safe.proofs.Contents.{Follows, spine_after_node, stays-after}
 use Rattle.md_safe.proofs.Insides.{is_chunks, allowed_inside, is_blocks, of-blocks, past_of}
 use Rattle.std.proofs.lemmas.List.Folds.{list_any-append}

@@ -1,7 +1,7 @@
 -- What the nodes of a document mean: the induction over nodes of any content, for any claim that is
 -- kept where two texts meet. It goes over all that an outcome has at once.
-use Rattle.std.proofs.Common.{◌≡◌, Bool, true, false, ◌||◌, cond, List, [], ◌∷◌, ◌++◌, refl, sym}
-use Rattle.std.proofs.Common.{ap, subst, append_assoc}
+use Rattle.std.proofs.Common.{◌≡◌, Bool, true, false, ◌||◌, List, [], ◌∷◌, ◌++◌, sym}
+use Rattle.std.proofs.Common.{subst, append_assoc}
 use Rattle.std.proofs.lemmas.Bool.{cond_both}
 use Rattle.md_base.proofs.Lies.{lie}
 use Rattle.md_base.specs.declared.event.Name.{Name}
@@ -18,8 +18,8 @@ use Rattle.md_meaning.specs.Meaning.At.{Defined, Footnote, target_in, Before, At
 use Rattle.md_meaning.specs.Meaning.Before.{before_children}
 use Rattle.md_meaning.specs.Meaning.Layout.{Piece, layout, when}
 use Rattle.md_meaning.specs.Meaning.Nodes.{Outcome, found_at, node, before_next, outcome}
-use Rattle.md_content.specs.Built.{Content, Blocks, may_stand, content_of, content_inside}
-use Rattle.md_content.specs.Built.{content_after_node, content_after, content_past, IsBuilt}
+use Rattle.md_content.specs.Built.{Content, may_stand, content_of, content_inside}
+use Rattle.md_content.specs.Built.{content_after_node, content_after, IsBuilt}
 use Rattle.md_safe.proofs.Contents.{stays-after, Holds, Follows}
 use Rattle.md_safe.proofs.Insides.{is_blocks, Suits, past_of}
 use Rattle.md_safe.proofs.Following.{inside-blocks, asked-after-node, second, follows-inside}
@@ -191,12 +191,8 @@ pub inside-means : {s : Setting} {inner : Outcome} (t : At) (content : Content) 
     IsFitAt s t name → IsBuilt s.context.bytes (content_inside content name) t.children → Means s
     (inside s.context.options (is_loose t.children) name t.around) (content_inside content name)
     t.children inner → Inside s t content name inner.pieces
-inside-means {s = s} {inner = inner} t content name solid stands fit built means =
-    let same : content_inside content name ≡ content_of name content = ap
-    (λ b. cond b content (content_of name content)) solid in
-    inside-alone s t content name (second _ _ solid stands) fit (subst
-    (λ c. IsBuilt s.context.bytes c t.children) same built) inner.pieces (subst
-    (λ c. PrintsBefore s t c name inner.pieces) same means.prints)
+inside-means {s} {inner} t content name solid stands fit built means = inside-alone s t content name
+    (second _ _ solid stands) fit (rw solid at built) inner.pieces (rw solid at means.prints)
 
 -- what is found at a node whose children print and find what they may
 pub found-at : {s : Setting} {content : Content} (t : At) (name : Name) (inner : List Piece) →

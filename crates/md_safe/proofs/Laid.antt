@@ -1,8 +1,7 @@
 -- What a list of pieces adds to a text: the claim on texts carried over to what is laid out.
-use Rattle.std.proofs.Common.{◌≡◌, ℕ, Bool, true, false, cond, List, [], ◌∷◌, ◌++◌, refl, sym, ap}
+use Rattle.std.proofs.Common.{◌≡◌, ℕ, Bool, true, false, List, [], ◌∷◌, ◌++◌, refl, sym, ap}
 use Rattle.std.proofs.Common.{◌∙◌, subst, append_assoc, append-nil}
-use Rattle.md_meaning.specs.Meaning.Layout.{Piece, Text, Needed, Forced, begins_line, laid_after}
-use Rattle.md_meaning.specs.Meaning.Layout.{layout, when}
+use Rattle.md_meaning.specs.Meaning.Layout.{Piece, Text, Needed, Forced, laid_after, layout, when}
 use Rattle.std.specs.List.{flat_map}
 use Rattle.md_text.proofs.EscapedLemmas.{escaped-append}
 use Rattle.md_safe.proofs.Texts.{Escaped}
@@ -69,7 +68,10 @@ pub adds-needed : {W : List ℕ → Type 0} {ending : List ℕ} → IsBeside W �
     Adds ending W (Needed ∷ [])
 adds-needed {W} {ending} beside h = record {
   to = λ text. cond_both _ _ _ (Grows W text) (λ _. nothing_added W text beside.none) (λ _. record {
-      added = ending; grown = refl; it_holds = h });
+    added = ending;
+    grown = refl;
+    it_holds = h;
+  });
 }
 
 -- pieces, where a test holds

@@ -1,16 +1,14 @@
 -- After a node's children, and after it, no first fence is to come.
-use Rattle.std.proofs.Common.{◌≡◌, ℕ, Bool, true, false, List, [], refl, sym, ◌∙◌}
+use Rattle.std.proofs.Common.{◌≡◌, ℕ, true, false, List, [], refl, sym, ◌∙◌}
 use Rattle.std.specs.List.{list_any}
-use Rattle.std.proofs.lemmas.Bool.{cond_both}
 use Rattle.md_base.proofs.Lies.{lie}
 use Rattle.md_base.specs.declared.event.Name.{Name}
 use Rattle.md_base.specs.declared.event.Point.{Point}
 use Rattle.md_base.specs.Tree.{Forest}
 use Rattle.md_base.specs.NameTests.{is_fence as fence_name}
 use Rattle.md_base.specs.Children.{spine_names}
-use Rattle.md_content.specs.Built.{Content, FirstFence, FirstMathFence, InfoAndMeta, MetaAlone}
-use Rattle.md_content.specs.Built.{Nothing, is_fence, is_info, may_stand, content_of, content_past}
-use Rattle.md_content.specs.Built.{content_after, IsBuilt, IsFit}
+use Rattle.md_content.specs.Built.{Content, FirstFence, FirstMathFence, is_fence, may_stand}
+use Rattle.md_content.specs.Built.{content_of, content_after, IsBuilt, IsFit}
 use Rattle.md_safe.proofs.Contents.{is_first, stays-after, Follows}
 use Rattle.md_safe.proofs.Insides.{is_raw, allowed_inside, past_of}
 use Rattle.md_safe.proofs.Following.{same_fences, follows-after, follows-inside}

@@ -1,14 +1,13 @@
 -- The list of active formatting elements while phrasing content is built: entries are taken
 -- away from it alone.
-use Rattle.std.proofs.Common.{◌≡◌, ◌⊎◌, inl, inr, ℕ, ◌≤◌, ◌==◌, nat_lt, Bool, true, false, ◌&&◌}
+use Rattle.std.proofs.Common.{◌≡◌, ◌⊎◌, inl, inr, ℕ, ◌≤◌, nat_lt, false}
 use Rattle.std.proofs.Common.{◌||◌, cond, List, [], ◌∷◌, refl, sym, ap, ◌∙◌, subst, arith, ne_eqb}
-use Rattle.std.specs.Prelude.{Some, None, bytes_eq}
+use Rattle.std.specs.Prelude.{None}
 use Rattle.std.proofs.lemmas.Bool.{or_right, cond_both}
 use Rattle.md_safe.specs.Token.{TokenAttribute}
 use Rattle.md_safe.specs.Node.{Open, Entry, Marker, Formatting}
 use Rattle.md_safe.specs.Stack.{has_identity}
-use Rattle.md_safe.specs.Formatting.{is_open, is_active, are_same, count_same, without_earliest}
-use Rattle.md_safe.specs.Formatting.{last_active}
+use Rattle.md_safe.specs.Formatting.{is_open, is_active, count_same, without_earliest, last_active}
 use Rattle.md_safe.specs.Built.{AreCreated, AreOpen}
 
 -- some formatting elements after the last marker were taken away

@@ -1,10 +1,9 @@
 -- Links and images as they are printed have readings, and their addresses pass the test.
-use Rattle.std.specs.List.{list_all}
-use Rattle.std.proofs.Common.{◌≡◌, ℕ, Bool, true, ◌&&◌, ◌||◌, List, [], ◌∷◌, refl, codes}
+use Rattle.std.proofs.Common.{◌≡◌, ℕ, Bool, true, ◌||◌, List, [], ◌∷◌, refl, codes}
 use Rattle.std.specs.Prelude.{Option, Some, None}
-use Rattle.std.proofs.lemmas.Bool.{and_from, cond_both}
+use Rattle.std.proofs.lemmas.Bool.{cond_both}
 use Rattle.md_text.specs.Url.{sanitized, sanitized_with, link_protocols, image_protocols}
-use Rattle.md_text.specs.Html.{Attribute, is_tag, elements, void_tags}
+use Rattle.md_text.specs.Html.{Attribute}
 use Rattle.md_text.proofs.EscapedLemmas.{sanitized-escaped, sanitized_with-escaped}
 use Rattle.md_text.specs.declared.options.CompileOptions.{CompileOptions}
 use Rattle.md_meaning.specs.Meaning.At.{Target}
@@ -75,5 +74,9 @@ adds-image {test} {R} {ending} {options} known single target label h e = by targ
     by None h = adds-flat refl (single.tag (src_attribute ∷ attribute (codes "alt") label ∷ []) (rw
         (v, e) refl) (rw (p, q) refl))
     by (Some title) h = adds-flat refl (single.tag (src_attribute ∷ attribute (codes "alt") label ∷
-        attribute (codes "title") title ∷ []) (rw (v, e, h) refl) (rw (p, q, known.other (codes
-        "title") title refl) refl))
+        attribute (codes "title") title ∷ []) (rw (v, e, h) refl) (rw (
+          p,
+          q,
+          known.other (codes
+              "title") title refl,
+        ) refl))

@@ -193,14 +193,9 @@ pub inside-alone : (s : Setting) (t : At) (content : Content) (name : Name) →
     (content_of name content) t.children → (inner : List Piece) →
     Before s t (content_of name content) name inner → Inside s t content name inner
 inside-alone s t content name stands fit built inner a =
-    let around = inside s.context.options (is_loose t.children) name t.around in
-    let here = Holds s.p around.is_escaping around.in_image (content_of name content) in
-    let after = Holds s.p around.is_escaping around.in_image
-    (content_after (content_of name content) t.children) in
-    subst (Prints s here) (append-nil inner) (a [] (adds-nothing (holds-nothing s.p
-    around.is_escaping around.in_image (content_after (content_of name content) t.children)
-    (later-inside s.context.bytes content name t.place.start t.place.end t.children stands fit
-    built))))
+    let later = later-inside s.context.bytes content name t.place.start t.place.end t.children
+    stands fit built in
+    rw (append-nil inner) at (a [] (adds-nothing (holds-nothing s.p _ _ _ later)))
 
 -- a node, and what is printed after it
 pub any-node : (s : Setting) (t : At) (content : Content) (name : Name) →

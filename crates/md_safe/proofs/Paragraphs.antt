@@ -5,8 +5,7 @@ use Rattle.std.proofs.lemmas.Bool.{and_parts, and_from}
 use Rattle.md_base.proofs.Lies.{lie}
 use Rattle.md_text.specs.Laws.{is_line_ends}
 use Rattle.md_text.specs.Html.{Attribute, Forest, Empty, Text, Void, Element, is_forest, is_tag}
-use Rattle.md_text.specs.Html.{elements, written, written_attributes, opening_tag, closing_tag}
-use Rattle.md_text.specs.Html.{any_attribute}
+use Rattle.md_text.specs.Html.{elements, written, opening_tag, closing_tag, any_attribute}
 use Rattle.md_text.proofs.HtmlReading.{all-any}
 use Rattle.std.specs.List.{list_all}
 use Rattle.md_text.proofs.HtmlPut.{IsMade, made-before}
@@ -54,22 +53,12 @@ cut-after nested x front f rest y stands whole c = record {
 
 void-whole : (name : List ℕ) (attributes : List Attribute) (rest : Forest) →
     written (Void name attributes rest) ≡ written (Void name attributes Empty) ++ written rest
-void-whole name attributes rest = by name (written_attributes attributes) (written rest)
-  where
-    by : (name attributes rest : List ℕ) → 60 ∷ (name ++ (attributes ++ (32 ∷ 47 ∷ 62 ∷ rest)))
-        ≡ (60 ∷ (name ++ (attributes ++ (32 ∷ 47 ∷ 62 ∷ [])))) ++ rest
-    by name attributes rest = simp append_assoc
+void-whole name attributes rest = simp append_assoc
 
 element-whole : (name : List ℕ) (attributes : List Attribute) (children rest : Forest) →
     written (Element name attributes children rest)
     ≡ (opening_tag name attributes ++ written children ++ closing_tag name) ++ written rest
-element-whole name attributes children rest =
-    by name (written_attributes attributes) (written children) (written rest)
-  where
-    by : (name attributes children rest : List ℕ) → 60 ∷ (name ++ (attributes ++ (62 ∷ (children
-        ++ (60 ∷ 47 ∷ (name ++ (62 ∷ rest))))))) ≡ ((60 ∷ (name ++ (attributes ++ (62 ∷ []))))
-        ++ children ++ (60 ∷ 47 ∷ (name ++ (62 ∷ [])))) ++ rest
-    by name attributes children rest = simp append_assoc
+element-whole name attributes children rest = simp append_assoc
 
 -- the text of a forest that is contained stands
 stands-forest : (nested : Bool) (content : Content) (f : Forest) → is_forest f ≡ true →
@@ -151,20 +140,6 @@ paragraph-name nested (b ∷ c ∷ name) children endings rest e h =
     (sym (first_of (rest_of e)))
     (subst (λ b. is_held nested Flow (b ∷ c ∷ name) children ≡ true) (sym (first_of e)) h))
 
-regrouped : (before inserted endings : List ℕ) → before ++ inserted ++ codes "</p>" ++ endings
-    ≡ before ++ (inserted ++ (codes "</p>" ++ endings))
-regrouped before inserted endings = simp append_assoc
-
-cut-regrouped : (front opened children close rest : List ℕ) →
-    front ++ ((opened ++ children ++ close) ++ rest)
-    ≡ (front ++ (opened ++ children)) ++ (close ++ rest)
-cut-regrouped front opened children close rest = simp append_assoc
-
-made-regrouped : (front opened children x close rest : List ℕ)
-    → front ++ ((opened ++ (children ++ x) ++ close) ++ rest)
-    ≡ (front ++ (opened ++ children)) ++ (x ++ (close ++ rest))
-made-regrouped front opened children x close rest = simp append_assoc
-
 pub paragraph-takes : (nested : Bool) (before endings x : List ℕ) → is_line_ends endings ≡ true →
     Stands nested Flow (before ++ codes "</p>" ++ endings) → Stands nested Phrasing (32 ∷ x) →
     Stands nested Flow (before ++ (32 ∷ x) ++ codes "</p>" ++ endings)
@@ -173,24 +148,20 @@ paragraph-takes nested before endings x h s r =
     before endings (32 ∷ x) h (cuts nested (32 ∷ x)) s.forest s.reading s.contained in
     let open_tag : List ℕ = opening_tag cut.name cut.attributes in
     let close : List ℕ = 47 ∷ (cut.name ++ (62 ∷ [])) in
-    let left : before ++ (codes "</p>" ++ endings)
-    ≡ (cut.front ++ (open_tag ++ written cut.children)) ++ (60 ∷ (close ++ written cut.rest)) = sym
-    (append_assoc before (codes "</p>") endings) ∙ (sym s.reading.written_so ∙ (cut.whole
-    ∙ cut-regrouped cut.front open_tag (written cut.children) (60 ∷ close) (written cut.rest))) in
+    let front : List ℕ = cut.front ++ (open_tag ++ written cut.children) in
+    let whole = sym s.reading.written_so ∙ cut.whole in
+    let left : before ++ (codes "</p>" ++ endings) ≡ front ++ (60 ∷ (close ++ written cut.rest)) =
+    simp append_assoc (simp append_assoc at whole) in
     let right : before ++ (32 ∷ (x ++ (codes "</p>" ++ endings)))
-    ≡ (cut.front ++ (open_tag ++ written cut.children))
-    ++ (32 ∷ (x ++ (60 ∷ (close ++ written cut.rest)))) = sym (regrouped before (32 ∷ x) endings)
-    ∙ (cut.made ∙ made-regrouped cut.front open_tag (written cut.children) (32 ∷ x) (60 ∷ close)
-    (written cut.rest)) in
-    let ends : 47 ∷ 112 ∷ 62 ∷ endings ≡ close ++ written cut.rest = same-end before
-    (cut.front ++ (open_tag ++ written cut.children)) (47 ∷ 112 ∷ 62 ∷ endings)
-    (close ++ written cut.rest) x left right in
+    ≡ front ++ (32 ∷ (x ++ (60 ∷ (close ++ written cut.rest)))) =
+    simp append_assoc (simp append_assoc at cut.made) in
+    let ends : 47 ∷ 112 ∷ 62 ∷ endings ≡ close ++ written cut.rest = same-end before front
+    (47 ∷ 112 ∷ 62 ∷ endings) (close ++ written cut.rest) x left right in
     let later : 112 ∷ 62 ∷ endings ≡ (cut.name ++ (62 ∷ [])) ++ written cut.rest = rest_of ends in
     let is : cut.name ≡ codes "p" = paragraph-name nested cut.name cut.children endings
     (written cut.rest) (later ∙ append_assoc cut.name (62 ∷ []) (written cut.rest)) cut.held in
     let inside : Stands nested Phrasing (written cut.children) = stands-forest nested Phrasing
-    cut.children cut.forest (subst (λ name. is_held nested Flow name cut.children ≡ true) is
-    cut.held) in
+    cut.children cut.forest (rw is at cut.held) in
     subst (Stands nested Flow) (sym cut.made) (stands-join cut.front _ cut.front_stands (stands-join
     (open_tag ++ (written cut.children ++ (32 ∷ x)) ++ closing_tag cut.name) (written cut.rest)
     (subst (Stands nested Flow) (sym (append_assoc open_tag (written cut.children ++ (32 ∷ x))

@@ -23,7 +23,7 @@ use Rattle.md_safe.specs.Built.{put, at, is_body, AreCreated, AreOpen}
 use Rattle.md_safe.proofs.Lists.{Keeps}
 use Rattle.md_safe.proofs.TreeSteps.{Position, parser_of, with_children, element_of, within, after}
 use Rattle.md_safe.proofs.TreeSteps.{after-one, start-in-body, end-in-body, reconstructs}
-use Rattle.std.proofs.lemmas.Bool.{and_parts, not-true, cond_both}
+use Rattle.std.proofs.lemmas.Bool.{cond_both}
 
 -- where phrasing content may be inserted
 pub record Here (x : Position) (free : Bool) : Type 0 where
@@ -76,8 +76,12 @@ found P [] name inner each h = lie h
 found P (element ∷ others) name inner each h = cond_both (bytes_eq element.0 name) (Some element)
     (find (λ element. bytes_eq element.0 name) others) (λ o. option_map_or (λ held. is_contained
     false held inner) (option_map (λ element. element.1) o) false ≡ true → (held : Content) × P name
-    held × (is_contained false held inner ≡ true)) (λ e h. (element.1, subst (λ name. P name
-    element.1) ((bytes_eq-Decides element.0 name).0 e) each.0, h)) (λ _ h. found P others name inner
+    held × (is_contained false held inner ≡ true)) (λ e h. (
+      element.1,
+      subst (λ name. P name
+          element.1) ((bytes_eq-Decides element.0 name).0 e) each.0,
+      h,
+    )) (λ _ h. found P others name inner
     each.1 h) h
 
 -- ---- names

@@ -1,7 +1,6 @@
 -- What nodes cost whose names have no rule of their own.
-use Rattle.std.proofs.Common.{◌≡◌, ℕ, Bool, true, false, ◌||◌, List, [], ◌∷◌, ◌++◌, refl, sym, ap}
-use Rattle.std.proofs.Common.{◌∙◌, subst, arith}
-use Rattle.std.specs.Prelude.{None, unwrap_or}
+use Rattle.std.proofs.Common.{◌≡◌, ℕ, Bool, true, false, ◌||◌, List, [], refl, sym, ◌∙◌, arith}
+use Rattle.std.specs.Prelude.{None}
 use Rattle.md_base.proofs.Lies.{lie}
 use Rattle.md_base.specs.declared.event.Name.{Name}
 use Rattle.md_base.specs.declared.event.Name.TheVariants as name_variants
@@ -11,18 +10,17 @@ use Rattle.md_base.specs.Is.{is as named}
 use Rattle.md_base.specs.Tree.{Forest, Empty, Node}
 use Rattle.md_base.specs.NameTests.{is_transparent, is_call}
 use Rattle.md_meaning.specs.declared.surroundings.Surroundings.{Surroundings}
-use Rattle.md_meaning.specs.Meaning.At.{Footnote, Before, At, identifier_of}
-use Rattle.md_meaning.specs.Meaning.Layout.{layout, when}
-use Rattle.md_meaning.specs.Meaning.Nodes.{Outcome, found_at, before_next, outcome}
+use Rattle.md_meaning.specs.Meaning.At.{Before, At}
+use Rattle.md_meaning.specs.Meaning.Layout.{layout}
+use Rattle.md_meaning.specs.Meaning.Nodes.{found_at, before_next, outcome}
 use Rattle.md_content.specs.Underlined.{is_underline, waits_past}
 use Rattle.md_content.specs.Built.{Content, Blocks, is_part, is_source, may_stand, content_of}
 use Rattle.md_content.specs.Built.{content_inside, content_after_node, IsBuilt, IsFit}
-use Rattle.md_safe.proofs.Contents.{Holds}
 use Rattle.md_safe.proofs.Insides.{is_blocks, is_blocks-same}
 use Rattle.md_safe.proofs.Following.{inside-blocks, asked-after-node}
-use Rattle.md_safe.proofs.Spot.{Setting, Inside}
+use Rattle.md_safe.proofs.Spot.{Inside}
 use Rattle.md_safe.proofs.Forests.{Ready, Means, means, inside-means}
-use Rattle.md_safe.proofs.Counted.{Waiting, TextsCount}
+use Rattle.md_safe.proofs.Counted.{Waiting}
 use Rattle.md_safe.proofs.Costs.{Document, read_in, Place, inner_around, inner_before, inner_of}
 use Rattle.md_safe.proofs.Costs.{counted_in, Costs, at_of, here_of, Below, cost-least, no-footnote}
 use Rattle.md_safe.proofs.Costs.{place_at}
@@ -108,15 +106,12 @@ plain-prints {d = d} {w = w} {p = p} {name = name} {n = n} k plain within = bloc
 pub around-blocks : {d : Document} {w : List ℕ} {p : Place} {name : Name} {m : ℕ} (waits : Bool) →
     Stands d p name → IsPlain name → is_blocks (content_of name Blocks) ≡ true →
     Below d w p name false 0 → Costs d w p.before m (waits_past waits name) (here_of d p name)
-around-blocks {d = d} {w = w} {p = p} {name = name} waits k plain blocks b = record {
+around-blocks {d} {w} {p} {name} waits k plain blocks b = record {
   body = b.body;
   left = 0;
   notes = b.notes;
-  prints = plain-prints k plain (subst (λ c. Adds d.context.ending (Holds (counted_in d w b.body).p
-      (inner_around d p name).is_escaping (inner_around d p name).in_image c)
-      (inner_of d p name).pieces) (sym (is_blocks-same (content_of name Blocks) blocks)) b.prints);
-  heading = subst (λ b. Waiting w b 0 (unwrap_or (here_of d p name).found.heading p.before.heading))
-      (sym (no_wait name plain.setext blocks waits)) tt;
+  prints = plain-prints k plain (rw (is_blocks-same (content_of name Blocks) blocks) b.prints);
+  heading = rw (no_wait name plain.setext blocks waits) tt;
   texts = no-footnote d w b.notes p name plain.footnote b.texts;
   few = omega (b.few, cost-least d w p name, arith);
 }
@@ -152,13 +147,9 @@ pub around-others : {d : Document} {w : List ℕ} {p : Place} {name : Name} {m :
     Stands d p name → IsPlain name → is_blocks (content_inside Blocks name) ≡ false →
     Waiting w waits m p.before.heading → Costs d w p.before m
     (waits_past waits name) (here_of d p name)
-around-others {d = d} {w = w} {p = p} {name = name} {m = m} waits k plain blocks h =
-    let s : Setting = counted_in d w 0 in
-    let t : At = at_of d p name in
-    let inner : Outcome = inner_of d p name in
-    let counted : Means s (inner_around d p name) (content_inside Blocks name) p.children inner =
-    means s p.children (inner_around d p name) (inner_before p name) (content_inside Blocks name)
-    k.built (record {
+around-others {d} {w} {p} {name} {m} waits k plain blocks h =
+    let counted = means (counted_in d w 0) p.children (inner_around d p name) (inner_before p name)
+    (content_inside Blocks name) k.built (record {
       suits = k.within.suits;
       follows = k.within.follows;
       whole = λ is. lie (sym blocks ∙ is);
@@ -168,14 +159,12 @@ around-others {d = d} {w = w} {p = p} {name = name} {m = m} waits k plain blocks
       body = 0;
       left = m;
       notes = 0;
-      prints = plain-prints k plain (inside-means t Blocks name k.solid k.stands k.fit k.built
-          counted);
-      heading = subst (λ found. Waiting w (waits_past waits name) m
-          (unwrap_or found p.before.heading)) (sym (no_heading t name
-          (layout d.context.ending inner.pieces) k.solid plain.setext))
-          (keeps_wait w m name plain.setext waits p.before.heading h);
-      texts = no-footnote d w 0 p name plain.footnote (subst (TextsCount w 0) (sym (no_footnotes d
-          (content_inside Blocks name) p.children (inner_around d p name) (inner_before p name)
-          blocks k.built)) tt);
+      prints = plain-prints k plain (inside-means (at_of d p name) Blocks name k.solid k.stands
+          k.fit k.built counted);
+      heading = rw (no_heading (at_of d p name) name (layout d.context.ending (inner_of d p
+          name).pieces) k.solid plain.setext) (keeps_wait w m name plain.setext waits
+          p.before.heading h);
+      texts = no-footnote d w 0 p name plain.footnote (rw (no_footnotes d (content_inside Blocks
+          name) p.children (inner_around d p name) (inner_before p name) blocks k.built) tt);
       few = omega arith;
     }

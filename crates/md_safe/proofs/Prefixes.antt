@@ -1,11 +1,10 @@
 -- An id by number determines its prefix: what follows the prefix begins with `fn`, and has no other
 -- `fn`.
-use Rattle.std.proofs.Common.{◌≡◌, ℕ, suc, ◌≤◌, ◌==◌, Bool, true, false, ◌&&◌, ◌||◌, cond, eqb}
-use Rattle.std.proofs.Common.{List, [], ◌∷◌, ◌++◌, refl, sym, ap, ◌∙◌, arith, codes, bytes_eq}
-use Rattle.std.proofs.Common.{append-nil}
+use Rattle.std.proofs.Common.{◌≡◌, ℕ, ◌≤◌, ◌==◌, Bool, true, false, ◌&&◌, ◌||◌, List, [], ◌∷◌, ◌++◌}
+use Rattle.std.proofs.Common.{refl, sym, ap, ◌∙◌, arith, codes, bytes_eq, append-nil}
 use Rattle.std.specs.List.{list_any, list_all}
 use Rattle.std.specs.Fmt.{decimal}
-use Rattle.std.proofs.lemmas.Bool.{eqb-true, and_parts, or_right}
+use Rattle.std.proofs.lemmas.Bool.{or_right}
 use Rattle.md_base.proofs.Lies.{lie}
 use Rattle.md_text.proofs.HtmlIds.{occurs}
 use Rattle.md_content.specs.Built.{is_digit}

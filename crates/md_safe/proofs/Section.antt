@@ -1,11 +1,11 @@
 -- The section of footnotes has a reading: its heading, its items and their ways back.
-use Rattle.std.proofs.Common.{◌≡◌, ℕ, Bool, true, false, cond, List, [], ◌∷◌, ◌++◌, refl, sym, ap}
+use Rattle.std.proofs.Common.{◌≡◌, ℕ, Bool, true, List, [], ◌∷◌, ◌++◌, refl, ap}
 use Rattle.std.proofs.Common.{subst, append_assoc, codes}
 use Rattle.std.specs.Prelude.{Some, None, option_map, find, bytes_eq, string_bytes}
 use Rattle.std.specs.Option.{option_map_or}
 use Rattle.std.specs.List.{flat_map}
 use Rattle.std.proofs.lemmas.Bool.{cond_both}
-use Rattle.md_text.specs.Html.{Attribute, HasReadingWith, is_tag, elements}
+use Rattle.md_text.specs.Html.{Attribute, is_tag, elements}
 use Rattle.md_text.proofs.HtmlJoin.{text, nothing}
 use Rattle.md_text.specs.declared.options.CompileOptions.{CompileOptions}
 use Rattle.md_meaning.specs.Meaning.At.{Footnote, Context}

@@ -14,17 +14,17 @@ use Rattle.md_base.specs.Is.{is as named}
 use Rattle.md_base.specs.declared.event.Name.{Name}
 use Rattle.md_content.specs.Built.{Blocks, content_of, is_autolink}
 use Rattle.md_meaning.specs.Meaning.At.{At, Target, identifier_of, text_in}
-use Rattle.md_meaning.specs.Meaning.Footnotes.{call, call_id, count_of, distinct, place_among}
+use Rattle.md_meaning.specs.Meaning.Footnotes.{call_id, count_of, distinct, place_among}
 use Rattle.md_meaning.specs.Meaning.Layout.{Piece, Text, layout, said, when}
 use Rattle.md_meaning.specs.Meaning.Means.{prints}
-use Rattle.md_meaning.specs.Meaning.Media.{anchor, autolink, leads_to, literal, picture}
+use Rattle.md_meaning.specs.Meaning.Media.{anchor, autolink, leads_to, literal}
 use Rattle.md_meaning.specs.Meaning.Spans.{task_start}
 use Rattle.md_steps.proofs.Standing.{picked}
 use Rattle.md_text.proofs.EncodeLaws.{is_escaped-encoded}
 use Rattle.md_text.specs.Encode.{encoded}
 use Rattle.md_safe.proofs.BlockNodes.{hidden-prints, is_hidden, is_silent, silent-block}
 use Rattle.md_safe.proofs.BlockNodes.{silent-prints}
-use Rattle.md_safe.proofs.Calls.{adds-call, call_tags}
+use Rattle.md_safe.proofs.Calls.{adds-call}
 use Rattle.md_safe.proofs.Cases.{either, cases}
 use Rattle.md_safe.proofs.Claims.{AreSpans, Claims, Here, Known, Own, Prints, SpanPrints, are-spans}
 use Rattle.md_safe.proofs.Claims.{nothing, pair, plain_tag, says}
@@ -72,8 +72,8 @@ autolinked m {content} f t plain prefix free =
     let x : List ℕ = text_in m.s.context.bytes t.place in
     let said_so : Escaped (encoded true x) = is_escaped-encoded x in
     cond_both _ _ _ (Prints m content) (λ _. adds-text (says m f _ said_so)) (λ other. rw (free
-        other) (link m (record { destination = prefix ++ x; title = None }) (encoded true x) tt
-        (linked-text m (encoded true x) said_so)))
+    other) (link m (record { destination = prefix ++ x; title = None }) (encoded true x) tt
+    (linked-text m (encoded true x) said_so)))
 
 -- a literal autolink, which is plain in links too
 literal-node : (m : Claims) {content : Content} → AreSpans m.nested content →

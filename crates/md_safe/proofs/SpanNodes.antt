@@ -1,5 +1,5 @@
 -- Spans that print something else than their children, and what they print in images.
-use Rattle.std.proofs.Common.{◌≡◌, ℕ, suc, Bool, true, false, not, ◌||◌, cond, List, [], ◌∷◌, ◌++◌}
+use Rattle.std.proofs.Common.{◌≡◌, ℕ, Bool, true, false, ◌||◌, List, []}
 use Rattle.std.proofs.Common.{refl, sym, subst, inl, inr, codes, ◌∙◌}
 use Rattle.md_base.proofs.Lies.{lie}
 use Rattle.md_base.specs.declared.event.Name.{Name}
@@ -9,22 +9,19 @@ use name_variants.{GfmFootnoteCall, AutolinkEmail, AutolinkProtocol, GfmAutolink
 use name_variants.{GfmAutolinkLiteralMailto, GfmAutolinkLiteralProtocol, GfmAutolinkLiteralWww}
 use name_variants.{GfmAutolinkLiteralXmpp}
 use Rattle.md_text.proofs.EncodeLaws.{is_escaped-encoded}
-use Rattle.md_meaning.specs.Meaning.At.{At, text_in, identifier_of}
-use Rattle.md_meaning.specs.Meaning.Layout.{Piece, Text, layout, said, when}
+use Rattle.md_meaning.specs.Meaning.At.{At, text_in}
+use Rattle.md_meaning.specs.Meaning.Layout.{Piece, layout}
 use Rattle.md_meaning.specs.Meaning.Means.{prints}
-use Rattle.md_meaning.specs.Meaning.Spans.{task_start}
-use Rattle.md_meaning.specs.Meaning.Media.{leads_to, autolink, anchor, picture}
-use Rattle.md_meaning.specs.Meaning.Footnotes.{place_among, distinct, count_of}
+use Rattle.md_meaning.specs.Meaning.Media.{autolink}
 use Rattle.md_content.specs.Built.{is_autolink, Spans}
 use Rattle.md_safe.proofs.Spot.{Setting, Prints, Inside}
 use Rattle.md_safe.proofs.Cases.{either}
 use Rattle.md_safe.proofs.Texts.{Escaped}
 use Rattle.md_safe.proofs.Laid.{adds-text, adds-nothing, adds-weaker, adds-alone}
 use Rattle.md_safe.proofs.Elements.{IsDone}
-use Rattle.md_safe.proofs.SpanSorts.{pair_tag, is_pair, pair-prints, pair-inside, is_code, is_math}
-use Rattle.md_safe.proofs.SpanSorts.{code_opening, code-prints, code-text, shown_in, shown-escaped}
+use Rattle.md_safe.proofs.SpanSorts.{is_pair, pair-prints, pair-inside, is_code}
+use Rattle.md_safe.proofs.SpanSorts.{code-prints, code-text, shown-escaped}
 use Rattle.std.proofs.lemmas.Bool.{or_left}
-use Rattle.md_safe.proofs.Calls.{call_tags}
 
 -- other spans that print something else than their children
 abbrev pub is_single : Name → Bool

@@ -1,7 +1,6 @@
 -- A node in its context: the facts about the document, and the node's meaning. The lemmas on nodes
 -- use this record.
-use Rattle.std.proofs.Common.{◌≡◌, ℕ, Bool, true, false, cond, List, [], ◌∷◌, ◌++◌, sym, subst}
-use Rattle.std.proofs.Common.{codes, ◌&&◌}
+use Rattle.std.proofs.Common.{◌≡◌, ℕ, Bool, true, List, [], ◌∷◌, ◌++◌, sym, subst, codes, ◌&&◌}
 use Rattle.std.specs.Prelude.{Option, Some, None, find, bytes_eq, unwrap_or}
 use Rattle.std.specs.Option.{option_map_or}
 use Rattle.md_base.specs.declared.event.Name.{Name}
@@ -108,9 +107,9 @@ pub target-title : (s : Setting) (t : At) → IsGoodTarget t.found.resource →
 target-title s t good = elim t.found.resource as (λ resource. IsGoodTarget resource → IsEscapedTitle
     (unwrap_or resource (target_defined s.context (identifier_of s.context.bytes
     t.children))).title) [
-  | None ↦ λ h. defined-title _ _ s.titles
-  | Some target ↦ λ h. h
-] good
+      | None ↦ λ h. defined-title _ _ s.titles
+      | Some target ↦ λ h. h
+    ] good
 
 -- a node in the document, by what its children mean
 abbrev pub at_in : Surroundings → Before → Point → Point → Forest → Forest → Outcome → At

@@ -1,6 +1,5 @@
 -- The nodes of strings print escaped texts.
-use Rattle.std.proofs.Common.{◌≡◌, ℕ, Bool, true, false, not, ◌&&◌, cond, List, [], ◌∷◌, refl, sym}
-use Rattle.std.proofs.Common.{ap, subst}
+use Rattle.std.proofs.Common.{◌≡◌, ℕ, Bool, true, false, not, ◌&&◌, cond, List, [], ◌∷◌, refl, ap}
 use Rattle.std.proofs.lemmas.Bool.{cond_both, and_from}
 use Rattle.md_base.proofs.Lies.{lie}
 use Rattle.md_base.specs.declared.event.Name.{Name}

@@ -1,6 +1,6 @@
 -- The surroundings of a node suit its children and what follows it.
-use Rattle.std.proofs.Common.{◌≡◌, Bool, true, false, ◌||◌, inl, inr, refl, sym, ◌∙◌, ap, subst}
-use Rattle.std.proofs.lemmas.Bool.{cond_both, or_cases}
+use Rattle.std.proofs.Common.{◌≡◌, Bool, true, false, ◌||◌, refl, sym, ◌∙◌, ap, subst}
+use Rattle.std.proofs.lemmas.Bool.{cond_both}
 use Rattle.md_base.proofs.Lies.{lie}
 use Rattle.md_base.specs.declared.event.Name.{Name}
 use Rattle.md_base.specs.declared.event.Name.TheVariants.{Image}
@@ -9,11 +9,10 @@ use Rattle.md_base.specs.Tree.{Forest}
 use Rattle.md_text.specs.declared.options.CompileOptions.{CompileOptions}
 use Rattle.md_meaning.specs.declared.surroundings.Surroundings.{Surroundings}
 use Rattle.md_meaning.specs.Meaning.Inherited.{inside}
-use Rattle.md_content.specs.Built.{Content, Blocks, Spans, FirstFence, InfoAndMeta, MetaAlone}
-use Rattle.md_content.specs.Built.{Nothing, Sources, is_info, is_source, may_stand, content_of}
-use Rattle.md_content.specs.Built.{content_past, content_after_node}
+use Rattle.md_content.specs.Built.{Content, Blocks, is_source, may_stand, content_of, content_past}
+use Rattle.md_content.specs.Built.{content_after_node}
 use Rattle.md_safe.proofs.Contents.{stays-after}
-use Rattle.md_safe.proofs.Insides.{asks_escaping, asks_image, allowed_inside, is_blocks, of-blocks}
+use Rattle.md_safe.proofs.Insides.{allowed_inside, is_blocks, of-blocks}
 use Rattle.md_safe.proofs.Insides.{is_blocks-same, Suits, past_of}
 use Rattle.md_safe.proofs.Cases.{either}
 

@@ -1,14 +1,14 @@
 -- Texts in a table wait as pending characters, and white space is inserted as it is.
-use Rattle.std.proofs.Common.{◌≡◌, ℕ, ◌==◌, Bool, true, false, cond, List, [], ◌∷◌, ◌++◌, refl, sym}
+use Rattle.std.proofs.Common.{◌≡◌, ℕ, Bool, true, false, List, [], ◌∷◌, ◌++◌, refl, sym}
 use Rattle.std.proofs.Common.{ap, ◌∙◌, subst, map, append_assoc, append-nil, arith}
 use Rattle.std.specs.Prelude.{Option, Some, None, option_and_then}
 use Rattle.std.specs.List.{list_all}
-use Rattle.std.proofs.lemmas.Bool.{and_parts, and_from, cond_both, not-true}
+use Rattle.std.proofs.lemmas.Bool.{and_parts, and_from, not-true}
 use Rattle.md_base.proofs.Lies.{lie}
 use Rattle.md_base.specs.Identifier.{is_nonempty}
 use Rattle.md_text.specs.References.{read_back}
 use Rattle.md_text.proofs.EncodeLaws.{read_back-other}
-use Rattle.md_safe.specs.Input.{begins_with_line_feed, with_line_feeds}
+use Rattle.md_safe.specs.Input.{with_line_feeds}
 use Rattle.md_safe.specs.Token.{Character, StartTag, EndTag, TokenAttribute}
 use Rattle.md_safe.specs.Tokens.{seen}
 use Rattle.md_safe.specs.Contents.{is_space}

@@ -2,8 +2,8 @@
 -- keeps the claim.
 use Rattle.std.specs.Str.{bytes_eq}
 use Rattle.std.specs.List.{list_all}
-use Rattle.std.proofs.Common.{◌≡◌, ℕ, Bool, true, false, not, ◌&&◌, List, [], ◌∷◌, ◌++◌, refl, sym}
-use Rattle.std.proofs.Common.{ap, ◌∙◌, subst, append_assoc, append-nil, codes}
+use Rattle.std.proofs.Common.{◌≡◌, ℕ, Bool, true, false, not, ◌&&◌, List, [], ◌∷◌, ◌++◌, refl}
+use Rattle.std.proofs.Common.{ap, subst, append_assoc, append-nil, codes}
 use Rattle.md_text.specs.Html.{Attribute, HasReadingWith, opening_tag, closing_tag, is_tag}
 use Rattle.md_text.specs.Html.{elements, void_tags}
 use Rattle.md_text.proofs.HtmlJoin.{text, void, opening-before}

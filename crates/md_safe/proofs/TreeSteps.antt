@@ -1,7 +1,7 @@
 -- What a parser in a body or a cell does at a token of the grammar.
 use Rattle.std.proofs.Common.{◌≡◌, ℕ, ◌==◌, Bool, true, false, not, List, [], ◌∷◌, ◌++◌, refl, suc}
 use Rattle.std.proofs.Common.{ap, ◌∙◌, map, codes}
-use Rattle.std.specs.Prelude.{Option, Some, None, option_and_then}
+use Rattle.std.specs.Prelude.{Some, None, option_and_then}
 use Rattle.std.specs.List.{list_all}
 use Rattle.std.proofs.lemmas.Bool.{and_parts, not-true}
 use Rattle.md_base.proofs.Lies.{lie}
@@ -27,9 +27,9 @@ pub run-append : (p : Parser) (xs ys : List Token) →
 run-append p [] ys = refl
 run-append p (x ∷ xs) ys = elim (step p x) as (λ next. option_and_then (λ q. run q (xs ++ ys)) next
     ≡ option_and_then (λ q. run q ys) (option_and_then (λ q. run q xs) next)) [
-  | None ↦ refl
-  | Some q ↦ run-append q xs ys
-]
+      | None ↦ refl
+      | Some q ↦ run-append q xs ys
+    ]
 
 -- tokens that lead from one parser to another, and those after them
 pub after : (p q : Parser) (xs ys : List Token) → run p xs ≡ Some q → run p (xs ++ ys) ≡ run q ys
@@ -85,9 +85,12 @@ pub start-in-body : (x : Position) → is_body x.mode ≡ true →
     (name : List ℕ) (attributes : List TokenAttribute) (flag : Bool) →
     is_one_of parts name ≡ false →
     step (parser_of x) (StartTag name attributes flag) ≡ start_in_body name attributes (parser_of x)
-start-in-body x is name attributes flag none = by_mode (λ mode. step (parser_of (record x { mode =
-    mode })) (StartTag name attributes flag) ≡ start_in_body name attributes (parser_of (record x {
-    mode = mode }))) refl (past _ none refl) x.mode is
+start-in-body x is name attributes flag none = by_mode (λ mode. step (parser_of (record x {
+  mode =
+      mode;
+})) (StartTag name attributes flag) ≡ start_in_body name attributes (parser_of (record x {
+  mode = mode;
+}))) refl (past _ none refl) x.mode is
 
 pub end-in-body : (x : Position) → is_body x.mode ≡ true → (name : List ℕ) →
     is_one_of cells name ≡ false → is_one_of (codes "table" ∷ codes "tr" ∷ sections) name ≡ false →

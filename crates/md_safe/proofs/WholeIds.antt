@@ -1,11 +1,9 @@
 -- No id stands twice in the meaning of a document, nor in two documents whose prefixes are apart.
 use Rattle.std.specs.Str.{bytes_eq}
-use Rattle.std.proofs.Common.{◌≡◌, ◌⊎◌, inl, inr, ℕ, suc, ◌||◌, Bool, true, false, not, cond, List}
-use Rattle.std.proofs.Common.{[], ◌∷◌, ◌++◌, length, ◌<◌, ◌^◌, ◌+◌, ◌≤◌, arith, refl, sym, ap, ◌∙◌}
-use Rattle.std.proofs.Common.{codes}
+use Rattle.std.proofs.Common.{◌≡◌, ◌⊎◌, inl, inr, ℕ, ◌||◌, Bool, true, false, not, List, [], ◌∷◌}
+use Rattle.std.proofs.Common.{◌++◌, length, ◌<◌, ◌^◌, ◌+◌, ◌≤◌, arith, refl, sym, ap, ◌∙◌, codes}
 use Rattle.std.specs.Fmt.{decimal}
 use Rattle.std.specs.List.{list_any}
-use Rattle.md_base.proofs.Lies.{lie}
 use Rattle.std.proofs.lemmas.Bool.{and_from, or_left, or_right}
 use Rattle.md_base.specs.declared.event.Name.TheVariants.{GfmFootnoteCall}
 use Rattle.md_text.specs.Html.{Forest as Html, IsReading}
