@@ -156,28 +156,8 @@ pub record AreSpans (nested : Bool) (content : Content) : Type 0 where
 
 pub are-spans : (nested : Bool) (content : Content) → is_spans content ≡ true →
     AreSpans nested content
-are-spans nested Phrasing is = record {
-  text = λ x. refl;
-  em = refl;
-  strong = refl;
-  del = refl;
-  code = refl;
-  br = refl;
-  img = refl;
-  input = refl;
-  spaced = refl;
-}
-are-spans nested Linked is = record {
-  text = λ x. refl;
-  em = refl;
-  strong = refl;
-  del = refl;
-  code = refl;
-  br = refl;
-  img = refl;
-  input = refl;
-  spaced = refl;
-}
+are-spans nested Phrasing is = search
+are-spans nested Linked is = search
 are-spans nested _ is = lie is
 
 -- where spans stand: what is known of them, what children print, that of a link too, and of a node

@@ -52,16 +52,11 @@ is_first _ = false
 pub holds-nothing : (p : Claim) (escaping in_image : Bool) (content : Content) →
     is_first content ≡ false → Holds p escaping in_image content []
 holds-nothing p escaping in_image Blocks h = p.plain [] (nothing p.test)
-holds-nothing p escaping in_image Spans h = refl
-holds-nothing p escaping in_image Strings h = λ _. refl
 holds-nothing p escaping in_image FirstFence h = lie (sym h)
 holds-nothing p escaping in_image FirstMathFence h = lie (sym h)
-holds-nothing p escaping in_image Chunks h = refl
 holds-nothing p escaping in_image InfoAndMeta h = inl refl
-holds-nothing p escaping in_image MetaAlone h = refl
 holds-nothing p escaping in_image Done h = inl refl
-holds-nothing p escaping in_image Nothing h = refl
-holds-nothing p escaping in_image Sources h = tt
+holds-nothing p escaping in_image _ h = search
 
 -- what stays after each name stays after nodes
 pub stays-after : (Q : Content → Type 0) → ((content : Content) (name : Name) → Q content → Q

@@ -87,20 +87,20 @@ nothing-found s content = record { heading = λ _. tt; title = tt; resource = tt
 pub found-node : {s : Setting} {content : Content} {inner : List Piece} (t : At) (name : Name) →
     Inner s t content name inner → AreFound s
     content (found_at t name (layout s.context.ending inner))
-found-node {s = s} {content = content} {inner = inner} t HeadingSetextText i = record {
+found-node {s} {content} {inner} t HeadingSetextText i = record {
   heading = λ is. blocks-read s t.around.is_escaping t.around.in_image content is
       (layout s.context.ending inner) (adds-alone (inside-alone s t content HeadingSetextText
       i.stands i.fit i.built inner i.before));
   title = tt;
   resource = tt;
 }
-found-node {s = s} {content = content} {inner = inner} t DefinitionTitleString i = record {
+found-node {s} {content} {inner} t DefinitionTitleString i = record {
   heading = λ _. tt;
   title = adds-alone (inside-alone s t content DefinitionTitleString i.stands i.fit i.built inner
       i.before) (i.suits.escaped (title-asks content (or_left _ _ i.stands)));
   resource = tt;
 }
-found-node {s = s} {content = content} {inner = inner} t ResourceTitleString i = record {
+found-node {s} {content} {inner} t ResourceTitleString i = record {
   heading = λ _. tt;
   title = adds-alone (inside-alone s t content ResourceTitleString i.stands i.fit i.built inner
       i.before) (i.suits.escaped (title-asks content (or_right _ _ i.stands)));

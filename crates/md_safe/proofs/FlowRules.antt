@@ -79,30 +79,21 @@ plainly : {name : List ℕ} → IsOuter name →
 plainly names starts ends keeps other calm passes =
     record { block = plain names starts ends keeps; other = other; calm = calm; passes = passes }
 
+table-rule : Ruled Flow (codes "table") Parts
+table-rule = record { kind = inr (inr (inr (inr (inl (refl, refl))))); item = λ e. lie e }
+
+pre-rule : Ruled Flow (codes "pre") Preformatted
+pre-rule = record { kind = inr (inr (inr (inr (inr (refl, refl))))); item = λ e. lie e }
+
+p-rule : Ruled Flow (codes "p") Phrasing
+p-rule = speaking (plain (outside refl) (λ t p. refl) (λ i t c x. refl) (λ i t c s o n. lie (sym
+    o))) refl
+
+ruleset elements_of_blocks =
+    (listing, holding, speaking, plainly, heading, outside, table-rule, pre-rule, p-rule)
+
 block-rules : Each (Ruled Flow) block_elements
-block-rules = also (listing (plainly (outside refl) (λ t p. refl) (λ i t c x. refl)
-    (λ i t c s o n. n) refl refl (λ i t c s. refl)) (λ i t c s. refl) refl) (also (listing (plainly
-    (outside refl) (λ t p. refl) (λ i t c x. refl) (λ i t c s o n. n) refl refl (λ i t c s. refl))
-    (λ i t c s. refl) refl) (also
-    (record { kind = inr (inr (inr (inr (inl (refl, refl))))); item = λ e. lie e }) (also (record {
-      kind = inr (inr (inr (inr (inr (refl, refl)))));
-      item = λ e. lie e;
-    }) (also (holding (plainly (outside refl) (λ t p. refl) (λ i t c x. refl) (λ i t c s o n. n)
-    refl refl (λ i t c s. refl)) refl) (also (holding (plainly (outside refl) (λ t p. refl)
-    (λ i t c x. refl) (λ i t c s o n. n) refl refl (λ i t c s. refl)) refl) (also (speaking (plain
-    (outside refl) (λ t p. refl) (λ i t c x. refl) (λ i t c s o n. lie (sym o))) refl)
-    headings-speak))))))
-  where
-    -- each of the six alike
-    headings-speak : Each (Ruled Flow) (map (λ name. (name, Phrasing)) headings)
-    headings-speak = also (speaking (heading (outside refl) (λ t p. refl) (λ i t c x. refl)
-        (λ i t c s o n. n)) refl) (also (speaking (heading (outside refl) (λ t p. refl)
-        (λ i t c x. refl) (λ i t c s o n. n)) refl) (also (speaking (heading (outside refl)
-        (λ t p. refl) (λ i t c x. refl) (λ i t c s o n. n)) refl) (also (speaking (heading
-        (outside refl) (λ t p. refl) (λ i t c x. refl) (λ i t c s o n. n)) refl) (also (speaking
-        (heading (outside refl) (λ t p. refl) (λ i t c x. refl) (λ i t c s o n. n)) refl) (also
-        (speaking (heading (outside refl) (λ t p. refl) (λ i t c x. refl) (λ i t c s o n. n)) refl)
-        tt)))))
+block-rules = search elements_of_blocks depth 10 fits 10000
 
 -- the elements of spans, and then these
 spanned : (those others : List (List ℕ × Content)) → Each (Rule Flow) those →

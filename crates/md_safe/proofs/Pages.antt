@@ -71,15 +71,7 @@ abbrev pub body_at : Nodes → Open
 body_at nodes = open_at 4 (codes "body") nodes
 
 pub body-place : (title : List ℕ) → IsPlace InBody (body_at NoNode) (root_at title ∷ []) [] 5
-body-place title = record {
-  body = refl;
-  none_active = refl;
-  made = tt;
-  no_paragraph = refl;
-  no_heading = refl;
-  leads_back = refl;
-  none_apart = refl;
-}
+body-place title = search
 
 pub page-built : (title : List ℕ) (body : Forest) → list_all is_character title ≡ true →
     Builds InBody (body_at NoNode) (root_at title ∷ []) [] 5 body →

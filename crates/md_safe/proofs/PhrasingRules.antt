@@ -77,10 +77,7 @@ code-rule content = formatting (outside refl) refl (λ t p. refl) (λ p. refl) r
 -- the elements that aren't links and hold this content
 spans : (content held : Content) → is_inline held ≡ true →
     (is_free held ≡ true → is_free content ≡ true) → Each (Rule content) (spans_of held)
-spans content held i f = also (code-rule content) (also (formatting (outside refl) refl
-    (λ t p. refl) (λ p. refl) i f refl refl) (also (formatting (outside refl) refl (λ t p. refl)
-    (λ p. refl) i f refl refl) (also (ordinary (outside refl) (λ t p. refl) (λ p. refl) i f refl
-    refl) (also (ordinary (outside refl) (λ t p. refl) (λ p. refl) i f refl refl) tt))))
+spans content held i f = search (code-rule, formatting, ordinary, outside) depth 8 fits 4000
 
 pub span-rules : (content : Content) → is_free content ≡ true →
     Each (Rule content) (span_elements false)

@@ -50,18 +50,12 @@ is_tabled content = elim content [ Parts ↦ true | Rows ↦ true | Cells ↦ tr
 white-said : (content : Content) (bytes : List ℕ) → is_tabled content ≡ true →
     may_say content bytes ≡ true →
     list_all is_space bytes ≡ true
-white-said Parts bytes is h = h
-white-said Rows bytes is h = h
-white-said Cells bytes is h = h
-white-said _ bytes is h = lie is
+white-said content bytes is h = grind (arith, is, h)
 
 no_void : (content : Content) (name : List ℕ) → is_tabled content ≡ true →
     is_one_of (voids_in content) name ≡ true →
     false ≡ true
-no_void Parts name is h = h
-no_void Rows name is h = h
-no_void Cells name is h = h
-no_void _ name is h = lie is
+no_void content name is h = grind (arith, is, h)
 
 -- with this mode, and with an element of this name as the current node
 abbrev pub part : Mode → List ℕ → Position → Position

@@ -72,17 +72,11 @@ is_tables mode = elim mode [ InTable ↦ true | InTableBody ↦ true | InRow ↦
 -- what the modes of tables do with a tag and with a character
 tagged : (mode : Mode) → is_tables mode ≡ true → (p : Parser) (tag : Parser → Option Parser) →
     after_table_text (record p { mode = mode }) tag ≡ tag (record p { mode = mode })
-tagged InTable is p tag = refl
-tagged InTableBody is p tag = refl
-tagged InRow is p tag = refl
-tagged _ is p tag = lie is
+tagged mode is p tag = grind (arith, is)
 
 said : (mode : Mode) → is_tables mode ≡ true → (byte : ℕ) (p : Parser) →
     character mode byte p ≡ character_in_table byte p
-said InTable is byte p = refl
-said InTableBody is byte p = refl
-said InRow is byte p = refl
-said _ is byte p = lie is
+said mode is byte p = grind (arith, is)
 
 pub settled : (mode : Mode) → is_tables mode ≡ true →
     (node : Open) (others : List Open) (active : List Entry)

@@ -94,8 +94,7 @@ element-put mode parent inner-mode name held is tables tabular each starts ends 
     (later-created x.created (suc x.created) x.active (omega arith) made))
 
 cells-put : Each (Puts InRow (codes "tr")) (elements_in false Cells)
-cells-put = also (cell-put (codes "th") (λ x t. refl) (λ x t i m. refl))
-    (also (cell-put (codes "td") (λ x t. refl) (λ x t i m. refl)) tt)
+cells-put = search cell-put
 
 parts-put : Each (Puts InTable (codes "table")) (elements_in false Parts)
 parts-put = also (element-put _ _ _ _ _ refl refl refl (also (element-put _ _ _ _ _ refl refl refl
