@@ -33,10 +33,10 @@ use Rattle.md_safe.specs.Placed.{sort_of, IsPlaced, may_stand as may_place}
 use Rattle.md_safe.proofs.Linking.{is_spans, with_links, place_in, inner_place, inner-place-with}
 use Rattle.md_safe.proofs.Linking.{IsLinked, linked-inside, unnested-inside, unnested-after}
 use Rattle.md_safe.proofs.Linking.{unlinked-here, unlinked-spans}
-use Rattle.md_safe.proofs.Stands.{Stands, IsWhite}
+use Rattle.md_safe.proofs.Stands.{Stands, IsWhite, stands-nothing}
 use Rattle.md_safe.proofs.ContainedLaid.{lays-nothing, lays-both, Prints, standing, Own}
-use Rattle.md_safe.proofs.FlowFindings.{IsHeading, AreFlow, heading-found, note-found, heading-both}
-use Rattle.md_safe.proofs.FlowFindings.{heading-next, heading-inside}
+use Rattle.md_safe.proofs.FlowFindings.{IsHeading, AreFlow, heading-found, note-found}
+use Rattle.md_safe.proofs.Cases.{on-later, on-either}
 use Rattle.md_safe.proofs.Contents.{after-blocks}
 use Rattle.md_safe.proofs.Claims.{Known}
 use Rattle.md_safe.proofs.SpanCases.{Spanning}
@@ -154,7 +154,8 @@ means nested d (Node name start end children rest) around before content f =
           f.placed.1;
       ready = subst (Ready (read_in d) around' before')
           (is_blocks-same (content_inside Blocks name) is) within;
-      heading = heading-inside nested (is_transparent name) before.heading f.heading;
+      heading = cond_both (is_transparent name) before.heading [] (Stands nested Phrasing)
+          (λ _. f.heading) (λ _. stands-nothing);
       linked = linked-inside nested d.context.options (is_loose children) content name around
           f.linked;
       unnested = λ no. unnested-inside d.context.options (is_loose children) name around start end
@@ -183,13 +184,13 @@ means nested d (Node name start end children rest) around before content f =
       placed = f.placed.2;
       ready = subst (Ready (read_in d) around next) (after-blocks name children)
           (ready-after t name here f.built.0 f.built.2 found f.ready);
-      heading = heading-next nested here.found.heading before.heading one.heading f.heading;
+      heading = on-either (Stands nested Phrasing) here.found.heading before.heading one.heading f.heading;
       linked = f.linked;
       unnested = λ no. unnested-after name around.in_link start end children rest (f.unnested no);
     }) in
     record {
       prints = lays-both one.prints later.prints;
-      heading = heading-both nested here.found.heading others.found.heading one.heading
+      heading = on-later (Stands nested Phrasing) here.found.heading others.found.heading one.heading
           later.heading;
       texts = texts-append (Stands nested Flow) here.footnotes others.footnotes one.texts
           later.texts;

@@ -21,6 +21,7 @@ use Rattle.md_safe.proofs.Spot.{Setting, AreTitles, IsGoodTarget, IsFitAt}
 use Rattle.md_safe.proofs.FlowNodes.{Reads}
 use Rattle.md_safe.proofs.Nodes.{inside-alone, Before as PrintsBefore}
 use Rattle.md_safe.proofs.Laid.{adds-alone}
+use Rattle.md_safe.proofs.Cases.{OnSome}
 
 -- what holds of a text among blocks is what is claimed
 blocks-read : (s : Setting) (escaping in_image : Bool) (content : Content) →
@@ -44,8 +45,7 @@ title-asks _ s = lie s
 
 -- a heading's text that was found is as claimed
 abbrev pub IsRead : Setting → Option (List ℕ) → Type 0
-IsRead s None = Unit {0}
-IsRead s (Some x) = Reads s x
+IsRead s found = OnSome (Reads s) found
 
 -- what is found: among blocks a heading as is claimed, and titles that are escaped
 pub record AreFound (s : Setting) (content : Content) (found : Found) : Type 0 where
@@ -120,25 +120,3 @@ note-node {s = s} {content = content} {inner = inner} t GfmFootnoteDefinition i 
     _ _ (note-blocks _ i.stands) _ (adds-alone
     (inside-alone s t _ _ i.stands i.fit i.built _ i.before))
 note-node t _ i is = lie is
-
--- of two things that were found the later one
-pub later-heading : (s : Setting) (first later : Option (List ℕ)) → IsRead s first →
-    IsRead s later → IsRead s (or_else later first)
-later-heading s first None f g = f
-later-heading s first (Some x) f g = g
-
-pub later-title : (first later : Option (List ℕ)) → IsEscapedTitle first → IsEscapedTitle later →
-    IsEscapedTitle (or_else later first)
-later-title first None f g = f
-later-title first (Some x) f g = g
-
-pub later-resource : (first later : Option Target) → IsGoodTarget first → IsGoodTarget later →
-    IsGoodTarget (or_else later first)
-later-resource first None f g = f
-later-resource first (Some x) f g = g
-
-pub heading-before : (s : Setting) (found : Option (List ℕ)) (before : List ℕ) →
-    IsRead s found → Reads s before →
-    Reads s (unwrap_or found before)
-heading-before s None before f g = g
-heading-before s (Some x) before f g = f

@@ -19,11 +19,11 @@ use Rattle.md_safe.specs.Placed.{Block, sort_of, may_stand as may_place}
 use Rattle.md_safe.proofs.Linking.{with_links, place_in}
 use Rattle.md_safe.proofs.Stands.{Stands, stands-nothing}
 use Rattle.md_safe.proofs.ContainedLaid.{Prints, Own}
+use Rattle.md_safe.proofs.Cases.{OnSome}
 
 -- a heading's text that was found is phrasing content
 abbrev pub IsHeading : (nested : Bool) → Option (List ℕ) → Type 0
-IsHeading nested None = Unit {0}
-IsHeading nested (Some x) = Stands nested Phrasing x
+IsHeading nested found = OnSome (Stands nested Phrasing) found
 
 -- the texts of some footnotes are flow content
 abbrev pub AreFlow : (nested : Bool) → List Footnote → Type 0
@@ -55,21 +55,3 @@ pub note-found : (nested : Bool) (d : Document) (content : Content) (name : Name
 note-found nested d content GfmFootnoteDefinition inner is stands a = adds-alone (subst (λ c. Prints
     nested d (place_in nested c GfmFootnoteDefinition) inner.pieces) (block-flow _ stands) (a refl))
 note-found nested d content _ inner is stands a = lie is
-
-pub heading-both : (nested : Bool) (first later : Option (List ℕ)) → IsHeading nested first →
-    IsHeading nested later →
-    IsHeading nested (or_else later first)
-heading-both nested first None a b = a
-heading-both nested first (Some x) a b = b
-
-pub heading-next : (nested : Bool) (found : Option (List ℕ)) (before : List ℕ) →
-    IsHeading nested found →
-    Stands nested Phrasing before →
-    Stands nested Phrasing (unwrap_or found before)
-heading-next nested None before a b = b
-heading-next nested (Some x) before a b = a
-
-pub heading-inside : (nested : Bool) (is : Bool) (before : List ℕ) → Stands nested Phrasing before →
-    Stands nested Phrasing (cond is before [])
-heading-inside nested true before h = h
-heading-inside nested false before h = stands-nothing

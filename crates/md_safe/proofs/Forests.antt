@@ -15,6 +15,7 @@ use Rattle.md_text.specs.declared.options.CompileOptions.{CompileOptions}
 use Rattle.md_meaning.specs.declared.surroundings.Surroundings.{Surroundings}
 use Rattle.md_meaning.specs.Meaning.Inherited.{inside}
 use Rattle.md_meaning.specs.Meaning.At.{Defined, Footnote, target_in, Before, At, identifier_of}
+use Rattle.md_meaning.specs.Meaning.At.{Target}
 use Rattle.md_meaning.specs.Meaning.Before.{before_children}
 use Rattle.md_meaning.specs.Meaning.Layout.{Piece, layout, when}
 use Rattle.md_meaning.specs.Meaning.Nodes.{Outcome, found_at, node, before_next, outcome}
@@ -29,9 +30,11 @@ use Rattle.md_safe.proofs.Spot.{IsWhole, Setting, AreTitles, IsFitAt, Prints, In
 use Rattle.md_safe.proofs.FlowNodes.{Reads}
 use Rattle.md_safe.proofs.BlockNodes.{holds-none}
 use Rattle.md_safe.proofs.Nodes.{Knows, any-node, inside-alone, Before as PrintsBefore}
-use Rattle.md_safe.proofs.Findings.{AreFound, AreRead, heading-before, titles-append, texts-append}
-use Rattle.md_safe.proofs.Findings.{Inner, nothing-found, found-node, note-node, later-heading}
-use Rattle.md_safe.proofs.Findings.{later-title, later-resource}
+use Rattle.md_safe.proofs.Findings.{AreFound, AreRead, titles-append, texts-append}
+use Rattle.md_safe.proofs.Findings.{Inner, nothing-found, found-node, note-node}
+use Rattle.md_safe.proofs.Cases.{on-later, on-either}
+use Rattle.md_safe.proofs.Texts.{Escaped}
+use Rattle.md_safe.proofs.Media.{IsEscapedTitle}
 use Rattle.md_safe.proofs.Cases.{cases}
 
 -- the surroundings of children suit them
@@ -116,7 +119,7 @@ ready-after {s = s} {content = content} t name here stands built own r = record 
       r.follows;
   whole = asked-after-node (IsWhole s.p) content name t.children r.whole;
   heading = asked-after-node (Reads s (before_next t name here).heading) content name t.children
-      (λ is. heading-before s here.found.heading t.before.heading (own.heading is) (r.heading is));
+      (λ is. on-either (Reads s) here.found.heading t.before.heading (own.heading is) (r.heading is));
 }
 
 pub means : (s : Setting) (forest : Forest) (around : Surroundings) (before : Before)
@@ -172,10 +175,10 @@ means s (Node name start end children rest) around before content built r =
           inner.pieces (others.pieces ++ later) built.2 (λ pieces g. within.prints pieces g)
           (after.prints later h));
       found = record {
-        heading = λ is. later-heading s here.found.heading others.found.heading (own.heading is)
+        heading = λ is. on-later (Reads s) here.found.heading others.found.heading (own.heading is)
             (after.found.heading (blocks-after-node content name children is));
-        title = later-title _ _ own.title after.found.title;
-        resource = later-resource _ _ own.resource after.found.resource;
+        title = on-later Escaped _ _ own.title after.found.title;
+        resource = on-later (λ (target : Target). IsEscapedTitle target.title) _ _ own.resource after.found.resource;
       };
       titles = titles-append _ _ (titles-append _ _ within.titles (cond_both (named Definition name)
           (defined ∷ []) [] AreTitles (λ _. (within.found.title, tt)) (λ _. tt))) after.titles;

@@ -11,6 +11,7 @@ use Rattle.md_meaning.specs.Meaning.Media.{href, src, anchor, picture}
 use Rattle.md_safe.proofs.Texts.{Escaped}
 use Rattle.md_safe.proofs.Laid.{Adds}
 use Rattle.md_safe.proofs.Tags.{IsTest, attribute, Tagged, Single, adds-flat}
+use Rattle.md_safe.proofs.Cases.{OnSome}
 
 pub href-escaped : (options : CompileOptions) (x : List ℕ) → Escaped (href options x)
 href-escaped options x =
@@ -25,8 +26,7 @@ src-escaped options x =
 
 -- a title is escaped, where there is one
 abbrev pub IsEscapedTitle : Option (List ℕ) → Type 0
-IsEscapedTitle None = Unit {0}
-IsEscapedTitle (Some title) = Escaped title
+IsEscapedTitle title = OnSome Escaped title
 
 -- a link
 pub adds-link : {test : Attribute → Bool} {Q R : List ℕ → Type 0} {ending : List ℕ}

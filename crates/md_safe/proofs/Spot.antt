@@ -28,11 +28,11 @@ use Rattle.md_meaning.specs.Meaning.Nodes.{Outcome}
 use Rattle.md_tree.specs.Rules.{place}
 use Rattle.md_base.specs.Children.{is_empty}
 use Rattle.std.proofs.lemmas.Bool.{cond_both}
+use Rattle.md_safe.proofs.Cases.{OnSome}
 
 -- the title of a target is escaped, where there is one
 abbrev pub IsGoodTarget : Option Target → Type 0
-IsGoodTarget None = Unit {0}
-IsGoodTarget (Some target) = IsEscapedTitle target.title
+IsGoodTarget resource = OnSome (λ (target : Target). IsEscapedTitle target.title) resource
 
 -- the titles of some definitions are escaped
 abbrev pub AreTitles : List Defined → Type 0
