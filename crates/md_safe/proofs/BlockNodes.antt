@@ -1,5 +1,5 @@
 -- Names that print nothing, or only their children.
-use Rattle.std.proofs.Common.{◌≡◌, Bool, true, false, not, ◌&&◌, ◌||◌, List, [], refl, cond, subst}
+use Rattle.std.proofs.Common.{◌≡◌, Bool, true, false, not, ◌&&◌, ◌||◌, List, [], refl, cond}
 use Rattle.std.proofs.lemmas.Bool.{and_parts, not-true}
 use Rattle.md_base.specs.declared.event.Name.{Name}
 use Rattle.md_base.specs.declared.event.Name.TheVariants as name_variants
@@ -92,5 +92,5 @@ silent-blocks _ = refl
 pub silent-block : (name : Name) → is_silent name ≡ true →
     (is_blocks (content_of name Blocks) ≡ true) × (named Link name ≡ false)
 silent-block name is =
-    let parts = and_parts _ _ (subst (λ s. not s || (is_blocks (content_of name Blocks) && not
-    (named Link name)) ≡ true) is (silent-blocks name)) in (parts.0, not-true _ parts.1)
+    let parts = and_parts _ _ (rw is at (silent-blocks name)) in
+    (parts.0, not-true _ parts.1)

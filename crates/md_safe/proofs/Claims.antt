@@ -1,6 +1,6 @@
 -- Claims about texts, one for each content: the lemmas on nodes take them as a parameter. And what
 -- is known where a node stands, and of what its children print.
-use Rattle.std.proofs.Common.{◌≡◌, ℕ, Bool, true, false, cond, List, [], ◌∷◌, ◌++◌, refl, sym}
+use Rattle.std.proofs.Common.{◌≡◌, ℕ, Bool, true, false, cond, List, [], ◌∷◌, ◌++◌, refl}
 use Rattle.std.proofs.Common.{subst, append-nil, codes}
 use Rattle.std.proofs.lemmas.Bool.{cond_both}
 use Rattle.std.specs.List.{flat_map}
@@ -89,9 +89,8 @@ block-pair m hs cs turn a = turned m hs cs turn (framed-needed m.beside m.ending
 pub pair : (m : Claims) (t : At) {content : Content} {o c : List ℕ} {inner : List Piece} →
     is_spaced content ≡ true → t.around.in_image ≡ false → Turns (m.holds content) (m.holds content)
     o c → Prints m content inner → Prints m content (span t (said o) inner (said c))
-pair m t {content} {o} {c} {inner} is out turn a = subst (λ b. Prints m content
-    (cond b inner (said o ++ (inner ++ said c)))) (sym out) (turned m is is turn
-    (framed-text m.beside) a (framed-text m.beside))
+pair m t is out turn a =
+    rw out (turned m is is turn (framed-text m.beside) a (framed-text m.beside))
 
 -- what may be around a text, and nothing, may stand alone
 pub alone : (m : Claims) {content : Content} {pieces : List Piece} → is_spaced content ≡ true →

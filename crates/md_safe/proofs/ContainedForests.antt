@@ -36,13 +36,12 @@ use Rattle.md_safe.proofs.Linking.{unlinked-here, unlinked-spans}
 use Rattle.md_safe.proofs.Stands.{Stands, IsWhite, stands-nothing}
 use Rattle.md_safe.proofs.ContainedLaid.{lays-nothing, lays-both, Prints, standing, Own}
 use Rattle.md_safe.proofs.FlowFindings.{IsHeading, AreFlow, heading-found, note-found}
-use Rattle.md_safe.proofs.Cases.{on-later, on-either}
+use Rattle.md_safe.proofs.Cases.{on-later, on-either, cases}
 use Rattle.md_safe.proofs.Contents.{after-blocks}
 use Rattle.md_safe.proofs.Claims.{Known}
 use Rattle.md_safe.proofs.SpanCases.{Spanning}
 use Rattle.md_safe.proofs.FlowCases.{solid-node}
 use Rattle.md_safe.proofs.Spot.{at_in}
-use Rattle.md_safe.proofs.Cases.{cases}
 
 -- what nodes mean, where their content stands
 pub record Means (nested : Bool) (d : Document) (content : Content) (means : Outcome) : Type 0 where
@@ -148,12 +147,9 @@ means nested d (Node name start end children rest) around before content f =
     (inner_place nested content name) inner = λ is. means nested d children around' before'
     (inner_place nested content name) (record {
       white = f.white;
-      built = subst (λ c. IsBuilt d.context.bytes c children)
-          (is_blocks-same (content_inside Blocks name) is) f.built.2;
-      placed = subst (λ c. IsPlaced c children) (sym (inner-place-with nested content name))
-          f.placed.1;
-      ready = subst (Ready (read_in d) around' before')
-          (is_blocks-same (content_inside Blocks name) is) within;
+      built = rw (is_blocks-same (content_inside Blocks name) is) at f.built.2;
+      placed = rw (inner-place-with nested content name) f.placed.1;
+      ready = rw (is_blocks-same (content_inside Blocks name) is) at within;
       heading = cond_both (is_transparent name) before.heading [] (Stands nested Phrasing)
           (λ _. f.heading) (λ _. stands-nothing);
       linked = linked-inside nested d.context.options (is_loose children) content name around
@@ -180,9 +176,9 @@ means nested d (Node name start end children rest) around before content f =
     }) in
     let later : Means nested d content others = means nested d rest around next content (record {
       white = f.white;
-      built = subst (λ c. IsBuilt d.context.bytes c rest) (after-blocks name children) f.built.3;
+      built = rw (after-blocks name children) at f.built.3;
       placed = f.placed.2;
-      ready = subst (Ready (read_in d) around next) (after-blocks name children)
+      ready = rw (after-blocks name children) at
           (ready-after t name here f.built.0 f.built.2 found f.ready);
       heading = on-either (Stands nested Phrasing) here.found.heading before.heading one.heading f.heading;
       linked = f.linked;

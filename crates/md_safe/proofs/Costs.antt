@@ -1,6 +1,6 @@
 -- What a node costs: how often an id stands in what it prints, as often as calls have it at most.
 use Rattle.std.proofs.Common.{◌≡◌, ℕ, ◌+◌, ◌≤◌, Bool, true, false, List, [], ◌∷◌, ◌++◌, refl, cond}
-use Rattle.std.proofs.Common.{sym, ap, ◌∙◌, subst, arith, append-nil}
+use Rattle.std.proofs.Common.{ap, ◌∙◌, subst, arith, append-nil}
 use Rattle.std.specs.Prelude.{unwrap_or}
 use Rattle.md_base.proofs.Lies.{lie}
 use Rattle.md_base.specs.declared.event.Name.{Name}
@@ -166,19 +166,13 @@ pub through-spent : (d : Document) (w : List ℕ) (p : Place) (name : Name) (wai
     is_transparent name ≡ true → Below d w p name waits m →
     Costs d w p.before m (waits_after waits p.children) (here_of d p name)
 through-spent d w p name waits m is b =
-    subst (Costs d w p.before m (waits_after waits p.children))
-    (sym (through-node d.context (at_of d p name) name (inner_of d p name) is refl)) (record {
+    rw (through-node d.context (at_of d p name) name (inner_of d p name) is refl) (record {
       body = b.body;
       left = b.left;
       notes = b.notes;
       prints = b.prints;
       heading = subst (λ through. Waiting w (waits_after waits p.children) b.left
-          (unwrap_or (inner_of d p name).found.heading (cond through p.before.heading []))) is
-          b.heading;
-      texts = subst (TextsCount w b.notes) (sym (append-nil (inner_of d p name).footnotes)) b.texts;
-      few = omega (
-        b.few,
-        ap (due d w p.before.calls) (append-nil (inner_of d p name).calls),
-        arith,
-      );
+          (unwrap_or (inner_of d p name).found.heading (cond through p.before.heading []))) is b.heading;
+      texts = rw append-nil b.texts;
+      few = omega (b.few, ap (due d w p.before.calls) (append-nil (inner_of d p name).calls), arith);
     })

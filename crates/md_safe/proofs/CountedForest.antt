@@ -109,16 +109,14 @@ spent d w (Node name start end children rest) around before waits m f h =
     let one : Costs d w before m waits' here = node-spent k h f.underlined.0 (λ is. spent d w
     children (inner_around d p name) (inner_before p name) (cond (is_transparent name) waits false)
     (cond (is_transparent name) m 0) (record {
-      built = subst (λ c. IsBuilt d.context.bytes c children)
-          (is_blocks-same (content_inside Blocks name) is) f.built.2;
-      ready = subst (Ready (read_in d) (inner_around d p name) (inner_before p name))
-          (is_blocks-same (content_inside Blocks name) is) within;
+      built = rw (is_blocks-same (content_inside Blocks name) is) at f.built.2;
+      ready = rw (is_blocks-same (content_inside Blocks name) is) at within;
       underlined = f.underlined.1;
     }) (heading-inside (is_transparent name) waits m before.heading h)) in
     let later : Costs d w next one.left (waits_after waits' rest) others = spent d w rest around
     next waits' one.left (record {
-      built = subst (λ c. IsBuilt d.context.bytes c rest) (after-blocks name children) f.built.3;
-      ready = subst (Ready (read_in d) around next) (after-blocks name children)
+      built = rw (after-blocks name children) at f.built.3;
+      ready = rw (after-blocks name children) at
           (ready-after t name here f.built.0 f.built.2 own f.ready);
       underlined = f.underlined.2;
     }) one.heading in

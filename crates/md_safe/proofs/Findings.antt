@@ -1,6 +1,6 @@
 -- What is found where a node stands is good: a heading's text, titles, and the texts of footnotes.
 use Rattle.std.proofs.Common.{◌≡◌, ℕ, Bool, true, ◌||◌, List, [], ◌∷◌, ◌++◌, refl}
-use Rattle.std.specs.Prelude.{Option, Some, None, unwrap_or}
+use Rattle.std.specs.Prelude.{Option}
 use Rattle.std.proofs.lemmas.Bool.{or_left, or_right}
 use Rattle.md_base.proofs.Lies.{lie}
 use Rattle.md_base.specs.declared.event.Name.{Name}
@@ -9,8 +9,7 @@ use name_variants.{Other, BlockQuotePrefix, SpaceOrTab, HeadingSetextText, Defin
 use name_variants.{GfmFootnoteDefinition, Resource, ResourceTitleString}
 use Rattle.md_base.specs.Is.{is as named}
 use Rattle.md_base.specs.NameTests.{is_transparent}
-use Rattle.md_base.specs.Children.{or_else}
-use Rattle.md_meaning.specs.Meaning.At.{Target, Defined, Footnote, Found, nothing_found, At}
+use Rattle.md_meaning.specs.Meaning.At.{Defined, Footnote, Found, nothing_found, At}
 use Rattle.md_meaning.specs.Meaning.Layout.{Piece, layout}
 use Rattle.md_meaning.specs.Meaning.Nodes.{found_at}
 use Rattle.md_content.specs.Built.{Content, Blocks, Sources, may_stand, content_inside, IsBuilt}

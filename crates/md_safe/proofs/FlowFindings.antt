@@ -1,13 +1,12 @@
 -- What is found among blocks: phrasing content as a heading's text, flow content of footnotes.
-use Rattle.std.proofs.Common.{◌≡◌, ℕ, Bool, true, false, cond, List, [], refl, sym, subst}
-use Rattle.std.specs.Prelude.{Option, Some, None, unwrap_or}
+use Rattle.std.proofs.Common.{◌≡◌, ℕ, Bool, true, false, List, refl, sym}
+use Rattle.std.specs.Prelude.{Option}
 use Rattle.md_base.proofs.Lies.{lie}
 use Rattle.md_base.specs.declared.event.Name.{Name}
 use Rattle.md_base.specs.declared.event.Name.TheVariants as name_variants
 use name_variants.{Other, BlockQuotePrefix, SpaceOrTab, HeadingSetextText, GfmFootnoteDefinition}
 use Rattle.md_base.specs.Is.{is as named}
 use Rattle.md_base.specs.NameTests.{is_transparent}
-use Rattle.md_base.specs.Children.{or_else}
 use Rattle.md_meaning.specs.Meaning.At.{Footnote, At}
 use Rattle.md_meaning.specs.Meaning.Layout.{layout}
 use Rattle.md_meaning.specs.Meaning.Nodes.{Outcome, found_at}
@@ -16,9 +15,9 @@ use Rattle.md_safe.proofs.Findings.{AreTexts}
 use Rattle.md_safe.proofs.Costs.{Document}
 use Rattle.md_safe.specs.Contents.{Content, Flow, Phrasing}
 use Rattle.md_safe.specs.Placed.{Block, sort_of, may_stand as may_place}
-use Rattle.md_safe.proofs.Linking.{with_links, place_in}
-use Rattle.md_safe.proofs.Stands.{Stands, stands-nothing}
-use Rattle.md_safe.proofs.ContainedLaid.{Prints, Own}
+use Rattle.md_safe.proofs.Linking.{with_links}
+use Rattle.md_safe.proofs.Stands.{Stands}
+use Rattle.md_safe.proofs.ContainedLaid.{Own}
 use Rattle.md_safe.proofs.Cases.{OnSome}
 
 -- a heading's text that was found is phrasing content
@@ -39,9 +38,8 @@ pub heading-found : (nested : Bool) (d : Document) (content : Content) (name : N
     (inner : Outcome) → is_transparent name ≡ false → may_place (with_links content) (sort_of name)
     ≡ true → Own nested d content name inner.pieces → IsHeading nested (found_at t
     name (layout d.context.ending inner.pieces)).heading
-heading-found nested d content HeadingSetextText t inner solid stands a = adds-alone (subst (λ c.
-    Prints nested d (place_in nested c HeadingSetextText) inner.pieces) (block-flow content stands)
-    (a refl))
+heading-found nested d content HeadingSetextText t inner solid stands a =
+    adds-alone (rw (block-flow content stands) at (a refl))
 heading-found nested d content (Other number) t inner solid stands a = lie (sym solid)
 heading-found nested d content BlockQuotePrefix t inner solid stands a = lie (sym solid)
 heading-found nested d content SpaceOrTab t inner solid stands a = lie (sym solid)
@@ -52,6 +50,6 @@ pub note-found : (nested : Bool) (d : Document) (content : Content) (name : Name
     (inner : Outcome) → named GfmFootnoteDefinition name ≡ true →
     may_place (with_links content) (sort_of name) ≡ true → Own nested d content name inner.pieces →
     Stands nested Flow (layout d.context.ending inner.pieces)
-note-found nested d content GfmFootnoteDefinition inner is stands a = adds-alone (subst (λ c. Prints
-    nested d (place_in nested c GfmFootnoteDefinition) inner.pieces) (block-flow _ stands) (a refl))
+note-found nested d content GfmFootnoteDefinition inner is stands a =
+    adds-alone (rw (block-flow content stands) at (a refl))
 note-found nested d content _ inner is stands a = lie is

@@ -1,6 +1,6 @@
 -- What is known of each element that stands in flow content or in a list.
 use Rattle.std.proofs.Common.{◌≡◌, ◌⊎◌, inl, inr, ℕ, Bool, true, false, List, ◌∷◌, refl, sym, ◌∙◌}
-use Rattle.std.proofs.Common.{codes, map, ◌++◌, []}
+use Rattle.std.proofs.Common.{codes, ◌++◌, []}
 use Rattle.std.specs.Prelude.{Some, bytes_eq}
 use Rattle.md_base.proofs.Lies.{lie}
 use Rattle.md_text.specs.Bytes.{is_one_of}

@@ -1,6 +1,6 @@
 -- The nodes of a fragment: the root is a place for flow content, and its children are the inserted
 -- nodes.
-use Rattle.std.proofs.Common.{◌≡◌, ℕ, true, List, [], ◌∷◌, ◌++◌, refl, ap, ◌∙◌, cond, codes}
+use Rattle.std.proofs.Common.{◌≡◌, ℕ, true, List, [], ◌∷◌, ◌++◌, ap, ◌∙◌, cond, codes}
 use Rattle.std.specs.Prelude.{Some, None, option_map}
 use Rattle.md_text.specs.Html.{Forest}
 use Rattle.md_safe.specs.Token.{EndOfFile}

@@ -35,7 +35,7 @@ adds-append {ending} {h = h} {xs} {ys} both a b = record {
   to = λ text.
       let r = a.to text in
       let s = b.to (laid_after ending text xs) in
-      subst (Grows h text) (sym (laid-append ending text xs ys)) (record {
+      rw (laid-append ending text xs ys) (record {
         added = r.added ++ s.added;
         grown = s.grown ∙ ap (λ t. t ++ s.added) r.grown ∙ append_assoc text r.added s.added;
         it_holds = both r.added s.added r.it_holds s.it_holds;

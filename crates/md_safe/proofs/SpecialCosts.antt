@@ -1,6 +1,6 @@
 -- What nodes cost whose names have a rule of their own: underlined headings, footnotes, calls.
 use Rattle.std.proofs.Common.{◌≡◌, ℕ, suc, ◌+◌, Bool, true, false, not, List, [], ◌∷◌, ◌++◌, refl}
-use Rattle.std.proofs.Common.{subst, arith, codes}
+use Rattle.std.proofs.Common.{arith, codes}
 use Rattle.std.specs.Fmt.{decimal}
 use Rattle.std.proofs.lemmas.Bool.{cond_both}
 use Rattle.md_base.proofs.Lies.{lie}
@@ -129,8 +129,7 @@ pub special-spent : (d : Document) (w : List ℕ) (p : Place) (name : Name) (wai
     BelowBlocks d w p name false 0 → Costs d w p.before m (waits_past waits name) (here_of d p name)
 special-spent d w p HeadingSetextText waits m is awaited h b = setext_text d w p m (b refl)
 special-spent d w p HeadingSetextUnderlineSequence waits m is awaited h b =
-    underline d w p m
-    (subst (λ waits. Waiting w waits m p.before.heading) (awaited refl).0 h) (b refl)
+    underline d w p m (rw (awaited refl).0 at h) (b refl)
 special-spent d w p GfmFootnoteCall waits m is awaited h b = call d w p m (b refl)
 special-spent d w p GfmFootnoteDefinition waits m is awaited h b = footnote d w p m (b refl)
 special-spent d w p _ waits m is awaited h b = lie is

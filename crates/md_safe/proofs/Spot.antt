@@ -1,6 +1,6 @@
 -- A node in its context: the facts about the document, and the node's meaning. The lemmas on nodes
 -- use this record.
-use Rattle.std.proofs.Common.{◌≡◌, ℕ, Bool, true, List, [], ◌∷◌, ◌++◌, sym, subst, codes, ◌&&◌}
+use Rattle.std.proofs.Common.{◌≡◌, ℕ, Bool, true, List, [], ◌∷◌, ◌++◌, codes, ◌&&◌}
 use Rattle.std.specs.Prelude.{Option, Some, None, find, bytes_eq, unwrap_or}
 use Rattle.std.specs.Option.{option_map_or}
 use Rattle.md_base.specs.declared.event.Name.{Name}
@@ -89,7 +89,7 @@ IsNarrow escaping holds = (x : List ℕ) → (escaping ≡ true → Escaped x) �
 -- an encoded text is escaped if that is required
 pub encoded-escaped : (escaping : Bool) (x : List ℕ) → escaping ≡ true →
     Escaped (encoded escaping x)
-encoded-escaped escaping x e = subst (λ b. Escaped (encoded b x)) (sym e) (is_escaped-encoded x)
+encoded-escaped escaping x e = rw e (is_escaped-encoded x)
 
 -- the title of a definition is escaped
 defined-title : (definitions : List Defined) (identifier : List ℕ) → AreTitles definitions →

@@ -3,7 +3,7 @@
 use Rattle.std.specs.List.{list_all}
 use Rattle.std.specs.Option.{option_map_or}
 use Rattle.std.proofs.Common.{◌≡◌, ℕ, ◌==◌, Bool, true, false, ◌||◌, List, [], ◌∷◌, ◌++◌, refl, sym}
-use Rattle.std.proofs.Common.{ap, ap₂, ◌∙◌, subst, append-nil, arith}
+use Rattle.std.proofs.Common.{ap, ap₂, ◌∙◌, append-nil, arith}
 use Rattle.std.specs.Prelude.{Some}
 use Rattle.std.proofs.lemmas.Bool.{and_parts, and_from}
 use Rattle.std.proofs.lemmas.List.Folds.{list_all-append}
@@ -116,15 +116,14 @@ stands-text {content = content} {x = b ∷ bytes} h s = record {
 pub stands-void : {nested : Bool} {content : Content} {name : List ℕ} →
     is_one_of (voids_in content) name ≡ true → Single any_attribute (Stands nested content) name
 stands-void {nested} {content} {name} v = record {
-  tag = λ attributes h a. subst (λ x. Stands nested content (60 ∷ (name ++ x)))
-      (written_attributes-before attributes (32 ∷ 47 ∷ 62 ∷ [])) (record {
-        forest = Void name attributes Empty;
-        reading = record {
-          in_grammar = and_from (is_tag void_tags name attributes) true h refl;
-          written_so = refl;
-        };
-        contained = and_from (is_one_of (voids_in content) name) true v refl;
-      });
+  tag = λ attributes h a. rw (← (written_attributes-before attributes (32 ∷ 47 ∷ 62 ∷ []))) (record {
+    forest = Void name attributes Empty;
+    reading = record {
+      in_grammar = and_from (is_tag void_tags name attributes) true h refl;
+      written_so = refl;
+    };
+    contained = and_from (is_one_of (voids_in content) name) true v refl;
+  });
 }
 
 -- an element may stand there and holds this
@@ -150,9 +149,8 @@ stands-element {nested} {content} name attributes inside h opens within = record
 pub stands-tag : {nested : Bool} {content : Content} (held : Content) {name : List ℕ} →
     Opens nested content held name → Tagged any_attribute (Stands nested held)
     (Stands nested content) name
-stands-tag {nested} {content} held {name} opens = record {
-  tag = λ attributes inside h a within. subst (λ x. Stands nested content (60 ∷ (name ++ x)))
-      (written_attributes-before attributes (62 ∷ (inside ++ (60 ∷ 47 ∷ (name ++ (62 ∷ []))))))
+stands-tag held {name} opens = record {
+  tag = λ attributes inside h a within. rw (← (written_attributes-before attributes _))
       (stands-element name attributes inside h opens within);
 }
 
@@ -209,10 +207,10 @@ takes-white is = record {
 pub turns-tag : {nested : Bool} (held : Content) {content : Content} {name : List ℕ} →
     Opens nested content held name → TurnsTag any_attribute (Stands nested held)
     (Stands nested content) name
-turns-tag {nested} held {content} {name} opens = record {
+turns-tag held {name = name} opens = record {
   tag = λ attributes h a. record {
-    turn = λ x r. subst (Stands nested content) (sym
-        (opening-before name attributes (x ++ closing_tag name))) (stands-element _ _ x h opens r);
+    turn = λ x r. rw (opening-before name attributes (x ++ closing_tag name)) (stands-element _ _ x
+        h opens r);
   };
 }
 

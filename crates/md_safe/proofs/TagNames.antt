@@ -1,6 +1,6 @@
 -- The name of a tag, and the names of its attributes, byte after byte.
-use Rattle.std.proofs.Common.{◌≡◌, ℕ, ◌==◌, true, false, not, List, [], ◌∷◌, ◌++◌, refl, sym, ap}
-use Rattle.std.proofs.Common.{subst, append-nil, append_assoc, arith}
+use Rattle.std.proofs.Common.{◌≡◌, ℕ, ◌==◌, true, false, not, List, [], ◌∷◌, ◌++◌, refl, ap}
+use Rattle.std.proofs.Common.{append-nil, append_assoc, arith}
 use Rattle.std.specs.List.{list_all}
 use Rattle.std.proofs.lemmas.Bool.{and_parts}
 use Rattle.md_base.proofs.Lies.{lie}
@@ -43,12 +43,11 @@ pub name-leads : {left : List ℕ} (S : List ℕ → State) → ((before : List 
     IsGoodByte b → step (S before) (b ∷ rest) ≡ Goes [] (S (before ++ (b ∷ []))) rest) →
     (before name r : List ℕ) (t : List Token) → list_all is_good_byte name ≡ true →
     To left (S (before ++ name)) r t → To left (S before) (name ++ r) t
-name-leads {left = left} S steps before [] r t g h = subst (λ n. To left (S n) r t)
-    (append-nil before) h
-name-leads {left = left} S steps before (b ∷ name) r t g h =
+name-leads S steps before [] r t g h = rw append-nil at h
+name-leads S steps before (b ∷ name) r t g h =
     let p = and_parts _ _ g in
-    quiet (steps before b (name ++ r) (good_parts b p.0)) (name-leads S steps (before ++ (b ∷ []))
-    name r t p.1 (subst (λ n. To left (S n) r t) (sym (append_assoc before (b ∷ []) name)) h))
+    quiet (steps before b (name ++ r) (good_parts b p.0))
+    (name-leads S steps (before ++ (b ∷ [])) name r t p.1 (rw append_assoc h))
 
 pub attribute_name_step : (tag : Tag) (b : ℕ) (rest : List ℕ) → IsGoodByte b →
     step (AttributeName tag) (b ∷ rest) ≡ Goes [] (AttributeName (with_name tag (b ∷ []))) rest
