@@ -180,13 +180,15 @@ means nested d (Node name start end children rest) around before content f =
       placed = f.placed.2;
       ready = rw (after-blocks name children) at
           (ready-after t name here f.built.0 f.built.2 found f.ready);
-      heading = on-either (Stands nested Phrasing) here.found.heading before.heading one.heading f.heading;
+      heading = on-either (Stands nested Phrasing) here.found.heading before.heading one.heading
+          f.heading;
       linked = f.linked;
       unnested = λ no. unnested-after name around.in_link start end children rest (f.unnested no);
     }) in
     record {
       prints = lays-both one.prints later.prints;
-      heading = on-later (Stands nested Phrasing) here.found.heading others.found.heading one.heading
+      heading = on-later (Stands nested Phrasing) here.found.heading others.found.heading
+          one.heading
           later.heading;
       texts = texts-append (Stands nested Flow) here.footnotes others.footnotes one.texts
           later.texts;

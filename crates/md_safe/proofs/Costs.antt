@@ -172,7 +172,12 @@ through-spent d w p name waits m is b =
       notes = b.notes;
       prints = b.prints;
       heading = subst (λ through. Waiting w (waits_after waits p.children) b.left
-          (unwrap_or (inner_of d p name).found.heading (cond through p.before.heading []))) is b.heading;
+          (unwrap_or (inner_of d p name).found.heading (cond through p.before.heading []))) is
+          b.heading;
       texts = rw append-nil b.texts;
-      few = omega (b.few, ap (due d w p.before.calls) (append-nil (inner_of d p name).calls), arith);
+      few = omega (
+        b.few,
+        ap (due d w p.before.calls) (append-nil (inner_of d p name).calls),
+        arith,
+      );
     })

@@ -119,7 +119,8 @@ ready-after {s = s} {content = content} t name here stands built own r = record 
       r.follows;
   whole = asked-after-node (IsWhole s.p) content name t.children r.whole;
   heading = asked-after-node (Reads s (before_next t name here).heading) content name t.children
-      (λ is. on-either (Reads s) here.found.heading t.before.heading (own.heading is) (r.heading is));
+      (λ is. on-either (Reads s) here.found.heading t.before.heading (own.heading is) (r.heading
+      is));
 }
 
 pub means : (s : Setting) (forest : Forest) (around : Surroundings) (before : Before)
@@ -178,7 +179,8 @@ means s (Node name start end children rest) around before content built r =
         heading = λ is. on-later (Reads s) here.found.heading others.found.heading (own.heading is)
             (after.found.heading (blocks-after-node content name children is));
         title = on-later Escaped _ _ own.title after.found.title;
-        resource = on-later (λ (target : Target). IsEscapedTitle target.title) _ _ own.resource after.found.resource;
+        resource = on-later (λ (target : Target). IsEscapedTitle target.title) _ _ own.resource
+            after.found.resource;
       };
       titles = titles-append _ _ (titles-append _ _ within.titles (cond_both (named Definition name)
           (defined ∷ []) [] AreTitles (λ _. (within.found.title, tt)) (λ _. tt))) after.titles;

@@ -116,14 +116,16 @@ stands-text {content = content} {x = b ∷ bytes} h s = record {
 pub stands-void : {nested : Bool} {content : Content} {name : List ℕ} →
     is_one_of (voids_in content) name ≡ true → Single any_attribute (Stands nested content) name
 stands-void {nested} {content} {name} v = record {
-  tag = λ attributes h a. rw (← (written_attributes-before attributes (32 ∷ 47 ∷ 62 ∷ []))) (record {
-    forest = Void name attributes Empty;
-    reading = record {
-      in_grammar = and_from (is_tag void_tags name attributes) true h refl;
-      written_so = refl;
-    };
-    contained = and_from (is_one_of (voids_in content) name) true v refl;
-  });
+  tag = λ attributes h a.
+      let end = written_attributes-before attributes (32 ∷ 47 ∷ 62 ∷ []) in
+      rw (← end) (record {
+        forest = Void name attributes Empty;
+        reading = record {
+          in_grammar = and_from (is_tag void_tags name attributes) true h refl;
+          written_so = refl;
+        };
+        contained = and_from (is_one_of (voids_in content) name) true v refl;
+      });
 }
 
 -- an element may stand there and holds this
