@@ -1,47 +1,84 @@
 -- The content model allows the meaning of a document's nodes: one induction over blocks, in
--- addition to that of `md_safe`, which covers strings, code and images.
-use Rattle.std.proofs.Common.{◌≡◌, Bool, true, false, ◌||◌, cond, [], ◌∷◌, refl, sym, ap, ◌∙◌}
-use Rattle.std.proofs.Common.{subst, append-nil}
-use Rattle.std.proofs.lemmas.Bool.{cond_both}
+-- addition to that of `Forests`, which covers strings, code and images.
+use Rattle.std.proofs.Common.{◌≡◌, ℕ, Bool, true, false, List, refl, sym, ◌≡◌, Bool, true, false}
+use Rattle.std.proofs.Common.{◌||◌, cond, [], ◌∷◌, refl, sym, ap, ◌∙◌, subst, append-nil}
+use Rattle.std.specs.Prelude.{Option}
 use Rattle.md_base.proofs.Lies.{lie}
 use Rattle.md_base.specs.declared.event.Name.{Name}
 use Rattle.md_base.specs.declared.event.Name.TheVariants as name_variants
+use name_variants.{Other, BlockQuotePrefix, SpaceOrTab, HeadingSetextText, GfmFootnoteDefinition}
 use name_variants.{GfmFootnoteDefinition}
 use Rattle.md_base.specs.Is.{is as named}
-use Rattle.md_base.specs.Tree.{Forest, Empty, Node}
 use Rattle.md_base.specs.NameTests.{is_transparent}
+use Rattle.md_meaning.specs.Meaning.At.{Footnote, At, Footnote, Before, At, identifier_of}
+use Rattle.md_meaning.specs.Meaning.Layout.{layout, layout, when}
+use Rattle.md_meaning.specs.Meaning.Nodes.{Outcome, found_at, Outcome, node, before_next, outcome}
+use Rattle.md_safe.proofs.Laid.{adds-alone}
+use Rattle.md_safe.proofs.Findings.{AreTexts, AreFound, texts-append}
+use Rattle.md_safe.proofs.Costs.{Document, through-node, Document, read_in}
+use Rattle.md_safe.specs.Contents.{Content, Flow, Phrasing, Content, Phrasing, Flow}
+use Rattle.md_safe.specs.Placed.{Block, sort_of, may_stand as may_place, sort_of, IsPlaced}
+use Rattle.md_safe.specs.Placed.{may_stand as may_place}
+use Rattle.md_safe.proofs.Linking.{with_links, is_spans, with_links, place_in, inner_place}
+use Rattle.md_safe.proofs.Linking.{inner-place-with, IsLinked, linked-inside, unnested-inside}
+use Rattle.md_safe.proofs.Linking.{unnested-after, unlinked-here, unlinked-spans}
+use Rattle.md_safe.proofs.Stands.{Stands, Stands, IsWhite, stands-nothing}
+use Rattle.md_safe.proofs.ContainedLaid.{Own, lays-nothing, lays-both, Prints, standing, Own}
+use Rattle.md_safe.proofs.Cases.{OnSome, on-later, on-either, cases}
+use Rattle.std.proofs.lemmas.Bool.{cond_both}
+use Rattle.md_base.specs.Tree.{Forest, Empty, Node}
 use Rattle.md_pattern.specs.Looseness.{is_loose}
 use Rattle.md_meaning.specs.declared.surroundings.Surroundings.{Surroundings}
 use Rattle.md_meaning.specs.Meaning.Inherited.{inside}
-use Rattle.md_meaning.specs.Meaning.At.{Footnote, Before, At, identifier_of}
 use Rattle.md_meaning.specs.Meaning.Before.{before_children}
-use Rattle.md_meaning.specs.Meaning.Layout.{layout, when}
-use Rattle.md_meaning.specs.Meaning.Nodes.{Outcome, node, before_next, outcome}
 use Rattle.md_content.specs.Built.{Blocks, is_part, is_source, may_stand, content_of}
 use Rattle.md_content.specs.Built.{content_inside, IsBuilt}
 use Rattle.md_safe.proofs.Following.{second}
 use Rattle.md_safe.proofs.Insides.{is_blocks, is_blocks-same}
 use Rattle.md_safe.proofs.Nodes.{not_part}
-use Rattle.md_safe.proofs.Findings.{AreFound, texts-append}
 use Rattle.md_safe.proofs.Forests.{Ready, ready-inside, ready-after, inside-means, found-at}
 use Rattle.md_safe.proofs.Forests.{Means as SafeMeans, means as safe-means}
-use Rattle.md_safe.proofs.Costs.{through-node, Document, read_in}
 use Rattle.md_safe.proofs.PlainCosts.{no_footnotes}
-use Rattle.md_safe.specs.Contents.{Content, Phrasing, Flow}
 use Rattle.md_safe.specs.Links.{has_nested_link}
-use Rattle.md_safe.specs.Placed.{sort_of, IsPlaced, may_stand as may_place}
-use Rattle.md_safe.proofs.Linking.{is_spans, with_links, place_in, inner_place, inner-place-with}
-use Rattle.md_safe.proofs.Linking.{IsLinked, linked-inside, unnested-inside, unnested-after}
-use Rattle.md_safe.proofs.Linking.{unlinked-here, unlinked-spans}
-use Rattle.md_safe.proofs.Stands.{Stands, IsWhite, stands-nothing}
-use Rattle.md_safe.proofs.ContainedLaid.{lays-nothing, lays-both, Prints, standing, Own}
-use Rattle.md_safe.proofs.FlowFindings.{IsHeading, AreFlow, heading-found, note-found}
-use Rattle.md_safe.proofs.Cases.{on-later, on-either, cases}
 use Rattle.md_safe.proofs.Contents.{after-blocks}
 use Rattle.md_safe.proofs.Claims.{Known}
 use Rattle.md_safe.proofs.SpanCases.{Spanning}
 use Rattle.md_safe.proofs.FlowCases.{solid-node}
 use Rattle.md_safe.proofs.Spot.{at_in}
+
+-- a heading's text that was found is phrasing content
+abbrev pub IsHeading : (nested : Bool) → Option (List ℕ) → Type 0
+IsHeading nested found = OnSome (Stands nested Phrasing) found
+
+-- the texts of some footnotes are flow content
+abbrev pub AreFlow : (nested : Bool) → List Footnote → Type 0
+AreFlow nested footnotes = AreTexts (Stands nested Flow) footnotes
+
+-- blocks stand in flow content
+block-flow : (content : Content) → may_place (with_links content) Block ≡ true → content ≡ Flow
+block-flow Flow h = refl
+block-flow _ h = lie h
+
+-- what a node that isn't transparent adds to the spine
+pub heading-found : (nested : Bool) (d : Document) (content : Content) (name : Name) (t : At)
+    (inner : Outcome) → is_transparent name ≡ false → may_place (with_links content) (sort_of name)
+    ≡ true → Own nested d content name inner.pieces → IsHeading nested (found_at t
+    name (layout d.context.ending inner.pieces)).heading
+heading-found nested d content HeadingSetextText t inner solid stands a =
+    adds-alone (rw (block-flow content stands) at (a refl))
+heading-found nested d content (Other number) t inner solid stands a = lie (sym solid)
+heading-found nested d content BlockQuotePrefix t inner solid stands a = lie (sym solid)
+heading-found nested d content SpaceOrTab t inner solid stands a = lie (sym solid)
+heading-found nested d content _ t inner solid stands a = tt
+
+-- the text of a footnote
+pub note-found : (nested : Bool) (d : Document) (content : Content) (name : Name)
+    (inner : Outcome) → named GfmFootnoteDefinition name ≡ true →
+    may_place (with_links content) (sort_of name) ≡ true → Own nested d content name inner.pieces →
+    Stands nested Flow (layout d.context.ending inner.pieces)
+note-found nested d content GfmFootnoteDefinition inner is stands a =
+    adds-alone (rw (block-flow content stands) at (a refl))
+note-found nested d content _ inner is stands a = lie is
 
 -- what nodes mean, where their content stands
 pub record Means (nested : Bool) (d : Document) (content : Content) (means : Outcome) : Type 0 where

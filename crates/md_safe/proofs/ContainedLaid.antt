@@ -5,15 +5,14 @@ use Rattle.md_safe.proofs.Laid.{Adds, adds-append, adds-weaker, adds-nothing, ad
 use Rattle.md_safe.specs.Contents.{Content, Phrasing}
 use Rattle.md_safe.proofs.Stands.{Stands, stands-join, stands-nothing, stands-white, takes-white}
 use Rattle.md_safe.proofs.Stands.{IsWhite, is_spaced, white_beside, line_ends-white, stands-text}
-use Rattle.md_safe.proofs.Stands.{turns-tag, stands-tag, stands-void}
-use Rattle.md_safe.proofs.Wider.{stands-wider}
+use Rattle.md_safe.proofs.Stands.{turns-tag, stands-tag, stands-void, stands-wider}
 use Rattle.md_safe.proofs.Costs.{Document, read_in}
 use Rattle.md_base.specs.declared.event.Name.{Name}
 use Rattle.md_safe.proofs.Claims.{Claims}
 use Rattle.md_safe.proofs.Insides.{is_blocks}
 use Rattle.md_content.specs.Built.{content_of, Blocks}
 use Rattle.md_safe.proofs.Linking.{place_in}
-use Rattle.md_safe.proofs.Cells.{adds-empty_cells}
+use Rattle.md_safe.proofs.Elements.{adds-empty_cells}
 
 -- what pieces add stands as this content
 abbrev pub Lays : (nested : Bool) → List ℕ → Content → List Piece → Type 0

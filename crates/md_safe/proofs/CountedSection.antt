@@ -30,13 +30,12 @@ use Rattle.md_safe.proofs.Calls.{label-escaped, id-escaped}
 use Rattle.md_safe.proofs.Spot.{Setting, Prints}
 use Rattle.md_safe.proofs.Section.{turn-after, li_id, item-prints, section-around, text_among}
 use Rattle.md_safe.proofs.Section.{heading_label_of}
-use Rattle.md_safe.proofs.Counted.{counts-heading, TextsCount}
+use Rattle.md_safe.proofs.Costs.{counts-heading, TextsCount, Document, counted_in, read_in}
+use Rattle.md_safe.proofs.Costs.{counts-none, Costs}
 use Rattle.md_safe.proofs.BlockNodes.{holds-none}
-use Rattle.md_safe.proofs.Costs.{Document, counted_in, read_in, counts-none, Costs}
 use Rattle.md_safe.proofs.CountedForest.{spent}
-use Rattle.md_safe.proofs.CallNumbers.{ids_after}
-use Rattle.md_safe.proofs.IdsOnce.{note_ids}
-use Rattle.md_safe.proofs.Distinct.{label_id, document-once}
+use Rattle.md_safe.proofs.NumberedIds.{ids_after}
+use Rattle.md_safe.proofs.IdsOnce.{note_ids, label_id, document-once}
 use Rattle.md_safe.proofs.Insides.{blocks-suit}
 
 -- the texts of the footnotes with some identifiers

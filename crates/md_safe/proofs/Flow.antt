@@ -27,7 +27,7 @@ use Rattle.md_safe.proofs.PhrasingRules.{is_inline, here-within}
 use Rattle.md_safe.proofs.Phrasing.{span-passes, phrasing-done, here-after, none-done, text-done}
 use Rattle.md_safe.proofs.Phrasing.{void-done, element-done, text-escaped, element-parts}
 use Rattle.md_safe.proofs.Tables.{table-passes}
-use Rattle.md_safe.proofs.FlowBlocks.{IsBlock, HasNoParagraph, block-passes, pre-passes, unclosed}
+use Rattle.md_safe.proofs.FlowRules.{IsBlock, HasNoParagraph, block-passes, pre-passes, unclosed}
 use Rattle.md_safe.proofs.FlowRules.{is_items, Holder, EndsItems, is_flowing, Ruled, flowing-rules}
 
 -- ---- all flow content

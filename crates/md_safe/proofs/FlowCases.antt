@@ -30,12 +30,11 @@ use Rattle.md_pattern.specs.Looseness.{is_loose}
 use Rattle.md_steps.proofs.Standing.{picked}
 use Rattle.md_text.specs.Html.{Attribute, elements, is_tag, opening_tag}
 use Rattle.md_safe.proofs.Cases.{either, cases}
-use Rattle.md_safe.proofs.Cells.{adds-cell_in}
+use Rattle.md_safe.proofs.Elements.{adds-cell_in, adds-ordered, class-passes, code_closing}
+use Rattle.md_safe.proofs.Elements.{heading_name, item-end, ranked}
 use Rattle.md_safe.proofs.Claims.{Claims, Known, NodePrints, Own, Prints, alone, blank-around}
 use Rattle.md_safe.proofs.Claims.{block-pair, ending-around, lined, nothing, plain_tag, turned}
 use Rattle.md_safe.proofs.Contents.{Holds}
-use Rattle.md_safe.proofs.Elements.{adds-ordered, class-passes, code_closing, heading_name}
-use Rattle.md_safe.proofs.Elements.{item-end, ranked}
 use Rattle.md_safe.proofs.FenceNodes.{inside-is}
 use Rattle.md_safe.proofs.FlowNodes.{in-raw, is_flow, is_math, line-escaped, raw-prints, raw_tag}
 use Rattle.md_safe.proofs.FlowNodes.{setext-fits}

@@ -1,23 +1,109 @@
--- Which names may stand before a node's children, and before what follows it; blocks occur only in
--- blocks, and a condition on blocks alone covers no more after nodes.
-use Rattle.std.proofs.Common.{◌≡◌, ℕ, Bool, true, false, ◌||◌, cond, List, [], ◌∷◌, ◌++◌, refl, sym}
-use Rattle.std.proofs.Common.{◌∙◌, subst, append_assoc, append-nil}
-use Rattle.std.specs.List.{list_any}
-use Rattle.std.proofs.lemmas.Bool.{cond_both, or_left, or_right}
+-- The surroundings of a node suit its children and what follows it. Which names may stand before a
+-- node's children, and before what follows it; blocks occur only in blocks, and a condition on blocks
+-- alone covers no more after nodes. After a node's children, and after it, no first fence is to come.
+use Rattle.std.proofs.Common.{◌≡◌, Bool, true, false, ◌||◌, refl, sym, ◌∙◌, ap, subst, ◌≡◌, ℕ, Bool}
+use Rattle.std.proofs.Common.{true, false, ◌||◌, cond, List, [], ◌∷◌, ◌++◌, refl, sym, ◌∙◌, subst}
+use Rattle.std.proofs.Common.{append_assoc, append-nil, ◌≡◌, ℕ, true, false, List, [], refl, sym}
+use Rattle.std.proofs.Common.{◌∙◌}
+use Rattle.std.proofs.lemmas.Bool.{cond_both, cond_both, or_left, or_right}
 use Rattle.md_base.proofs.Lies.{lie}
 use Rattle.md_base.specs.declared.event.Name.{Name}
-use Rattle.md_base.specs.declared.event.Name.TheVariants.{LineEnding}
-use Rattle.md_base.specs.Tree.{Forest, Empty, Node}
-use Rattle.md_base.specs.NameTests.{is_transparent, is_fence as fence_name}
+use Rattle.md_base.specs.declared.event.Name.TheVariants.{Image, LineEnding}
+use Rattle.md_base.specs.Is.{is as named}
+use Rattle.md_base.specs.Tree.{Forest, Forest, Empty, Node, Forest}
+use Rattle.md_text.specs.declared.options.CompileOptions.{CompileOptions}
+use Rattle.md_meaning.specs.declared.surroundings.Surroundings.{Surroundings}
+use Rattle.md_meaning.specs.Meaning.Inherited.{inside}
+use Rattle.md_content.specs.Built.{Content, Blocks, is_source, may_stand, content_of, content_past}
+use Rattle.md_content.specs.Built.{content_after_node, Content, FirstFence, FirstMathFence, Chunks}
+use Rattle.md_content.specs.Built.{InfoAndMeta, MetaAlone, Nothing, is_fence, is_info, may_stand}
+use Rattle.md_content.specs.Built.{content_of, content_past, content_after, content_inside}
+use Rattle.md_content.specs.Built.{content_after_node, IsBuilt, Content, FirstFence, FirstMathFence}
+use Rattle.md_content.specs.Built.{is_fence, may_stand, content_of, content_after, IsBuilt, IsFit}
+use Rattle.md_safe.proofs.Contents.{stays-after, Follows, spine_after_node, stays-after, is_first}
+use Rattle.md_safe.proofs.Contents.{stays-after, Follows}
+use Rattle.md_safe.proofs.Insides.{allowed_inside, is_blocks, of-blocks, is_blocks-same, Suits}
+use Rattle.md_safe.proofs.Insides.{past_of, is_chunks, allowed_inside, is_blocks, of-blocks}
+use Rattle.md_safe.proofs.Insides.{past_of, is_raw, allowed_inside, past_of}
+use Rattle.md_safe.proofs.Cases.{either, cases, cases}
+use Rattle.std.specs.List.{list_any}
+use Rattle.md_base.specs.NameTests.{is_transparent, is_fence as fence_name, is_fence as fence_name}
 use Rattle.md_base.specs.Children.{spine_names}
-use Rattle.md_content.specs.Built.{Content, FirstFence, FirstMathFence, Chunks, InfoAndMeta}
-use Rattle.md_content.specs.Built.{MetaAlone, Nothing, is_fence, is_info, may_stand, content_of}
-use Rattle.md_content.specs.Built.{content_past, content_after, content_inside, content_after_node}
-use Rattle.md_content.specs.Built.{IsBuilt}
-use Rattle.md_safe.proofs.Contents.{Follows, spine_after_node, stays-after}
-use Rattle.md_safe.proofs.Insides.{is_chunks, allowed_inside, is_blocks, of-blocks, past_of}
 use Rattle.std.proofs.lemmas.List.Folds.{list_any-append}
-use Rattle.md_safe.proofs.Cases.{cases}
+use Rattle.md_base.specs.declared.event.Point.{Point}
+use Rattle.md_safe.proofs.FlowNodes.{has-fence}
+
+pub suits-after-node : (escaping in_image : Bool) (content : Content) (name : Name)
+    (children : Forest) → Suits escaping in_image content → Suits escaping
+    in_image (content_after_node content name children)
+suits-after-node escaping in_image content name children h =
+    cond_both _ _ _ (Suits escaping in_image)
+    (λ _. stays-after (Suits escaping in_image) past content children h) (λ _. past content name h)
+  where
+    past : (content : Content) (name : Name) → Suits escaping in_image content →
+        Suits escaping in_image (content_past content name)
+    past content name h =
+        let after = past_of content name in
+        record {
+          escaped = λ asks. h.escaped (after.escaping asks);
+          image = λ asks. h.image (after.image asks);
+          outside = λ is. h.outside (after.blocks is);
+        }
+
+-- images alone begin an image, and no blocks stand in them
+still-outside : (options : CompileOptions) (loose : Bool) (around : Surroundings) (name : Name) →
+    is_blocks (content_of name Blocks) ≡ true → around.in_image ≡ false →
+    (inside options loose name around).in_image ≡ false
+still-outside options loose around Image blocks out = lie blocks
+still-outside options loose around _ blocks out = out
+
+-- if HTML is escaped, escaped text stays so, except in the targets of links
+keeps-escaping : (options : CompileOptions) (loose : Bool) (around : Surroundings) (name : Name) →
+    (is_source name || (inside (record options { allow_dangerous_html = false }) loose name
+    (record around { is_escaping = true })).is_escaping) ≡ true
+keeps-escaping options loose around Image = refl
+keeps-escaping options loose around _ = refl
+
+keeps-image : (options : CompileOptions) (loose : Bool) (around : Surroundings) (name : Name) →
+    (inside options loose name (record around { in_image = true })).in_image ≡ true
+keeps-image options loose around Image = refl
+keeps-image options loose around _ = refl
+
+in-image : (options : CompileOptions) (loose : Bool) (around : Surroundings) (name : Name) →
+    named Image name ≡ true → (inside options loose name around).in_image ≡ true
+in-image options loose around Image is = refl
+in-image options loose around _ is = lie is
+
+-- the surroundings of a node's children suit them
+pub suits-inside : (options : CompileOptions) → options.allow_dangerous_html ≡ false →
+    (loose : Bool) (around : Surroundings) (content : Content) (name : Name) →
+    may_stand content name ≡ true → Suits around.is_escaping around.in_image content → Suits
+    (inside options loose name around).is_escaping
+    (inside options loose name around).in_image (content_of name content)
+suits-inside options html loose around content name s h = record {
+  escaped = λ asks.
+      let needs = (allowed_inside content name s).escaping asks in
+      escaping (h.escaped needs.0) needs.1;
+  image = λ asks. either _ _ ((allowed_inside content name s).image asks)
+      (λ within. image (h.image within)) (in-image options loose around name);
+  outside = λ is. still-outside options loose around name (subst (λ c. is_blocks (content_of name c)
+      ≡ true) (is_blocks-same content (of-blocks content name is)) is) (h.outside (of-blocks content
+      name is));
+}
+  where
+    escaping : around.is_escaping ≡ true → is_source name ≡ false →
+        (inside options loose name around).is_escaping ≡ true
+    escaping e out = subst (λ b. (inside (record options { allow_dangerous_html = b }) loose name
+        around).is_escaping ≡ true) (sym html) (subst (λ b. (inside
+        (record options { allow_dangerous_html = false }) loose name
+        (record around { is_escaping = b })).is_escaping ≡ true) (sym e) (ap (λ b. b || (inside
+        (record options { allow_dangerous_html = false }) loose name
+        (record around { is_escaping = true })).is_escaping) (sym out) ∙ keeps-escaping options
+        loose around name))
+
+    image : around.in_image ≡ true → (inside options loose name around).in_image ≡ true
+    image e = subst (λ b. (inside options loose name (record around { in_image = b })).in_image
+        ≡ true) (sym e) (keeps-image options loose around name)
 
 -- the two tests of fences are one
 pub same_fence : (name : Name) → is_fence name ≡ fence_name name
@@ -95,3 +181,43 @@ pub asked-after-node : (A : Type 0) (content : Content) (name : Name) (children 
 asked-after-node A content name children asked = cond_both _ _ _ (λ c. is_blocks c ≡ true → A) (λ _.
     stays-after (λ c. is_blocks c ≡ true → A) (λ c name asked h. asked ((past_of c name).blocks h))
     content children asked) (λ _ h. asked ((past_of content name).blocks h))
+
+abbrev IsLater : Content → Type 0
+IsLater content = is_first content ≡ false
+
+-- in a node without a fence of its own no first one is to come
+later-of : (content : Content) (name : Name) → is_raw name ≡ false →
+    may_stand content name ≡ true → IsLater (content_of name content)
+later-of content name plain s = cases (is_first (content_of name content))
+    (λ e. lie (sym plain ∙ (allowed_inside content name s).first e)) (λ e. e)
+
+later-after : (content : Content) (forest : Forest) → IsLater content →
+    IsLater (content_after content forest)
+later-after = stays-after IsLater (λ content name h. (past_of content name).later)
+
+-- after a fence no first one is to come
+later-fenced : (content : Content) (names : List Name) → Follows content names →
+    list_any fence_name names ≡ true →
+    IsLater content
+later-fenced FirstFence names f h = lie (sym f ∙ h)
+later-fenced FirstMathFence names f h = lie (sym f ∙ h)
+later-fenced _ names f h = refl
+
+fenced-after : (bytes : List ℕ) (content : Content) (children : Forest) →
+    IsBuilt bytes content children →
+    Follows content [] → list_any is_fence (spine_names children) ≡ true →
+    IsLater (content_after content children)
+fenced-after bytes content children built f h =
+    later-fenced (content_after content children) (spine_names children)
+    (follows-after bytes content [] children built f) (sym (same_fences (spine_names children)) ∙ h)
+
+-- after a node's children no first fence is to come
+pub later-inside :
+    (bytes : List ℕ) (content : Content) (name : Name) (start end : Point) (children : Forest) →
+    may_stand content name ≡ true → IsFit bytes name start end children →
+    IsBuilt bytes (content_of name content) children
+    → IsLater (content_after (content_of name content) children)
+later-inside bytes content name start end children s fit built = cases (is_raw name)
+    (λ is. fenced-after bytes (content_of name content) children built
+    (follows-inside content name s) (has-fence bytes name start end children is fit))
+    (λ plain. later-after (content_of name content) children (later-of content name plain s))

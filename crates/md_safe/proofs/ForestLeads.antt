@@ -11,14 +11,13 @@ use Rattle.md_safe.specs.Input.{with_line_feeds, begins_with_line_feed}
 use Rattle.md_safe.specs.Token.{Token, EndTag}
 use Rattle.md_safe.specs.TokenizerStates.{Data}
 use Rattle.md_safe.specs.Tokens.{tokens}
-use Rattle.md_safe.proofs.TagNames.{good-no_return}
+use Rattle.md_safe.proofs.TagLeads.{good-no_return, lined, line_feeds-attributes, element-leads}
+use Rattle.md_safe.proofs.TagLeads.{void-leads, end-leads}
 use Rattle.md_safe.proofs.LineFeeds.{line_feeds-append, line_feeds-name, line_feeds-escaped}
 use Rattle.md_safe.proofs.GoodNames.{is_good_byte, is_good_name, begins_tag, are_good, element-good}
 use Rattle.md_safe.proofs.GoodNames.{void-good}
 use Rattle.md_safe.specs.Embedded.{EndsInDataState}
 use Rattle.md_safe.proofs.TextLeads.{To, arrived, text-leads}
-use Rattle.md_safe.proofs.TagLeads.{lined, line_feeds-attributes, element-leads, void-leads}
-use Rattle.md_safe.proofs.TagLeads.{end-leads}
 
 -- after a text no line feed comes, unless it comes after all
 pub after_text : (f : Forest) (r : List ℕ) → not (begins_with_text f) ≡ true →

@@ -24,18 +24,16 @@ use Rattle.md_content.specs.Built.{content_after_node, content_after, IsBuilt}
 use Rattle.md_safe.proofs.Contents.{stays-after, Holds, Follows}
 use Rattle.md_safe.proofs.Insides.{is_blocks, Suits, past_of}
 use Rattle.md_safe.proofs.Following.{inside-blocks, asked-after-node, second, follows-inside}
-use Rattle.md_safe.proofs.Following.{follows-after-node}
-use Rattle.md_safe.proofs.Suiting.{suits-inside, suits-after-node}
+use Rattle.md_safe.proofs.Following.{follows-after-node, suits-inside, suits-after-node}
 use Rattle.md_safe.proofs.Spot.{IsWhole, Setting, AreTitles, IsFitAt, Prints, Inside, at_in}
 use Rattle.md_safe.proofs.FlowNodes.{Reads}
 use Rattle.md_safe.proofs.BlockNodes.{holds-none}
 use Rattle.md_safe.proofs.Nodes.{Knows, any-node, inside-alone, Before as PrintsBefore}
 use Rattle.md_safe.proofs.Findings.{AreFound, AreRead, titles-append, texts-append}
 use Rattle.md_safe.proofs.Findings.{Inner, nothing-found, found-node, note-node}
-use Rattle.md_safe.proofs.Cases.{on-later, on-either}
+use Rattle.md_safe.proofs.Cases.{on-later, on-either, cases}
 use Rattle.md_safe.proofs.Texts.{Escaped}
 use Rattle.md_safe.proofs.Media.{IsEscapedTitle}
-use Rattle.md_safe.proofs.Cases.{cases}
 
 -- the surroundings of children suit them
 through-suits : (options : CompileOptions) (loose : Bool) (around : Surroundings)

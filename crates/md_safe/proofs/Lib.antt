@@ -6,14 +6,11 @@ pub mod Laid
 pub mod Tags
 pub mod Media
 pub mod Calls
-pub mod Cells
 pub mod Elements
 pub mod RawElements
 pub mod Contents
 pub mod Insides
-pub mod Suiting
 pub mod Following
-pub mod LaterFences
 pub mod Spot
 pub mod StringNodes
 pub mod SpanSorts
@@ -21,7 +18,6 @@ pub mod SpanNodes
 pub mod FlowNodes
 pub mod BlockNodes
 pub mod Stands
-pub mod Wider
 pub mod Linking
 pub mod Claims
 pub mod SpanCases
@@ -31,17 +27,11 @@ pub mod FenceNodes
 pub mod Nodes
 pub mod Findings
 pub mod Forests
-pub mod FootnoteBodies
 pub mod Section
-pub mod Counted
 pub mod NumberedIds
-pub mod CallNumbers
 pub mod IdsOnce
-pub mod Distinct
-pub mod Prefixes
 pub mod Costs
 pub mod PlainCosts
-pub mod SpecialCosts
 pub mod CountedForest
 pub mod CountedSection
 pub mod Prepared
@@ -50,8 +40,6 @@ pub mod WholeIds
 -- and of what stands in what.
 pub mod Placing
 pub mod ContainedLaid
-pub mod Paragraphs
-pub mod FlowFindings
 pub mod ContainedForests
 pub mod ContainedSection
 pub mod ContainedWhole
@@ -60,19 +48,15 @@ pub mod EscapedCases
 pub mod LineFeeds
 pub mod GoodNames
 pub mod Steps
-pub mod TagNames
 pub mod OneRun
 pub mod TokenTests
-pub mod NoProtocol
 pub mod Schemes
 pub mod SafeTokens
 pub mod PageRuns
 pub mod Tokenized
-pub mod Running
 -- of a text between two others,
 pub mod TextLeads
 pub mod TagLeads
-pub mod Seams
 pub mod ForestLeads
 pub mod Joining
 pub mod Between
@@ -81,13 +65,10 @@ pub mod Cuts
 pub mod Lists
 pub mod TreeSteps
 pub mod PhrasingNames
-pub mod FormattingElements
 pub mod PhrasingRules
 pub mod Phrasing
 pub mod TableTexts
-pub mod TableContents
 pub mod Tables
-pub mod FlowBlocks
 pub mod FlowRules
 pub mod Flow
 pub mod WholeTrees

@@ -26,8 +26,7 @@ use Rattle.md_safe.proofs.Laid.{adds-append, adds-text, adds-nothing, adds-weake
 use Rattle.md_safe.proofs.Elements.{IsDone}
 use Rattle.md_safe.proofs.Contents.{Holds, Follows, holds-nothing}
 use Rattle.md_safe.proofs.Insides.{is_blocks, Suits}
-use Rattle.md_safe.proofs.Following.{second}
-use Rattle.md_safe.proofs.LaterFences.{later-inside}
+use Rattle.md_safe.proofs.Following.{second, later-inside}
 use Rattle.md_safe.proofs.Spot.{IsWhole, Setting, IsFitAt, IsGoodTarget, Here, Prints, Inside}
 use Rattle.md_safe.proofs.StringNodes.{string-node, is_text, text-node}
 use Rattle.md_safe.proofs.SpanNodes.{is_shown, shown-in_image, autolink-in_image}

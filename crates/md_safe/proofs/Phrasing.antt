@@ -17,9 +17,8 @@ use Rattle.md_safe.proofs.Lists.{later-created, keeps-none}
 use Rattle.md_safe.proofs.TreeSteps.{Position, parser_of, with_children, within, after, after-one}
 use Rattle.md_safe.proofs.TreeSteps.{characters-run, same-open, seen-characters}
 use Rattle.md_safe.proofs.PhrasingNames.{Here, Done, void-step, Passed, is_free, found}
-use Rattle.md_safe.proofs.FormattingElements.{ordinary-passes, formatting-passes}
-use Rattle.md_safe.proofs.PhrasingRules.{Rule, here-formatting, here-within, is_inline, rules}
-use Rattle.md_safe.proofs.PhrasingRules.{void-in}
+use Rattle.md_safe.proofs.PhrasingRules.{ordinary-passes, formatting-passes, Rule, here-formatting}
+use Rattle.md_safe.proofs.PhrasingRules.{here-within, is_inline, rules, void-in}
 
 -- after what was inserted
 pub here-after : {x : Position} {children : Nodes} {left : List Entry} {more : ℕ} {free : Bool} →

@@ -20,10 +20,9 @@ use Rattle.md_safe.proofs.Insides.{is_blocks, is_blocks-same}
 use Rattle.md_safe.proofs.Following.{inside-blocks, asked-after-node}
 use Rattle.md_safe.proofs.Spot.{Inside}
 use Rattle.md_safe.proofs.Forests.{Ready, Means, means, inside-means}
-use Rattle.md_safe.proofs.Counted.{Waiting}
-use Rattle.md_safe.proofs.Costs.{Document, read_in, Place, inner_around, inner_before, inner_of}
-use Rattle.md_safe.proofs.Costs.{counted_in, Costs, at_of, here_of, Below, cost-least, no-footnote}
-use Rattle.md_safe.proofs.Costs.{place_at}
+use Rattle.md_safe.proofs.Costs.{Waiting, Document, read_in, Place, inner_around, inner_before}
+use Rattle.md_safe.proofs.Costs.{inner_of, counted_in, Costs, at_of, here_of, Below, cost-least}
+use Rattle.md_safe.proofs.Costs.{no-footnote, place_at}
 use Rattle.md_safe.proofs.Laid.{Adds}
 use Rattle.md_text.proofs.HtmlIds.{Counts}
 use Rattle.md_safe.proofs.ReadingNodes.{block-node}

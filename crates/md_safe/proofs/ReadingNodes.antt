@@ -10,7 +10,7 @@ use Rattle.md_meaning.specs.Meaning.Layout.{Piece}
 use Rattle.md_meaning.specs.Meaning.Means.{prints}
 use Rattle.md_text.proofs.EscapedLemmas.{escaped-append}
 use Rattle.md_text.proofs.HtmlJoin.{join, nothing, text}
-use Rattle.md_safe.proofs.Cells.{adds-empty_cells}
+use Rattle.md_safe.proofs.Elements.{adds-empty_cells}
 use Rattle.md_safe.proofs.Claim.{plain_of}
 use Rattle.md_safe.proofs.Claims.{Claims, Known}
 use Rattle.md_safe.proofs.FlowCases.{solid-node}

@@ -1,18 +1,19 @@
 -- Texts that a content allows: the empty text, a plain text, tags around their content, and two
--- such texts joined.
+-- such texts joined. What stands among spans stands among blocks.
 use Rattle.std.specs.List.{list_all}
 use Rattle.std.specs.Option.{option_map_or}
 use Rattle.std.proofs.Common.{◌≡◌, ℕ, ◌==◌, Bool, true, false, ◌||◌, List, [], ◌∷◌, ◌++◌, refl, sym}
-use Rattle.std.proofs.Common.{ap, ap₂, ◌∙◌, append-nil, arith}
-use Rattle.std.specs.Prelude.{Some}
-use Rattle.std.proofs.lemmas.Bool.{and_parts, and_from}
+use Rattle.std.proofs.Common.{ap, ap₂, ◌∙◌, append-nil, arith, ◌≡◌, ℕ, Bool, true, false, List, []}
+use Rattle.std.proofs.Common.{◌∷◌, ◌++◌, refl, ap, ◌∙◌, arith}
+use Rattle.std.specs.Prelude.{Some, Option, Some, None, find, option_map}
+use Rattle.std.proofs.lemmas.Bool.{and_parts, and_from, and_parts, and_from, or_right}
 use Rattle.std.proofs.lemmas.List.Folds.{list_all-append}
 use Rattle.md_base.proofs.Lies.{lie}
 use Rattle.md_text.specs.Laws.{is_line_ends}
 use Rattle.md_text.specs.Bytes.{is_one_of}
 use Rattle.md_text.specs.Html.{Attribute, Forest, Empty, Text, Void, Element, is_tag, elements}
 use Rattle.md_text.specs.Html.{void_tags, written_attributes, opening_tag, closing_tag, IsReading}
-use Rattle.md_text.specs.Html.{any_attribute}
+use Rattle.md_text.specs.Html.{any_attribute, Forest, Empty, Text, Void, Element}
 use Rattle.md_text.proofs.HtmlJoin.{text_before, joined, after_forest, opening-before}
 use Rattle.md_text.proofs.HtmlReading.{only_reading, all-any}
 use Rattle.md_text.proofs.HtmlWriting.{written_attributes-before}
@@ -22,8 +23,10 @@ use Rattle.md_safe.proofs.Laid.{IsBeside}
 use Rattle.md_safe.proofs.Tags.{Turns, TurnsTag, Tagged, Single, Takes}
 use Rattle.md_safe.specs.Contents.{Content, Flow, Phrasing, Linked, Preformatted, Characters}
 use Rattle.md_safe.specs.Contents.{held_in, voids_in, is_space, may_say, is_contained}
-use Rattle.md_safe.specs.Contents.{IsContainedAs}
+use Rattle.md_safe.specs.Contents.{IsContainedAs, Content, Flow, Phrasing, span_elements}
+use Rattle.md_safe.specs.Contents.{block_elements, is_contained}
 use Rattle.md_safe.proofs.Cases.{all-weaker}
+use Rattle.std.specs.Str.{bytes_eq}
 
 -- a text has a reading in which everything stands where it may
 pub record Stands (nested : Bool) (content : Content) (x : List ℕ) : Type 0 where
@@ -220,3 +223,44 @@ pub turns-plain : {nested : Bool} {held content : Content} (name : List ℕ) →
     is_tag elements name [] ≡ true → Opens nested content held name →
     Turns (Stands nested held) (Stands nested content) (opening_tag name []) (closing_tag name)
 turns-plain {held = held} name h opens = (turns-tag held opens).tag [] h refl
+
+find-first : {A : Type 0} (test : A → Bool) (xs ys : List A) (x : A) → find test xs ≡ Some x →
+    find test (xs ++ ys) ≡ Some x
+find-first test [] ys x e = cc
+find-first test (first ∷ xs) ys x e = grind (arith, find-first test xs ys x)
+
+held-wider : (nested : Bool) (name : List ℕ) (inner : Forest) →
+    is_held nested Phrasing name inner ≡ true →
+    is_held nested Flow name inner ≡ true
+held-wider nested name inner h =
+    by (find test (span_elements nested)) (find-first test (span_elements nested) block_elements) h
+  where
+    test : List ℕ × Content → Bool
+    test element = bytes_eq element.0 name
+
+    by : (found : Option (List ℕ × Content)) → ((element : List ℕ × Content) → found ≡ Some element
+        → find test (span_elements nested ++ block_elements) ≡ Some element) →
+        option_map_or (λ held. is_contained nested held inner)
+        (option_map (λ element. element.1) found) false ≡ true →
+        is_held nested Flow name inner ≡ true
+    by None e h = lie h
+    by (Some element) e h = ap (λ found. option_map_or (λ held. is_contained nested held inner)
+        (option_map (λ element. element.1) found) false) (e element refl) ∙ h
+
+contained-wider : (nested : Bool) (f : Forest) → is_contained nested Phrasing f ≡ true →
+    is_contained nested Flow f ≡ true
+contained-wider nested Empty h = refl
+contained-wider nested (Text bytes rest) h = contained-wider nested rest h
+contained-wider nested (Void name attributes rest) h =
+    let parts = and_parts _ _ h in
+    and_from _ _ (or_right _ _ parts.0) (contained-wider nested rest parts.1)
+contained-wider nested (Element name attributes inner rest) h =
+    let parts = and_parts _ _ h in
+    and_from _ _ (held-wider nested name inner parts.0) (contained-wider nested rest parts.1)
+
+pub stands-wider : {nested : Bool} (x : List ℕ) → Stands nested Phrasing x → Stands nested Flow x
+stands-wider {nested} x h = record {
+  forest = h.forest;
+  reading = h.reading;
+  contained = contained-wider nested h.forest h.contained;
+}

@@ -1,10 +1,17 @@
--- No id stands twice in the meaning of a document, nor in two documents whose prefixes are apart.
-use Rattle.std.specs.Str.{bytes_eq}
-use Rattle.std.proofs.Common.{◌≡◌, ◌⊎◌, inl, inr, ℕ, ◌||◌, Bool, true, false, not, List, [], ◌∷◌}
-use Rattle.std.proofs.Common.{◌++◌, length, ◌<◌, ◌^◌, ◌+◌, ◌≤◌, arith, refl, sym, ap, ◌∙◌, codes}
+-- No id stands twice in the meaning of a document, nor in two documents whose prefixes are apart: an
+-- id by number determines its prefix, since what follows it begins with `fn`, and has no other `fn`.
+use Rattle.std.proofs.Common.{◌≡◌, ℕ, ◌≤◌, ◌==◌, Bool, true, false, ◌&&◌, ◌||◌, List, [], ◌∷◌, ◌++◌}
+use Rattle.std.proofs.Common.{refl, sym, ap, ◌∙◌, arith, codes, bytes_eq, append-nil, ◌≡◌, ◌⊎◌, inl}
+use Rattle.std.proofs.Common.{inr, ℕ, ◌||◌, Bool, true, false, not, List, [], ◌∷◌, ◌++◌, length}
+use Rattle.std.proofs.Common.{◌<◌, ◌^◌, ◌+◌, ◌≤◌, arith, refl, sym, ap, ◌∙◌, codes}
+use Rattle.std.specs.List.{list_any, list_all, list_any}
 use Rattle.std.specs.Fmt.{decimal}
-use Rattle.std.specs.List.{list_any}
-use Rattle.std.proofs.lemmas.Bool.{and_from, or_left, or_right}
+use Rattle.std.proofs.lemmas.Bool.{or_right, and_from, or_left, or_right}
+use Rattle.md_base.proofs.Lies.{lie}
+use Rattle.md_text.proofs.HtmlIds.{occurs, occurs, counted-once}
+use Rattle.md_content.specs.Built.{is_digit, Blocks, IsBuilt}
+use Rattle.md_safe.proofs.Texts.{decimal-digits}
+use Rattle.std.specs.Str.{bytes_eq}
 use Rattle.md_base.specs.declared.event.Name.TheVariants.{GfmFootnoteCall}
 use Rattle.md_text.specs.Html.{Forest as Html, IsReading}
 use Rattle.md_text.proofs.HtmlReading.{one_reading}
@@ -14,7 +21,6 @@ use Rattle.md_base.specs.Is.{is as named}
 use Rattle.md_base.specs.Tree.{Forest, Empty, Node, flatten, exiting}
 use Rattle.md_pattern.specs.Looseness.{is_loose}
 use Rattle.md_text.specs.Ids.{ids, HasDistinctIds}
-use Rattle.md_text.proofs.HtmlIds.{occurs, counted-once}
 use Rattle.md_content.specs.Underlined.{IsUnderlined}
 use Rattle.md_text.specs.declared.options.CompileOptions.{CompileOptions}
 use Rattle.md_meaning.specs.Meaning.{meaning}
@@ -24,16 +30,69 @@ use Rattle.md_meaning.specs.Meaning.Before.{nothing_before, before_children}
 use Rattle.md_meaning.specs.Meaning.Layout.{when}
 use Rattle.md_meaning.specs.Meaning.Nodes.{Outcome, node, before_next, outcome}
 use Rattle.md_meaning.specs.declared.surroundings.Surroundings.{Surroundings}
-use Rattle.md_content.specs.Built.{Blocks, IsBuilt}
 use Rattle.md_safe.proofs.Prepared.{document_of, alone_of}
 use Rattle.md_safe.specs.Options.{KeepsIds}
 use Rattle.md_safe.proofs.Claim.{reading}
 use Rattle.md_safe.proofs.Costs.{Document}
 use Rattle.md_safe.specs.Apart.{prefix_of, are_apart, ShareNoId}
 use Rattle.md_safe.proofs.CountedSection.{document-counts, document-counted}
-use Rattle.md_safe.proofs.Distinct.{IsNote, IsCall, document-known}
-use Rattle.md_safe.proofs.Prefixes.{has_fn, same-prefix, note-once, call-once, any-occurs}
+use Rattle.md_safe.proofs.IdsOnce.{IsNote, IsCall, document-known}
 use Rattle.md_safe.proofs.Spot.{at_in}
+
+-- begins with `n`
+abbrev begins_n : List ℕ → Bool
+begins_n [] = false
+begins_n (b ∷ x) = b == 110
+
+-- has `fn` somewhere
+abbrev pub has_fn : List ℕ → Bool
+has_fn [] = false
+has_fn (b ∷ x) = ((b == 102) && begins_n x) || has_fn x
+
+fn-inside : (p x : List ℕ) → has_fn (p ++ (102 ∷ 110 ∷ x)) ≡ true
+fn-inside [] x = refl
+fn-inside (b ∷ p) x = or_right _ _ (fn-inside p x)
+
+-- two texts with one such beginning each begin alike
+pub same-prefix : (p q x y : List ℕ) → has_fn x ≡ false → has_fn y ≡ false →
+    p ++ (102 ∷ 110 ∷ x) ≡ q ++ (102 ∷ 110 ∷ y) → p ≡ q
+same-prefix [] [] x y h g e = refl
+same-prefix [] (c ∷ q) x y h g e =
+    let after : 110 ∷ x ≡ q ++ (102 ∷ 110 ∷ y) = cc e in
+    lie (sym h ∙ ap has_fn after ∙ fn-inside q y)
+same-prefix (b ∷ p) [] x y h g e =
+    let after : 110 ∷ y ≡ p ++ (102 ∷ 110 ∷ x) = cc (sym e) in
+    lie (sym g ∙ ap has_fn after ∙ fn-inside p x)
+same-prefix (b ∷ p) (c ∷ q) x y h g e =
+    let first : b ≡ c = cc e in
+    let after : p ++ (102 ∷ 110 ∷ x) ≡ q ++ (102 ∷ 110 ∷ y) = cc e in
+    ap (λ n. n ∷ p) first ∙ ap (λ z. c ∷ z) (same-prefix p q x y h g after)
+
+-- digits and what follows them
+digit-no_f : (b : ℕ) → is_digit b ≡ true → (b == 102) ≡ false
+digit-no_f b h = grind arith
+
+fn-past : (x y : List ℕ) → list_all is_digit x ≡ true → has_fn (x ++ y) ≡ has_fn y
+fn-past [] y h = refl
+fn-past (b ∷ x) y h = grind (arith, digit-no_f b, fn-past x y)
+
+fn-digits : (x : List ℕ) → list_all is_digit x ≡ true → has_fn x ≡ false
+fn-digits x h = ap has_fn (sym (append-nil x)) ∙ fn-past x [] h
+
+-- after `fn` of a footnote, and after that of a call
+pub note-once : (n : ℕ) → has_fn (45 ∷ decimal n) ≡ false
+note-once n = fn-digits (decimal n) (decimal-digits n)
+
+pub call-once : (n k : ℕ) → has_fn (codes "ref-" ++ (decimal n ++ (45 ∷ decimal k))) ≡ false
+call-once n k =
+    fn-past (decimal n) (45 ∷ decimal k) (decimal-digits n)
+    ∙ fn-digits (decimal k) (decimal-digits k)
+
+-- what is found among some texts stands there once or more
+pub any-occurs : (x : List ℕ) (ys : List (List ℕ)) → list_any (λ y. bytes_eq y x) ys ≡ true →
+    1 ≤ occurs x ys
+any-occurs x [] h = lie h
+any-occurs x (y ∷ ys) h = grind (arith, any-occurs x ys)
 
 -- the identifiers of the footnote calls in some nodes, in the order of their exits
 abbrev calls_in : List ℕ → Forest → List (List ℕ)
