@@ -1,6 +1,7 @@
 -- What nodes cost whose names have a rule of their own: underlined headings, footnotes, calls. How
--- often an id stands in what nodes mean: at most so often as calls in them have it. The induction is
--- over blocks alone and adds what each node costs; of other contents that of `Forests.antt` is enough.
+-- often an id stands in what nodes mean: at most so often as calls in them have it. The induction
+-- is over blocks alone and adds what each node costs; of other contents that of `Forests.antt` is
+-- enough.
 use Rattle.std.proofs.Common.{◌≡◌, ℕ, suc, ◌+◌, Bool, true, false, not, List, [], ◌∷◌, ◌++◌, refl}
 use Rattle.std.proofs.Common.{arith, codes, ◌≡◌, ℕ, ◌+◌, Bool, true, false, cond, List, [], refl}
 use Rattle.std.proofs.Common.{ap, ◌∙◌, subst, arith}

@@ -1,5 +1,5 @@
--- The tags of blocks, of code, of tasks, of lists and of cells around what they hold: each keeps the
--- claim.
+-- The tags of blocks, of code, of tasks, of lists and of cells around what they hold: each keeps
+-- the claim.
 use Rattle.std.proofs.Common.{◌≡◌, ◌≢◌, ◌⊎◌, ℕ, ◌≤◌, ◌<◌, ◌==◌, Bool, true, false, not, cond, List}
 use Rattle.std.proofs.Common.{[], ◌∷◌, ◌++◌, refl, sym, ap, ◌∙◌, subst, inl, inr, arith}
 use Rattle.std.proofs.Common.{append_assoc, codes, ne_eqb, ◌≡◌, ℕ, Bool, true, false, cond, List}

@@ -1,6 +1,7 @@
 -- The surroundings of a node suit its children and what follows it. Which names may stand before a
--- node's children, and before what follows it; blocks occur only in blocks, and a condition on blocks
--- alone covers no more after nodes. After a node's children, and after it, no first fence is to come.
+-- node's children, and before what follows it; blocks occur only in blocks, and a condition on
+-- blocks alone covers no more after nodes. After a node's children, and after it, no first fence is
+-- to come.
 use Rattle.std.proofs.Common.{◌≡◌, Bool, true, false, ◌||◌, refl, sym, ◌∙◌, ap, subst, ◌≡◌, ℕ, Bool}
 use Rattle.std.proofs.Common.{true, false, ◌||◌, cond, List, [], ◌∷◌, ◌++◌, refl, sym, ◌∙◌, subst}
 use Rattle.std.proofs.Common.{append_assoc, append-nil, ◌≡◌, ℕ, true, false, List, [], refl, sym}

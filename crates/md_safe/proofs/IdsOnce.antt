@@ -1,5 +1,5 @@
--- Each id among the calls of a document is that of one call, and each among its footnotes of one. No
--- two ids by number are equal: the heading's, those of footnotes and those of their calls.
+-- Each id among the calls of a document is that of one call, and each among its footnotes of one.
+-- No two ids by number are equal: the heading's, those of footnotes and those of their calls.
 use Rattle.std.proofs.Common.{◌≡◌, ℕ, ◌+◌, ◌≤◌, ◌<◌, ◌^◌, suc, true, false, ◌||◌, List, [], ◌∷◌}
 use Rattle.std.proofs.Common.{◌++◌, length, refl, sym, ap, ◌∙◌, subst, arith, append_assoc, codes}
 use Rattle.std.proofs.Common.{bytes_eq, ◌≡◌, ◌⊎◌, ℕ, ◌+◌, ◌≤◌, ◌<◌, ◌^◌, suc, true, cond, List, []}

@@ -1,5 +1,6 @@
--- No id stands twice in the meaning of a document, nor in two documents whose prefixes are apart: an
--- id by number determines its prefix, since what follows it begins with `fn`, and has no other `fn`.
+-- No id stands twice in the meaning of a document, nor in two documents whose prefixes are apart:
+-- an id by number determines its prefix, since what follows it begins with `fn`, and has no other
+-- `fn`.
 use Rattle.std.proofs.Common.{◌≡◌, ℕ, ◌≤◌, ◌==◌, Bool, true, false, ◌&&◌, ◌||◌, List, [], ◌∷◌, ◌++◌}
 use Rattle.std.proofs.Common.{refl, sym, ap, ◌∙◌, arith, codes, bytes_eq, append-nil, ◌≡◌, ◌⊎◌, inl}
 use Rattle.std.proofs.Common.{inr, ℕ, ◌||◌, Bool, true, false, not, List, [], ◌∷◌, ◌++◌, length}
