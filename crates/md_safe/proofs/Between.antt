@@ -1,10 +1,8 @@
 -- Texts in a row, and the line endings of two of them.
 use Rattle.std.proofs.Common.{◌≡◌, ℕ, ◌==◌, Bool, true, false, ◌&&◌, cond, List, [], ◌∷◌, ◌++◌}
-use Rattle.std.proofs.Common.{refl, ap, ◌∙◌, ◌≡◌, ℕ, Bool, true, false, List, [], ◌∷◌, ◌++◌, refl}
-use Rattle.std.proofs.Common.{append-nil, append_assoc}
-use Rattle.md_safe.specs.Input.{begins_with_line_feed, with_line_feeds, with_line_feeds}
-use Rattle.md_safe.specs.Input.{begins_with_line_feed}
-use Rattle.md_safe.specs.Embedded.{splits_newline, EndsInDataState, HasTokensAfter, splits_newline}
+use Rattle.std.proofs.Common.{refl, ap, ◌∙◌, append-nil, append_assoc}
+use Rattle.md_safe.specs.Input.{begins_with_line_feed, with_line_feeds}
+use Rattle.md_safe.specs.Embedded.{splits_newline, EndsInDataState, HasTokensAfter}
 use Rattle.md_safe.specs.Embedded.{ends_with_return}
 use Rattle.md_safe.proofs.LineFeeds.{one, one-append}
 use Rattle.md_text.specs.Html.{Attribute, Forest, is_forest, written, IsReading, HasOneReadingWith}

@@ -1,13 +1,12 @@
 -- The content model allows the meaning of a document's nodes: one induction over blocks, in
 -- addition to that of `Forests`, which covers strings, code and images.
-use Rattle.std.proofs.Common.{◌≡◌, ℕ, Bool, true, false, List, refl, sym, ◌≡◌, Bool, true, false}
-use Rattle.std.proofs.Common.{◌||◌, cond, [], ◌∷◌, refl, sym, ap, ◌∙◌, subst, append-nil}
+use Rattle.std.proofs.Common.{◌≡◌, ℕ, Bool, true, false, List, refl, sym, ◌||◌, cond, [], ◌∷◌, ap}
+use Rattle.std.proofs.Common.{◌∙◌, subst, append-nil}
 use Rattle.std.specs.Prelude.{Option}
 use Rattle.md_base.proofs.Lies.{lie}
 use Rattle.md_base.specs.declared.event.Name.{Name}
 use Rattle.md_base.specs.declared.event.Name.TheVariants as name_variants
 use name_variants.{Other, BlockQuotePrefix, SpaceOrTab, HeadingSetextText, GfmFootnoteDefinition}
-use name_variants.{GfmFootnoteDefinition}
 use Rattle.md_base.specs.Is.{is as named}
 use Rattle.md_base.specs.NameTests.{is_transparent}
 use Rattle.md_meaning.specs.Meaning.At.{Footnote, At, Footnote, Before, At, identifier_of}
@@ -17,11 +16,10 @@ use Rattle.md_safe.proofs.Laid.{adds-alone}
 use Rattle.md_safe.proofs.Findings.{AreTexts, AreFound, texts-append}
 use Rattle.md_safe.proofs.Costs.{Document, through-node, Document, read_in}
 use Rattle.md_safe.specs.Contents.{Content, Flow, Phrasing, Content, Phrasing, Flow}
-use Rattle.md_safe.specs.Placed.{Block, sort_of, may_stand as may_place, sort_of, IsPlaced}
-use Rattle.md_safe.specs.Placed.{may_stand as may_place}
-use Rattle.md_safe.proofs.Linking.{with_links, is_spans, with_links, place_in, inner_place}
-use Rattle.md_safe.proofs.Linking.{inner-place-with, IsLinked, linked-inside, unnested-inside}
-use Rattle.md_safe.proofs.Linking.{unnested-after, unlinked-here, unlinked-spans}
+use Rattle.md_safe.specs.Placed.{Block, sort_of, may_stand as may_place, IsPlaced}
+use Rattle.md_safe.proofs.Linking.{with_links, is_spans, place_in, inner_place, inner-place-with}
+use Rattle.md_safe.proofs.Linking.{IsLinked, linked-inside, unnested-inside, unnested-after}
+use Rattle.md_safe.proofs.Linking.{unlinked-here, unlinked-spans}
 use Rattle.md_safe.proofs.Stands.{Stands, Stands, IsWhite, stands-nothing}
 use Rattle.md_safe.proofs.ContainedLaid.{Own, lays-nothing, lays-both, Prints, standing, Own}
 use Rattle.md_safe.proofs.Cases.{OnSome, on-later, on-either, cases}

@@ -1,8 +1,7 @@
 -- The section of footnotes is flow content: its heading, its items and their ways back, which the
 -- last paragraph of flow content takes before its end.
 use Rattle.std.proofs.Common.{◌≡◌, ℕ, Bool, ◌==◌, true, false, List, [], ◌∷◌, ◌++◌, refl, sym, ap}
-use Rattle.std.proofs.Common.{◌∙◌, subst, append_assoc, append-nil, codes, ◌≡◌, ℕ, Bool, List, []}
-use Rattle.std.proofs.Common.{◌∷◌, ◌++◌, refl, codes, true, false}
+use Rattle.std.proofs.Common.{◌∙◌, subst, append_assoc, append-nil, codes}
 use Rattle.std.proofs.lemmas.Bool.{and_parts, and_from}
 use Rattle.md_base.proofs.Lies.{lie}
 use Rattle.md_text.specs.Laws.{is_line_ends}
@@ -11,12 +10,10 @@ use Rattle.md_text.specs.Html.{elements, written, opening_tag, closing_tag, any_
 use Rattle.md_text.proofs.HtmlReading.{all-any}
 use Rattle.std.specs.List.{list_all}
 use Rattle.md_text.proofs.HtmlPut.{IsMade, made-before}
-use Rattle.md_safe.specs.Contents.{Content, Flow, Phrasing, held_in, is_contained, Flow, Phrasing}
-use Rattle.md_safe.specs.Contents.{Items}
+use Rattle.md_safe.specs.Contents.{Content, Flow, Phrasing, held_in, is_contained, Items}
 use Rattle.md_safe.proofs.Stands.{Stands, stands-join, stands-nothing, stands-text, turns-tag}
-use Rattle.md_safe.proofs.Stands.{is_held, Stands, stands-join, stands-nothing, stands-tag}
-use Rattle.md_safe.proofs.Stands.{turns-tag, turns-plain, takes-white, IsWhite, white_beside}
-use Rattle.md_safe.proofs.Stands.{stands-text, Opens, stands-wider}
+use Rattle.md_safe.proofs.Stands.{is_held, stands-tag, turns-plain, takes-white, IsWhite}
+use Rattle.md_safe.proofs.Stands.{white_beside, Opens, stands-wider}
 use Rattle.std.specs.Prelude.{None}
 use Rattle.md_meaning.specs.Meaning.At.{Footnote}
 use Rattle.md_meaning.specs.Meaning.Footnotes.{body, item, section, distinct, place_among, count_of}

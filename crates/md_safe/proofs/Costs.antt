@@ -1,8 +1,7 @@
 -- How often an id stands in what is printed: what is claimed of texts and of footnotes. What a node
 -- costs: how often an id stands in what it prints, as often as calls have it at most.
 use Rattle.std.proofs.Common.{◌≡◌, ℕ, ◌+◌, ◌≤◌, Bool, true, false, not, ◌&&◌, List, [], ◌∷◌, ◌++◌}
-use Rattle.std.proofs.Common.{refl, subst, arith, codes, ap, ◌≡◌, ℕ, ◌+◌, ◌≤◌, Bool, true, false}
-use Rattle.std.proofs.Common.{List, [], ◌∷◌, ◌++◌, refl, cond, ap, ◌∙◌, subst, arith, append-nil}
+use Rattle.std.proofs.Common.{refl, subst, arith, codes, ap, cond, ◌∙◌, append-nil}
 use Rattle.std.specs.Prelude.{bytes_eq, unwrap_or}
 use Rattle.std.proofs.lemmas.Bool.{and_parts, not-true}
 use Rattle.md_text.specs.References.{read_back}
@@ -11,8 +10,8 @@ use Rattle.md_text.proofs.HtmlJoin.{text, nothing}
 use Rattle.md_text.proofs.HtmlWriting.{attributes_before, written_attributes-before}
 use Rattle.md_text.specs.Ids.{ids_in}
 use Rattle.md_text.proofs.HtmlIds.{occurs, is_without, none-attributes, Counts, counts-plain}
-use Rattle.md_text.proofs.HtmlIds.{counts-more, counts-join, counts-element, counts-takes, occurs}
-use Rattle.md_text.proofs.HtmlIds.{occurs-append, is_without, Counts, counts-plain}
+use Rattle.md_text.proofs.HtmlIds.{counts-more, counts-join, counts-element, counts-takes}
+use Rattle.md_text.proofs.HtmlIds.{occurs-append}
 use Rattle.md_text.specs.declared.options.CompileOptions.{CompileOptions}
 use Rattle.md_meaning.specs.Meaning.At.{Footnote, Context, Before, At, identifier_of}
 use Rattle.md_safe.proofs.Claim.{Claim, reading}

@@ -3,8 +3,7 @@
 -- is over blocks alone and adds what each node costs; of other contents that of `Forests.antt` is
 -- enough.
 use Rattle.std.proofs.Common.{◌≡◌, ℕ, suc, ◌+◌, Bool, true, false, not, List, [], ◌∷◌, ◌++◌, refl}
-use Rattle.std.proofs.Common.{arith, codes, ◌≡◌, ℕ, ◌+◌, Bool, true, false, cond, List, [], refl}
-use Rattle.std.proofs.Common.{ap, ◌∙◌, subst, arith}
+use Rattle.std.proofs.Common.{arith, codes, cond, ap, ◌∙◌, subst}
 use Rattle.std.specs.Fmt.{decimal}
 use Rattle.std.proofs.lemmas.Bool.{cond_both, or_parts, cond_both}
 use Rattle.md_base.proofs.Lies.{lie}
@@ -21,26 +20,20 @@ use Rattle.md_meaning.specs.Meaning.Footnotes.{distinct, place_among, count_of, 
 use Rattle.md_meaning.specs.Meaning.Layout.{Piece, layout}
 use Rattle.md_meaning.specs.Meaning.Blocks.{underline_rank}
 use Rattle.md_meaning.specs.Meaning.Spans.{is_at}
-use Rattle.md_content.specs.Underlined.{is_underline, waits_past, waits_past, waits_after}
-use Rattle.md_content.specs.Underlined.{IsUnderlined}
-use Rattle.md_content.specs.Built.{Blocks, content_inside, Blocks, content_of, content_inside}
-use Rattle.md_content.specs.Built.{IsBuilt}
+use Rattle.md_content.specs.Underlined.{is_underline, waits_past, waits_after, IsUnderlined}
+use Rattle.md_content.specs.Built.{Blocks, content_inside, content_of, IsBuilt}
 use Rattle.md_safe.proofs.Texts.{decimal-escaped}
 use Rattle.md_safe.proofs.Laid.{Adds, adds-nothing, adds-text, adds-alone, adds-append}
-use Rattle.md_safe.proofs.Laid.{adds-nothing}
 use Rattle.md_safe.proofs.Tags.{adds-flat}
 use Rattle.md_safe.proofs.Calls.{id-escaped, call_id-escaped, call_tags}
 use Rattle.md_safe.proofs.Insides.{is_blocks, is_blocks, is_blocks-same}
 use Rattle.md_safe.proofs.Spot.{Setting}
 use Rattle.md_safe.proofs.FlowNodes.{setext-fits}
-use Rattle.md_safe.proofs.Costs.{counts-call, Waiting, texts-append, Waiting, texts-append}
-use Rattle.md_safe.proofs.Costs.{Document, Costs, Place, inner_of, here_of, Below, cost-least}
-use Rattle.md_safe.proofs.Costs.{counts-none, no-footnote, counted_in, at_of, cost-parts, Document}
-use Rattle.md_safe.proofs.Costs.{read_in, Costs, Place, here_of, due-append, inner_around}
-use Rattle.md_safe.proofs.Costs.{inner_before, inner_of, at_of, counts-none, through-spent}
-use Rattle.md_safe.proofs.Costs.{place_at, Below}
-use Rattle.md_safe.proofs.PlainCosts.{is_special, Stands, is_special, IsPlain, around-blocks}
-use Rattle.md_safe.proofs.PlainCosts.{around-others}
+use Rattle.md_safe.proofs.Costs.{counts-call, Waiting, texts-append, Document, Costs, Place}
+use Rattle.md_safe.proofs.Costs.{inner_of, here_of, Below, cost-least, counts-none, no-footnote}
+use Rattle.md_safe.proofs.Costs.{counted_in, at_of, cost-parts, read_in, due-append, inner_around}
+use Rattle.md_safe.proofs.Costs.{inner_before, through-spent, place_at}
+use Rattle.md_safe.proofs.PlainCosts.{is_special, Stands, IsPlain, around-blocks, around-others}
 use Rattle.md_safe.proofs.FlowCases.{heading-node}
 use Rattle.md_safe.proofs.ReadingNodes.{reads}
 use Rattle.std.specs.Prelude.{Option, Some, None, unwrap_or}
@@ -254,7 +247,7 @@ spent d w (Node name start end children rest) around before waits m f h =
           later.prints;
       heading = subst (Waiting w (waits_after waits' rest) later.left) (heading-both
           others.found.heading here.found.heading) later.heading;
-      texts = texts-append w _ _ here.footnotes others.footnotes one.texts later.texts;
+      texts = texts-append w one.notes later.notes here.footnotes others.footnotes one.texts later.texts;
       few = omega (one.few, later.few, due-append d w before.calls here.calls others.calls, arith);
     }
   where

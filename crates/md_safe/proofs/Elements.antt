@@ -1,9 +1,8 @@
 -- The tags of blocks, of code, of tasks, of lists and of cells around what they hold: each keeps
 -- the claim.
 use Rattle.std.proofs.Common.{◌≡◌, ◌≢◌, ◌⊎◌, ℕ, ◌≤◌, ◌<◌, ◌==◌, Bool, true, false, not, cond, List}
-use Rattle.std.proofs.Common.{[], ◌∷◌, ◌++◌, refl, sym, ap, ◌∙◌, subst, inl, inr, arith}
-use Rattle.std.proofs.Common.{append_assoc, codes, ne_eqb, ◌≡◌, ℕ, Bool, true, false, cond, List}
-use Rattle.std.proofs.Common.{[], ◌∷◌, refl, codes}
+use Rattle.std.proofs.Common.{[], ◌∷◌, ◌++◌, refl, ap, ◌∙◌, subst, inl, inr, arith}
+use Rattle.std.proofs.Common.{append_assoc, codes, ne_eqb}
 use Rattle.std.specs.Prelude.{Option, Some, None, bytes_eq, Option, Some, None}
 use Rattle.std.specs.Option.{option_map_or}
 use Rattle.std.specs.List.{list_all, flat_map, list_all}
@@ -13,19 +12,16 @@ use Rattle.md_base.specs.declared.event.Position.{Position}
 use Rattle.md_text.specs.Html.{Attribute, opening_tag, closing_tag, is_tag, elements, Attribute}
 use Rattle.md_text.specs.declared.options.CompileOptions.{CompileOptions}
 use Rattle.md_meaning.specs.Meaning.Layout.{Piece, Text, Needed, Forced, said, on_own_line, when}
-use Rattle.md_meaning.specs.Meaning.Layout.{Piece, Text, Needed}
 use Rattle.md_meaning.specs.Meaning.At.{Context, At, text_in}
 use Rattle.md_meaning.specs.Meaning.Finds.{number_in_list}
 use Rattle.md_meaning.specs.Meaning.Blocks.{list_start, without_zeros}
 use Rattle.md_content.specs.Built.{is_digit}
 use Rattle.md_safe.proofs.Texts.{Escaped, zeros-escaped}
 use Rattle.md_safe.proofs.Claim.{Claim}
-use Rattle.md_safe.proofs.Laid.{Adds, adds-append, adds-needed, IsBeside, Adds, adds-all}
-use Rattle.md_safe.proofs.Laid.{adds-nothing, IsBeside}
+use Rattle.md_safe.proofs.Laid.{Adds, adds-append, adds-needed, IsBeside, adds-all, adds-nothing}
 use Rattle.md_safe.proofs.Tags.{IsTest, attribute, IsFramed, Bracket, Turns, TurnsTag, Single}
 use Rattle.md_safe.proofs.Tags.{Takes, bracket-tag, adds-turned, adds-flat, framed-text}
-use Rattle.md_safe.proofs.Tags.{framed-needed, framed-forced, adds-framed_flat, IsTest, attribute}
-use Rattle.md_safe.proofs.Tags.{Tagged, adds-flat}
+use Rattle.md_safe.proofs.Tags.{framed-needed, framed-forced, adds-framed_flat, Tagged}
 use Rattle.md_base.specs.declared.event.AlignKind.{AlignKind}
 use Rattle.md_base.specs.declared.event.AlignKind.TheVariants as align
 use Rattle.md_meaning.specs.Meaning.Tables.{align_attribute, cell_of}
@@ -158,10 +154,11 @@ pub adds-task : {test : Attribute → Bool} {R : List ℕ → Type 0} {ending : 
     (checkable in_image : Bool) {inner : List Piece} → Adds ending (IsDone in_image) inner → Adds
     ending R ((Text (codes "<input type=\"checkbox\" ") ∷ when (not checkable)
     (said (codes "disabled=\"\" "))) ++ (inner ++ said (codes "/>")))
-adds-task {R = R} {ending} known single checkable in_image a = adds-append
+adds-task {R =
+    R} {ending} known single checkable in_image a = adds-append {f = λ x. x ≡ task_tag checkable}
     {g = λ w. (x : List ℕ) × (w ≡ x ++ codes "/>") × ((x ≡ []) ⊎ (x ≡ codes "checked=\"\" "))}
-    (λ x w f g. subst R (ap (λ w. task_tag checkable ++ w) (sym g.1) ∙ ap (λ x. x ++ w) (sym f))
-    (task-read known single checkable g.0 g.2)) (first checkable) (adds-append (λ x y f g.
+    (λ x w f g. rw (f, g.1) (task-read known single checkable g.0 g.2)) (first checkable)
+    (adds-append (λ x y f g.
     (x, ap (λ y. x ++ y) g, elim f [ inl e ↦ inl e | inr e ↦ inr e.1 ])) a
     (adds-flat {f = λ y. y ≡ codes "/>"} refl refl))
   where

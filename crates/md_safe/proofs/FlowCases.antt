@@ -27,7 +27,6 @@ use Rattle.md_meaning.specs.Meaning.Spans.{is_at}
 use Rattle.md_meaning.specs.Meaning.Tables.{cell_of}
 use Rattle.md_meaning.specs.declared.surroundings.Surroundings.{Surroundings}
 use Rattle.md_pattern.specs.Looseness.{is_loose}
-use Rattle.md_steps.proofs.Standing.{picked}
 use Rattle.md_text.specs.Html.{Attribute, elements, is_tag, opening_tag}
 use Rattle.md_safe.proofs.Cases.{either, cases}
 use Rattle.md_safe.proofs.Elements.{adds-cell_in, adds-ordered, class-passes, code_closing}
@@ -103,7 +102,7 @@ turns-info m true x (inr e) = lie (ap (λ tag. bytes_eq tag code_tag) e.3)
 
 raw-node : (m : Claims) (t : At) (name : Name) → is_raw name ≡ true → (inner : List Piece) →
     Known m t name inner → Prints m Flow (prints m.s.context t name inner)
-raw-node m t name is inner k = subst (Prints m Flow) (sym (raw-prints m.s.context t name is inner))
+raw-node m t name is inner k = rw (raw-prints m.s.context t name is inner)
     (by (is_math name) (inside-is m.s t Blocks _ name inner (in-raw name is) k.within))
   where
     around : Surroundings
@@ -186,12 +185,8 @@ flow-node m t name solid whole stands inner k a = either _ _ (covered name)
 -- neither a block nor a part of another is a span
 no_block : (name : Name) → (is_block name || (is_raw name || is_inner (sort_of name))) ≡ true →
     may_stand Phrasing (sort_of name) ≡ false
-no_block name is = picked _ _ _ (by name) is
-  where
-    by : (name : Name) → cond (is_block name || (is_raw name || is_inner (sort_of name)))
-        (may_stand Phrasing (sort_of name)) false ≡ false
-    by LineEnding = refl
-    by _ = refl
+no_block LineEnding is = lie is
+no_block _ is = cc
 
 spans-node : (m : Claims) (t : At) (content : Content) (name : Name) → is_transparent name ≡ false →
     (is_part name || is_source name) ≡ false → may_stand Phrasing (sort_of name) ≡ true →

@@ -1,27 +1,23 @@
 -- Blocks and preformatted code are built as they are read, by what their children do; and what is
 -- known of each element that stands in flow content or in a list.
-use Rattle.std.proofs.Common.{◌≡◌, ℕ, true, false, cond, List, ◌∷◌, ◌++◌, refl, ap, ◌∙◌, codes, ◌≡◌}
-use Rattle.std.proofs.Common.{◌⊎◌, inl, inr, ℕ, Bool, true, false, List, ◌∷◌, refl, sym, ◌∙◌, codes}
-use Rattle.std.proofs.Common.{◌++◌, []}
+use Rattle.std.proofs.Common.{◌≡◌, ℕ, true, false, cond, List, ◌∷◌, ◌++◌, refl, ap, ◌∙◌, codes, ◌⊎◌}
+use Rattle.std.proofs.Common.{inl, inr, Bool, sym, []}
 use Rattle.std.specs.Prelude.{Some, bytes_eq}
 use Rattle.md_base.proofs.Lies.{lie}
 use Rattle.md_text.specs.Html.{Attribute, Forest, Empty, Text, Void, Element}
 use Rattle.md_safe.specs.Token.{Token, EndTag, TokenAttribute, TokenAttribute}
 use Rattle.md_safe.specs.Tokens.{seen_attributes, tokens}
 use Rattle.md_safe.specs.Contents.{Preformatted, is_contained, Content, Flow, Phrasing, Items}
-use Rattle.md_safe.specs.Contents.{block_elements, Parts, Preformatted, elements_in, span_elements}
+use Rattle.md_safe.specs.Contents.{block_elements, Parts, elements_in, span_elements}
 use Rattle.md_safe.specs.Node.{Nodes, Open, Parser, Empty as NoNode, Nodes, Open, Parser}
 use Rattle.md_safe.specs.Elements.{button_scope, headings, headings}
 use Rattle.md_safe.specs.Stack.{is_named, is_among, has_in_scope, current, insert, popped, insert}
-use Rattle.md_safe.specs.InBody.{close_p, has_item, start_in_body, end_in_body, has_item, close_p}
-use Rattle.md_safe.specs.InBody.{start_in_body}
+use Rattle.md_safe.specs.InBody.{close_p, has_item, start_in_body, end_in_body}
 use Rattle.md_safe.specs.Construction.{run}
 use Rattle.md_safe.specs.Built.{put, at, is_body}
 use Rattle.md_safe.proofs.Steps.{past}
 use Rattle.md_safe.proofs.TreeSteps.{Position, parser_of, with_children, element_of, within}
-use Rattle.md_safe.proofs.TreeSteps.{element_of}
 use Rattle.md_safe.proofs.PhrasingNames.{Done, Passed, IsOuter, outside, passes, Each, also}
-use Rattle.md_safe.proofs.PhrasingNames.{IsOuter, outside}
 use Rattle.md_text.specs.Bytes.{is_one_of}
 use Rattle.md_safe.specs.InTable.{mode_for}
 use Rattle.md_safe.proofs.PhrasingRules.{Rule, span-rules, code-rule}

@@ -2,10 +2,8 @@
 -- node's children, and before what follows it; blocks occur only in blocks, and a condition on
 -- blocks alone covers no more after nodes. After a node's children, and after it, no first fence is
 -- to come.
-use Rattle.std.proofs.Common.{◌≡◌, Bool, true, false, ◌||◌, refl, sym, ◌∙◌, ap, subst, ◌≡◌, ℕ, Bool}
-use Rattle.std.proofs.Common.{true, false, ◌||◌, cond, List, [], ◌∷◌, ◌++◌, refl, sym, ◌∙◌, subst}
-use Rattle.std.proofs.Common.{append_assoc, append-nil, ◌≡◌, ℕ, true, false, List, [], refl, sym}
-use Rattle.std.proofs.Common.{◌∙◌}
+use Rattle.std.proofs.Common.{◌≡◌, Bool, true, false, ◌||◌, refl, sym, ◌∙◌, subst, ℕ, cond}
+use Rattle.std.proofs.Common.{List, [], ◌∷◌, ◌++◌, append_assoc, append-nil, arith}
 use Rattle.std.proofs.lemmas.Bool.{cond_both, cond_both, or_left, or_right}
 use Rattle.md_base.proofs.Lies.{lie}
 use Rattle.md_base.specs.declared.event.Name.{Name}
@@ -16,16 +14,12 @@ use Rattle.md_text.specs.declared.options.CompileOptions.{CompileOptions}
 use Rattle.md_meaning.specs.declared.surroundings.Surroundings.{Surroundings}
 use Rattle.md_meaning.specs.Meaning.Inherited.{inside}
 use Rattle.md_content.specs.Built.{Content, Blocks, is_source, may_stand, content_of, content_past}
-use Rattle.md_content.specs.Built.{content_after_node, Content, FirstFence, FirstMathFence, Chunks}
-use Rattle.md_content.specs.Built.{InfoAndMeta, MetaAlone, Nothing, is_fence, is_info, may_stand}
-use Rattle.md_content.specs.Built.{content_of, content_past, content_after, content_inside}
-use Rattle.md_content.specs.Built.{content_after_node, IsBuilt, Content, FirstFence, FirstMathFence}
-use Rattle.md_content.specs.Built.{is_fence, may_stand, content_of, content_after, IsBuilt, IsFit}
-use Rattle.md_safe.proofs.Contents.{stays-after, Follows, spine_after_node, stays-after, is_first}
-use Rattle.md_safe.proofs.Contents.{stays-after, Follows}
+use Rattle.md_content.specs.Built.{content_after_node, FirstFence, FirstMathFence, Chunks}
+use Rattle.md_content.specs.Built.{InfoAndMeta, MetaAlone, Nothing, is_fence, is_info}
+use Rattle.md_content.specs.Built.{content_after, content_inside, IsBuilt, IsFit}
+use Rattle.md_safe.proofs.Contents.{stays-after, Follows, spine_after_node, is_first}
 use Rattle.md_safe.proofs.Insides.{allowed_inside, is_blocks, of-blocks, is_blocks-same, Suits}
-use Rattle.md_safe.proofs.Insides.{past_of, is_chunks, allowed_inside, is_blocks, of-blocks}
-use Rattle.md_safe.proofs.Insides.{past_of, is_raw, allowed_inside, past_of}
+use Rattle.md_safe.proofs.Insides.{past_of, is_chunks, is_raw}
 use Rattle.md_safe.proofs.Cases.{either, cases, cases}
 use Rattle.std.specs.List.{list_any}
 use Rattle.md_base.specs.NameTests.{is_transparent, is_fence as fence_name, is_fence as fence_name}
@@ -59,16 +53,16 @@ still-outside options loose around Image blocks out = lie blocks
 still-outside options loose around _ blocks out = out
 
 -- if HTML is escaped, escaped text stays so, except in the targets of links
-keeps-escaping : (options : CompileOptions) (loose : Bool) (around : Surroundings) (name : Name) →
-    (is_source name || (inside (record options { allow_dangerous_html = false }) loose name
-    (record around { is_escaping = true })).is_escaping) ≡ true
-keeps-escaping options loose around Image = refl
-keeps-escaping options loose around _ = refl
+stays-escaping : (options : CompileOptions) → options.allow_dangerous_html ≡ false →
+    (loose : Bool) (around : Surroundings) (name : Name) → around.is_escaping ≡ true →
+    is_source name ≡ false → (inside options loose name around).is_escaping ≡ true
+stays-escaping options html loose around Image e out = e
+stays-escaping options html loose around _ e out = grind (arith, html, e, out)
 
-keeps-image : (options : CompileOptions) (loose : Bool) (around : Surroundings) (name : Name) →
-    (inside options loose name (record around { in_image = true })).in_image ≡ true
-keeps-image options loose around Image = refl
-keeps-image options loose around _ = refl
+stays-image : (options : CompileOptions) (loose : Bool) (around : Surroundings) (name : Name) →
+    around.in_image ≡ true → (inside options loose name around).in_image ≡ true
+stays-image options loose around Image e = refl
+stays-image options loose around _ e = e
 
 in-image : (options : CompileOptions) (loose : Bool) (around : Surroundings) (name : Name) →
     named Image name ≡ true → (inside options loose name around).in_image ≡ true
@@ -84,27 +78,15 @@ pub suits-inside : (options : CompileOptions) → options.allow_dangerous_html �
 suits-inside options html loose around content name s h = record {
   escaped = λ asks.
       let needs = (allowed_inside content name s).escaping asks in
-      escaping (h.escaped needs.0) needs.1;
+      stays-escaping options html loose around name (h.escaped needs.0) needs.1;
   image = λ asks. either _ _ ((allowed_inside content name s).image asks)
-      (λ within. image (h.image within)) (in-image options loose around name);
-  outside = λ is. still-outside options loose around name (subst (λ c. is_blocks (content_of name c)
-      ≡ true) (is_blocks-same content (of-blocks content name is)) is) (h.outside (of-blocks content
-      name is));
+      (λ within. stays-image options loose around name (h.image within))
+      (in-image options loose around name);
+  outside = λ is.
+      let blocks = of-blocks content name is in
+      still-outside options loose around name (rw (is_blocks-same content blocks) at is) (h.outside
+      blocks);
 }
-  where
-    escaping : around.is_escaping ≡ true → is_source name ≡ false →
-        (inside options loose name around).is_escaping ≡ true
-    escaping e out = subst (λ b. (inside (record options { allow_dangerous_html = b }) loose name
-        around).is_escaping ≡ true) (sym html) (subst (λ b. (inside
-        (record options { allow_dangerous_html = false }) loose name
-        (record around { is_escaping = b })).is_escaping ≡ true) (sym e) (ap (λ b. b || (inside
-        (record options { allow_dangerous_html = false }) loose name
-        (record around { is_escaping = true })).is_escaping) (sym out) ∙ keeps-escaping options
-        loose around name))
-
-    image : around.in_image ≡ true → (inside options loose name around).in_image ≡ true
-    image e = subst (λ b. (inside options loose name (record around { in_image = b })).in_image
-        ≡ true) (sym e) (keeps-image options loose around name)
 
 -- the two tests of fences are one
 pub same_fence : (name : Name) → is_fence name ≡ fence_name name

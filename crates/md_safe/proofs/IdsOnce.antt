@@ -2,9 +2,7 @@
 -- No two ids by number are equal: the heading's, those of footnotes and those of their calls.
 use Rattle.std.proofs.Common.{◌≡◌, ℕ, ◌+◌, ◌≤◌, ◌<◌, ◌^◌, suc, true, false, ◌||◌, List, [], ◌∷◌}
 use Rattle.std.proofs.Common.{◌++◌, length, refl, sym, ap, ◌∙◌, subst, arith, append_assoc, codes}
-use Rattle.std.proofs.Common.{bytes_eq, ◌≡◌, ◌⊎◌, ℕ, ◌+◌, ◌≤◌, ◌<◌, ◌^◌, suc, true, cond, List, []}
-use Rattle.std.proofs.Common.{◌∷◌, ◌++◌, length, refl, sym, ◌∙◌, subst, inl, inr, arith, codes}
-use Rattle.std.proofs.Common.{bytes_eq, ap}
+use Rattle.std.proofs.Common.{bytes_eq, ◌⊎◌, cond, inl, inr}
 use Rattle.std.specs.Prelude.{map}
 use Rattle.std.proofs.lemmas.Bool.{or_parts, or_right, cond_both, cond_both}
 use Rattle.std.proofs.lemmas.List.{length-append}
@@ -12,14 +10,12 @@ use Rattle.md_base.proofs.Lies.{lie}
 use Rattle.md_text.specs.References.{read_back}
 use Rattle.md_text.proofs.HtmlIds.{occurs}
 use Rattle.md_text.specs.declared.options.CompileOptions.{CompileOptions}
-use Rattle.md_meaning.specs.Meaning.Footnotes.{distinct, place_among, id_of, distinct, place_among}
-use Rattle.md_meaning.specs.Meaning.Footnotes.{count_of}
+use Rattle.md_meaning.specs.Meaning.Footnotes.{distinct, place_among, id_of, count_of}
 use Rattle.md_meaning.proofs.Identifiers.{is_in, Apart, same, itself, same, distinct-apart}
 use Rattle.md_safe.proofs.NumberedIds.{back_prefix, note_tail, note-back, same-note, id_after}
 use Rattle.md_safe.proofs.NumberedIds.{ids_after, ids-differ, is_in-middle, same-place}
-use Rattle.md_safe.proofs.NumberedIds.{number-bound, back_prefix, note_tail, call_tail, note-back}
-use Rattle.md_safe.proofs.NumberedIds.{call-back, EndsInDigit, label-no_digit, note-no_call}
-use Rattle.md_safe.proofs.NumberedIds.{note-ends, call-ends, ids_after}
+use Rattle.md_safe.proofs.NumberedIds.{number-bound, call_tail, call-back, EndsInDigit}
+use Rattle.md_safe.proofs.NumberedIds.{label-no_digit, note-no_call, note-ends, call-ends}
 use Rattle.md_safe.proofs.Cases.{cases}
 
 -- another text before some

@@ -1,7 +1,7 @@
 -- The facts about the content of a node that follow from the node being allowed in some content:
 -- computed once for each content, for all names.
-use Rattle.std.proofs.Common.{◌≡◌, Bool, true, false, not, ◌&&◌, ◌||◌, refl}
-use Rattle.std.proofs.lemmas.Bool.{and_parts, not-true}
+use Rattle.std.proofs.Common.{◌≡◌, Bool, true, false, not, ◌&&◌, ◌||◌, refl, arith}
+use Rattle.std.proofs.lemmas.Bool.{and_parts}
 use Rattle.md_base.specs.declared.event.Name.{Name}
 use Rattle.md_base.specs.declared.event.Name.TheVariants.{Image}
 use Rattle.md_base.specs.Is.{is as named}
@@ -81,18 +81,7 @@ pub record Past (c : Content) (n : Name) : Type 0 where
   pub later : is_first (content_past c n) ≡ false
 
 pub past_of : (c : Content) (n : Name) → Past c n
-past_of c n =
-    let p0 = and_parts _ _ (and_parts _ _ (and_parts _ _ (all-facts c n)).1).1 in
-    let p1 = and_parts _ _ p0.1 in
-    let p2 = and_parts _ _ p1.1 in
-    let p3 = and_parts _ _ p2.1 in
-    record {
-      escaping = follows _ _ p0.0;
-      image = follows _ _ p1.0;
-      blocks = follows _ _ p2.0;
-      stays = follows _ _ p3.0;
-      later = not-true _ p3.1;
-    }
+past_of c n = grind (arith, all-facts c n)
 
 -- the surroundings in which a content may stand
 pub record Suits (escaping in_image : Bool) (content : Content) : Type 0 where
@@ -113,18 +102,4 @@ pub record Allowed (c : Content) (n : Name) : Type 0 where
   pub chunks : is_chunks (content_of n c) ≡ false
 
 pub allowed_inside : (c : Content) (n : Name) → may_stand c n ≡ true → Allowed c n
-allowed_inside c n stands =
-    let p0 = and_parts _ _ (follows _ _ (and_parts _ _ (and_parts _ _ (all-facts c n)).1).0 stands)
-    in
-    let p1 = and_parts _ _ p0.1 in
-    let p2 = and_parts _ _ p1.1 in
-    let p3 = and_parts _ _ p2.1 in
-    record {
-      escaping = λ t.
-          let a = and_parts _ _ (follows _ _ p0.0 t) in
-          (a.0, not-true _ a.1);
-      image = follows _ _ p1.0;
-      first = follows _ _ p2.0;
-      fence = follows _ _ p3.0;
-      chunks = not-true _ p3.1;
-    }
+allowed_inside c n stands = grind (arith, stands, all-facts c n)

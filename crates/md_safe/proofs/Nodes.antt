@@ -1,8 +1,7 @@
 -- A node of any content, before what is printed after it: the step of the induction
 -- in `Forests.antt`.
-use Rattle.std.proofs.Common.{◌≡◌, ℕ, Bool, true, false, not, ◌&&◌, ◌||◌, cond, List, [], ◌++◌}
+use Rattle.std.proofs.Common.{◌≡◌, ℕ, Bool, true, false, not, ◌||◌, cond, List, [], ◌++◌}
 use Rattle.std.proofs.Common.{refl, sym, ap, ◌∙◌, subst, inl, inr, append-nil, codes}
-use Rattle.std.proofs.lemmas.Bool.{and_from}
 use Rattle.md_base.proofs.Lies.{lie}
 use Rattle.md_base.specs.declared.event.Name.{Name}
 use Rattle.md_base.specs.declared.event.Name.TheVariants as name_variants
@@ -19,7 +18,6 @@ use Rattle.md_content.specs.Built.{Content, Blocks, Spans, Strings, FirstFence, 
 use Rattle.md_content.specs.Built.{Chunks, InfoAndMeta, MetaAlone, Done, Nothing, Sources, is_part}
 use Rattle.md_content.specs.Built.{is_source, is_autolink, may_stand, content_of, content_past}
 use Rattle.md_content.specs.Built.{content_after, IsBuilt}
-use Rattle.md_steps.proofs.Standing.{picked}
 use Rattle.md_safe.proofs.Cases.{either, cases}
 use Rattle.md_safe.proofs.Texts.{Escaped}
 use Rattle.md_safe.proofs.Laid.{adds-append, adds-text, adds-nothing, adds-weaker, adds-any}
@@ -43,10 +41,10 @@ span-sorts SpaceOrTab = refl
 span-sorts _ = refl
 
 -- in the latter spans stand
-silent-spans : (name : Name) →
-    cond (is_silent name && may_stand Spans name) (content_of name Spans) Spans ≡ Spans
-silent-spans SpaceOrTab = refl
-silent-spans _ = refl
+silent-spans : (name : Name) → is_silent name ≡ true → may_stand Spans name ≡ true →
+    content_of name Spans ≡ Spans
+silent-spans SpaceOrTab is stands = lie stands
+silent-spans _ is stands = cc
 
 span-any : (s : Setting) (t : At) (name : Name) → Suits t.around.is_escaping t.around.in_image
     Spans → may_stand Spans name ≡ true → IsFitAt s t name → (inner : List Piece) →
@@ -54,13 +52,10 @@ span-any : (s : Setting) (t : At) (name : Name) → Suits t.around.is_escaping t
 span-any s t name suits stands fit inner a =
     let e = suits.escaped refl in
     let image = suits.image refl in
-    let sorts = subst (λ b. not b || (is_hidden name || (is_silent name || (is_text name
-    || (is_shown name || (is_leaf name || is_autolink name))))) ≡ true) stands (span-sorts name) in
-    either _ _ sorts (λ is. subst (Prints s Escaped) (sym (hidden-prints s.context t name is inner))
-    (adds-nothing refl)) (λ c. either _ _ c (λ is. subst (Prints s Escaped)
-    (sym (silent-prints s.context t name is inner)) (inside-is s t Spans Spans name inner (picked
-    (is_silent name && may_stand Spans name) (content_of name Spans) Spans (silent-spans name)
-    (and_from _ _ is stands)) a)) (λ c. either _ _ c
+    either _ _ (rw stands at (span-sorts name))
+    (λ is. rw (hidden-prints s.context t name is inner) (adds-nothing refl)) (λ c. either _ _ c
+    (λ is. rw (silent-prints s.context t name is inner)
+    (inside-is s t Spans Spans name inner (silent-spans name is stands) a)) (λ c. either _ _ c
     (λ is. text-node s t Escaped name (λ x h. h e) is fit inner) (λ c. either _ _ c
     (λ is. shown-in_image s t name e image is inner a) (λ c. either _ _ c
     (λ is. leaf-escaped s t name e is fit inner)

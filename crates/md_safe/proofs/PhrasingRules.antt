@@ -1,8 +1,7 @@
 -- Ordinary and formatting elements are built as they are read, by what their children do; what is
 -- known of each element of phrasing content, and where its children are inserted.
 use Rattle.std.proofs.Common.{◌≡◌, inl, inr, ℕ, ◌==◌, true, false, List, ◌∷◌, refl, sym, ◌∙◌, subst}
-use Rattle.std.proofs.Common.{codes, eq-eqb, ◌≡◌, ◌⊎◌, inl, inr, ℕ, suc, Bool, true, false, List}
-use Rattle.std.proofs.Common.{◌∷◌, refl, sym, ◌∙◌, codes, arith}
+use Rattle.std.proofs.Common.{codes, eq-eqb, ◌⊎◌, suc, Bool, arith}
 use Rattle.std.specs.Prelude.{Some, None, bytes_eq, bytes_eq}
 use Rattle.md_text.specs.Bytes.{is_one_of}
 use Rattle.md_text.specs.Html.{Attribute, Forest}
@@ -11,20 +10,16 @@ use Rattle.md_safe.specs.Tokens.{seen_attributes}
 use Rattle.md_safe.specs.Node.{Nodes, Open, Entry, Formatting, Mode, Empty as NoNode, Entry, Parser}
 use Rattle.md_safe.specs.Elements.{special}
 use Rattle.md_safe.specs.Stack.{insert, popped, insert}
-use Rattle.md_safe.specs.Formatting.{push, last_active, adopt, end_formatting, push, end_other}
-use Rattle.md_safe.specs.Formatting.{end_formatting}
-use Rattle.md_safe.specs.InBody.{insert_formatting, reconstructed, insert_formatting, start_in_body}
-use Rattle.md_safe.specs.InBody.{end_in_body}
+use Rattle.md_safe.specs.Formatting.{push, last_active, adopt, end_formatting, end_other}
+use Rattle.md_safe.specs.InBody.{insert_formatting, reconstructed, start_in_body, end_in_body}
 use Rattle.md_safe.specs.Built.{put, at, is_body, AreCreated, AreOpen}
 use Rattle.md_safe.proofs.Lists.{Keeps, keeps-twice, room, keeps-room, keeps-created, not-active}
-use Rattle.md_safe.proofs.Lists.{Keeps, room, keeps-room, keeps-open, keeps-created, later-created}
-use Rattle.md_safe.proofs.Lists.{open-under, keeps-none}
+use Rattle.md_safe.proofs.Lists.{keeps-open, later-created, open-under, keeps-none}
 use Rattle.md_safe.proofs.Steps.{here, past}
 use Rattle.md_safe.proofs.TreeSteps.{Position, parser_of, element_of, within, reconstructs}
-use Rattle.md_safe.proofs.TreeSteps.{Position, within}
 use Rattle.md_safe.proofs.PhrasingNames.{Done, Passed, IsOrdinary, IsFormatting, full, passes}
-use Rattle.md_safe.proofs.PhrasingNames.{is_free, IsFormatting, IsOrdinary, Each, a-formats}
-use Rattle.md_safe.proofs.PhrasingNames.{outside, IsOuter, also, IsVoid, void-named, Here}
+use Rattle.md_safe.proofs.PhrasingNames.{is_free, Each, a-formats, outside, IsOuter, also, IsVoid}
+use Rattle.md_safe.proofs.PhrasingNames.{void-named, Here}
 use Rattle.std.proofs.lemmas.Bool.{or_left}
 use Rattle.md_base.proofs.Lies.{lie}
 use Rattle.md_safe.specs.Contents.{Content, Phrasing, Linked, Characters, span_elements, spans_of}

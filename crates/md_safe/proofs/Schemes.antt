@@ -1,9 +1,8 @@
 -- A value without a protocol has no scheme, and one with a permitted protocol has that scheme: no
 -- byte that is removed or changed on the way belongs to a scheme.
 use Rattle.std.proofs.Common.{◌≡◌, ℕ, ◌==◌, Bool, true, false, List, [], ◌∷◌, ◌++◌, refl, None}
-use Rattle.std.proofs.Common.{arith, ◌||◌, ◌≡◌, ℕ, ◌==◌, Bool, true, false, not, ◌&&◌, cond, List}
-use Rattle.std.proofs.Common.{[], ◌∷◌, ◌++◌, refl, sym, ap, ap₂, ◌∙◌, inl, inr, Option, Some, None}
-use Rattle.std.proofs.Common.{append-nil, append_assoc, eqb-true, arith}
+use Rattle.std.proofs.Common.{arith, ◌||◌, not, ◌&&◌, cond, sym, ap, ap₂, ◌∙◌, inl, inr, Option}
+use Rattle.std.proofs.Common.{Some, append-nil, append_assoc, eqb-true}
 use Rattle.std.specs.List.{list_all}
 use Rattle.std.proofs.lemmas.Bool.{cond_both, or_parts, and_parts, or_left, cases_Bool, eqb-false}
 use Rattle.md_text.specs.Bytes.{is_letter, lower, is_letter, lower, lowered, is_one_of}
@@ -14,8 +13,7 @@ use Rattle.md_text.proofs.HtmlRead.{passes_not}
 use Rattle.md_safe.specs.Input.{with_line_feeds, with_line_feeds, begins_with_line_feed}
 use Rattle.md_safe.specs.Scheme.{is_control_or_space, without_leading, without_trailing}
 use Rattle.md_safe.specs.Scheme.{is_tab_or_newline, without_newlines, is_scheme_byte, in_scheme}
-use Rattle.md_safe.specs.Scheme.{in_scheme_start, scheme_of, in_scheme_start, scheme_of}
-use Rattle.md_safe.specs.Scheme.{has_permitted_scheme}
+use Rattle.md_safe.specs.Scheme.{in_scheme_start, scheme_of, has_permitted_scheme}
 use Rattle.std.specs.Option.{option_map_or}
 use Rattle.md_base.proofs.Lies.{lie}
 use Rattle.md_base.specs.Identifier.{is_nonempty}

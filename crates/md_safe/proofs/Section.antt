@@ -2,8 +2,7 @@
 -- before the end of a footnote's last paragraph.
 use Rattle.std.proofs.Common.{◌≡◌, ℕ, suc, ◌≤◌, ◌-◌, ◌==◌, Bool, true, ◌&&◌, ◌||◌, List, [], ◌∷◌}
 use Rattle.std.proofs.Common.{◌++◌, length, take, drop, refl, sym, ap, ◌∙◌, subst, arith}
-use Rattle.std.proofs.Common.{append_assoc, append-nil, codes, eqb-true, length-drop, ◌≡◌, ℕ, Bool}
-use Rattle.std.proofs.Common.{true, List, [], ◌∷◌, ◌++◌, refl, ap, subst, append_assoc, codes}
+use Rattle.std.proofs.Common.{append_assoc, append-nil, codes, eqb-true, length-drop}
 use Rattle.std.specs.Prelude.{bytes_eq, Some, None, option_map, find, bytes_eq, string_bytes}
 use Rattle.std.proofs.lemmas.Bool.{cond_both, and_parts, and_from, cond_both}
 use Rattle.std.proofs.lemmas.List.{take-append-drop, drop-append-le}
@@ -13,15 +12,15 @@ use Rattle.md_text.specs.Laws.{is_line_ends}
 use Rattle.md_text.proofs.HtmlJoin.{text, join, text, nothing}
 use Rattle.md_meaning.specs.Meaning.Layout.{Piece, Text, Needed, Piece, Text, Needed, Forced}
 use Rattle.md_meaning.specs.Meaning.Footnotes.{unended_length, body, option_or, id_of}
-use Rattle.md_meaning.specs.Meaning.Footnotes.{backreferences, body, item, section, distinct}
-use Rattle.md_meaning.specs.Meaning.Footnotes.{place_among, count_of}
+use Rattle.md_meaning.specs.Meaning.Footnotes.{backreferences, item, section, distinct, place_among}
+use Rattle.md_meaning.specs.Meaning.Footnotes.{count_of}
 use Rattle.md_safe.proofs.Claim.{plain_of, Claim, plain_of}
-use Rattle.md_safe.proofs.Laid.{Adds, adds-text, adds-needed, escaped_beside, Adds, adds-all}
-use Rattle.md_safe.proofs.Laid.{adds-nothing, adds-needed, adds-forced, IsBeside, escaped_beside}
+use Rattle.md_safe.proofs.Laid.{Adds, adds-text, adds-needed, escaped_beside, adds-all}
+use Rattle.md_safe.proofs.Laid.{adds-nothing, adds-forced, IsBeside}
 use Rattle.md_safe.proofs.Tags.{adds-flat, adds-before, adds-after, adds-escaped, attribute, Turns}
 use Rattle.md_safe.proofs.Tags.{TurnsTag, Takes, Bracket, adds-turned, bracket-tag, element-read}
 use Rattle.md_safe.proofs.Tags.{adds-framed, adds-framed_flat, framed-around, framed-needed}
-use Rattle.md_safe.proofs.Tags.{framed-forced, takes-escaped, adds-flat}
+use Rattle.md_safe.proofs.Tags.{framed-forced, takes-escaped}
 use Rattle.md_safe.proofs.Spot.{Setting, Prints, PassesIds, IsWhole, Setting, Prints}
 use Rattle.md_safe.proofs.FlowNodes.{Reads}
 use Rattle.std.specs.Option.{option_map_or}
@@ -70,11 +69,7 @@ in_paragraph Q B takes x back r rb h =
     let cut : x ≡ take n x ++ codes "</p>" ++ endings =
     sym (take-append-drop n x) ∙ ap (λ y. take n x ++ y) last
     ∙ sym (append_assoc (take n x) (codes "</p>") endings) in
-    subst Q
-    (append_assoc (take n x ++ (32 ∷ back)) (codes "</p>") endings
-    ∙ append_assoc (take n x) (32 ∷ back) (codes "</p>" ++ endings)
-    ∙ ap (λ y. take n x ++ ((32 ∷ back) ++ y)) (sym last))
-    (takes (take n x) endings back (rest-ends x) (subst Q cut r) rb)
+    rw last (simp append_assoc at (takes (take n x) endings back (rest-ends x) (subst Q cut r) rb))
 
 -- the ways back, there or on a line of their own
 pub adds-body : (Q B : List ℕ → Type 0) {ending : List ℕ} → TakesBack Q B → (x back : List ℕ) →
@@ -137,9 +132,8 @@ item_tag v = codes "<li id=\"" ++ (v ++ (codes "\">" ++ []))
 pub item-turns : {test : Attribute → Bool} {Q R : List ℕ → Type 0} →
     TurnsTag test Q R (codes "li") → (v : List ℕ) → test (attribute (codes "id") v) ≡ true →
     Escaped v → Turns Q R (item_tag v) (codes "</li>")
-item-turns {Q = Q} {R} turns v passes h = subst (λ o. Turns Q R o (codes "</li>")) (ap
-    (λ x. codes "<li id=\"" ++ x) (append_assoc v (34 ∷ []) (62 ∷ []))) (turns.tag
-    (attribute (codes "id") v ∷ []) (li_id v h) (cc passes))
+item-turns turns v passes h = simp append_assoc at
+    (turns.tag (attribute (codes "id") v ∷ []) (li_id v h) (cc passes))
 
 -- the text of a footnote
 abbrev pub text_among : List Footnote → List ℕ → List ℕ

@@ -2,7 +2,7 @@
 -- content.
 use Rattle.std.proofs.Common.{Bool, List, ap, codes, false, refl, suc, sym, true, ℕ, ◌&&◌, ◌++◌}
 use Rattle.std.proofs.Common.{◌||◌, ◌∙◌, ◌∷◌, ◌≡◌, subst, [], not, cond}
-use Rattle.std.proofs.lemmas.Bool.{and_from, and_parts, cond_both, not-true, or_parts}
+use Rattle.std.proofs.lemmas.Bool.{and_parts, cond_both, not-true, or_parts}
 use Rattle.std.specs.Prelude.{None}
 use Rattle.md_base.specs.declared.event.Name.TheVariants as name_variants
 use name_variants.{AutolinkEmail, AutolinkProtocol, GfmAutolinkLiteralEmail}
@@ -19,7 +19,6 @@ use Rattle.md_meaning.specs.Meaning.Layout.{Piece, Text, layout, said, when}
 use Rattle.md_meaning.specs.Meaning.Means.{prints}
 use Rattle.md_meaning.specs.Meaning.Media.{anchor, autolink, leads_to, literal}
 use Rattle.md_meaning.specs.Meaning.Spans.{task_start}
-use Rattle.md_steps.proofs.Standing.{picked}
 use Rattle.md_text.proofs.EncodeLaws.{is_escaped-encoded}
 use Rattle.md_text.specs.Encode.{encoded}
 use Rattle.md_safe.proofs.BlockNodes.{hidden-prints, is_hidden, is_silent, silent-block}
@@ -175,12 +174,8 @@ is_inline name =
 
 spans-place : (name : Name) → is_hidden name ≡ false → is_inline name ≡ true →
     place_of name ≡ Phrasing
-spans-place name h is = picked _ _ _ (by name) (and_from _ _ (ap not h) is)
-  where
-    by : (name : Name) → cond (not (is_hidden name) && is_inline name) (place_of name)
-        Phrasing ≡ Phrasing
-    by Link = refl
-    by _ = refl
+spans-place Link h is = refl
+spans-place _ h is = cc
 
 -- spans stand in spans, of the same content but in a link
 spans-in : (nested : Bool) (content : Content) (name : Name) → is_spans content ≡ true →

@@ -3,8 +3,7 @@
 use Rattle.std.specs.List.{list_all}
 use Rattle.std.specs.Option.{option_map_or}
 use Rattle.std.proofs.Common.{◌≡◌, ℕ, ◌==◌, Bool, true, false, ◌||◌, List, [], ◌∷◌, ◌++◌, refl, sym}
-use Rattle.std.proofs.Common.{ap, ap₂, ◌∙◌, append-nil, arith, ◌≡◌, ℕ, Bool, true, false, List, []}
-use Rattle.std.proofs.Common.{◌∷◌, ◌++◌, refl, ap, ◌∙◌, arith}
+use Rattle.std.proofs.Common.{ap, ap₂, ◌∙◌, append-nil, arith}
 use Rattle.std.specs.Prelude.{Some, Option, Some, None, find, option_map}
 use Rattle.std.proofs.lemmas.Bool.{and_parts, and_from, and_parts, and_from, or_right}
 use Rattle.std.proofs.lemmas.List.Folds.{list_all-append}
@@ -13,7 +12,7 @@ use Rattle.md_text.specs.Laws.{is_line_ends}
 use Rattle.md_text.specs.Bytes.{is_one_of}
 use Rattle.md_text.specs.Html.{Attribute, Forest, Empty, Text, Void, Element, is_tag, elements}
 use Rattle.md_text.specs.Html.{void_tags, written_attributes, opening_tag, closing_tag, IsReading}
-use Rattle.md_text.specs.Html.{any_attribute, Forest, Empty, Text, Void, Element}
+use Rattle.md_text.specs.Html.{any_attribute}
 use Rattle.md_text.proofs.HtmlJoin.{text_before, joined, after_forest, opening-before}
 use Rattle.md_text.proofs.HtmlReading.{only_reading, all-any}
 use Rattle.md_text.proofs.HtmlWriting.{written_attributes-before}
@@ -23,8 +22,7 @@ use Rattle.md_safe.proofs.Laid.{IsBeside}
 use Rattle.md_safe.proofs.Tags.{Turns, TurnsTag, Tagged, Single, Takes}
 use Rattle.md_safe.specs.Contents.{Content, Flow, Phrasing, Linked, Preformatted, Characters}
 use Rattle.md_safe.specs.Contents.{held_in, voids_in, is_space, may_say, is_contained}
-use Rattle.md_safe.specs.Contents.{IsContainedAs, Content, Flow, Phrasing, span_elements}
-use Rattle.md_safe.specs.Contents.{block_elements, is_contained}
+use Rattle.md_safe.specs.Contents.{IsContainedAs, span_elements, block_elements}
 use Rattle.md_safe.proofs.Cases.{all-weaker}
 use Rattle.std.specs.Str.{bytes_eq}
 

@@ -13,7 +13,6 @@ use Rattle.md_meaning.specs.Meaning.Layout.{Piece, said}
 use Rattle.md_meaning.specs.Meaning.Means.{prints}
 use Rattle.md_meaning.specs.Meaning.Spans.{escaped, is_dropped, line_ending, reference}
 use Rattle.md_content.specs.Built.{Content, is_string}
-use Rattle.md_steps.proofs.Standing.{picked}
 use Rattle.md_safe.proofs.Spot.{NodeAdds, Setting, IsFitAt, Here, Prints, IsNarrow, encoded-escaped}
 use Rattle.md_safe.proofs.Texts.{Escaped, line_ends-escaped}
 use Rattle.md_safe.proofs.Laid.{adds-text, adds-nothing, adds-weaker}
@@ -53,12 +52,8 @@ line_ending-escaped s t h =
 
 data-prints : (context : Context) (t : At) (name : Name) → is_data name ≡ true →
     (inner : List Piece) → prints context t name inner ≡ escaped t (text_in context.bytes t.place)
-data-prints context t name is inner = picked _ _ _ (by name) is
-  where
-    by : (name : Name) → cond (is_data name) (prints context t name inner)
-        (escaped t (text_in context.bytes t.place)) ≡ escaped t (text_in context.bytes t.place)
-    by LineEnding = refl
-    by _ = refl
+data-prints context t LineEnding is inner = lie is
+data-prints context t _ is inner = cc
 
 other-node : (s : Setting) (t : At) (holds : List ℕ → Type 0) (name : Name) →
     IsNarrow t.around.is_escaping holds → is_text name && not (is_data name) ≡ true →

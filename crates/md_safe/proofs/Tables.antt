@@ -1,8 +1,7 @@
 -- Tables are built as they are read: what stands in a part of one, by what each element of it does;
 -- and their parts, rows and cells, with white space between.
 use Rattle.std.proofs.Common.{◌≡◌, ℕ, ◌≤◌, Bool, true, false, List, [], ◌∷◌, ◌++◌, refl, sym, ap}
-use Rattle.std.proofs.Common.{◌∙◌, subst, map, codes, arith, eqb-true, ◌≡◌, ℕ, suc, true, false}
-use Rattle.std.proofs.Common.{List, [], ◌∷◌, ◌++◌, refl, ap, ◌∙◌, codes, arith}
+use Rattle.std.proofs.Common.{◌∙◌, subst, map, codes, arith, eqb-true, suc}
 use Rattle.std.specs.Prelude.{Some, option_and_then}
 use Rattle.std.specs.List.{list_all}
 use Rattle.std.proofs.lemmas.Bool.{and_parts}
@@ -12,25 +11,20 @@ use Rattle.md_text.specs.Bytes.{is_one_of}
 use Rattle.md_text.specs.References.{read_back}
 use Rattle.md_text.specs.Html.{Attribute, Forest, Empty, Text, Void, Element, Attribute, Forest}
 use Rattle.md_safe.specs.Input.{begins_with_line_feed, with_line_feeds}
-use Rattle.md_safe.specs.Token.{Token, Character, StartTag, EndTag, StartTag, EndTag}
-use Rattle.md_safe.specs.Token.{TokenAttribute}
+use Rattle.md_safe.specs.Token.{Token, Character, StartTag, EndTag, TokenAttribute}
 use Rattle.md_safe.specs.Tokens.{seen, seen_attributes, tokens, seen_attributes, tokens}
 use Rattle.md_safe.specs.Contents.{Content, Parts, Rows, Cells, is_space, voids_in, may_say}
-use Rattle.md_safe.specs.Contents.{is_contained, elements_in, Content, Phrasing, Parts, Cells}
-use Rattle.md_safe.specs.Contents.{elements_in, is_contained}
-use Rattle.md_safe.specs.Node.{Nodes, Mode, Parser, with_element, Empty as NoNode, Nodes, Entry}
-use Rattle.md_safe.specs.Node.{Marker, Mode, InTable, InRow, InCell, with_element, Empty as NoNode}
+use Rattle.md_safe.specs.Contents.{is_contained, elements_in, Phrasing}
+use Rattle.md_safe.specs.Node.{Nodes, Mode, Parser, with_element, Empty as NoNode, Entry, Marker}
+use Rattle.md_safe.specs.Node.{InTable, InRow, InCell}
 use Rattle.md_safe.specs.Construction.{run, step, run}
-use Rattle.md_safe.specs.Built.{has_whole_texts, with_characters, put, AreCreated, has_whole_texts}
-use Rattle.md_safe.specs.Built.{put, is_body, AreCreated}
+use Rattle.md_safe.specs.Built.{has_whole_texts, with_characters, put, AreCreated, is_body}
 use Rattle.md_safe.proofs.Lists.{later-created, keeps-all, later-created}
 use Rattle.md_safe.proofs.TreeSteps.{Position, parser_of, with_children, after, seen-characters}
-use Rattle.md_safe.proofs.TreeSteps.{Position, parser_of, with_children, within, after, after-one}
-use Rattle.md_safe.proofs.TreeSteps.{start-in-body}
+use Rattle.md_safe.proofs.TreeSteps.{within, after-one, start-in-body}
 use Rattle.md_safe.proofs.PhrasingNames.{Each, found, Passed, Each, also}
 use Rattle.md_safe.proofs.Phrasing.{text-escaped, element-parts, phrasing-done}
 use Rattle.md_safe.proofs.TableTexts.{Settles, space-seen, waiting, is_tables, settled, text-waits}
-use Rattle.md_safe.proofs.TableTexts.{is_tables}
 use Rattle.md_safe.specs.Elements.{button_scope}
 use Rattle.md_safe.specs.Stack.{is_named, has_in_scope}
 use Rattle.md_safe.specs.InTable.{mode_for}

@@ -1,9 +1,7 @@
 -- The name of a tag and those of its attributes, byte after byte; from `<` or `</` to the end of a
 -- tag, and on to the data state; and a run from there.
 use Rattle.std.proofs.Common.{◌≡◌, ℕ, ◌==◌, true, false, not, List, [], ◌∷◌, ◌++◌, refl, ap}
-use Rattle.std.proofs.Common.{append-nil, append_assoc, arith, ◌≡◌, ℕ, Bool, true, false, not, ◌&&◌}
-use Rattle.std.proofs.Common.{List, [], ◌∷◌, ◌++◌, refl, sym, ap, ◌∙◌, append-nil, append_assoc}
-use Rattle.std.proofs.Common.{arith}
+use Rattle.std.proofs.Common.{append-nil, append_assoc, arith, Bool, ◌&&◌, sym, ◌∙◌}
 use Rattle.std.specs.List.{list_all, list_any}
 use Rattle.std.proofs.lemmas.Bool.{and_parts, and_parts, not-true}
 use Rattle.md_base.proofs.Lies.{lie}
@@ -14,8 +12,7 @@ use Rattle.md_safe.specs.Token.{Token, TokenAttribute, Token, StartTag, EndTag, 
 use Rattle.md_safe.specs.Tag.{Tag, with_tag_name, with_name, kept}
 use Rattle.md_safe.specs.TokenizerStates.{State, TagName, BeforeAttributeName, AttributeName}
 use Rattle.md_safe.specs.TokenizerStates.{AfterAttributeValueQuoted, Goes, is_space, Data, TagOpen}
-use Rattle.md_safe.specs.TokenizerStates.{EndTagOpen, TagName, BeforeAttributeName}
-use Rattle.md_safe.specs.TokenizerStates.{AfterAttributeValueQuoted, Goes, Stuck, emitted}
+use Rattle.md_safe.specs.TokenizerStates.{EndTagOpen, Stuck, emitted}
 use Rattle.md_safe.specs.Tokenizer.{step, step, IsRun}
 use Rattle.md_safe.proofs.LineFeeds.{no_return, line_feeds-append, line_feeds-name}
 use Rattle.md_safe.proofs.LineFeeds.{line_feeds-escaped}

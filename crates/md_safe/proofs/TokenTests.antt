@@ -1,21 +1,18 @@
 -- Tests that pass each token of a forest; the tables have no name by which something runs.
 use Rattle.std.proofs.Common.{◌≡◌, ℕ, Bool, true, false, List, [], ◌∷◌, ◌++◌, map, refl, subst}
-use Rattle.std.proofs.Common.{arith, ◌∙◌, ◌≡◌, ℕ, Bool, true, not, ◌&&◌, List, refl}
+use Rattle.std.proofs.Common.{arith, ◌∙◌, not, ◌&&◌}
 use Rattle.std.specs.List.{list_all}
 use Rattle.std.proofs.lemmas.Bool.{and_parts, and_from}
 use Rattle.md_text.specs.Bytes.{is_one_of}
 use Rattle.md_text.specs.Html.{Attribute, Forest, Empty, Text, Void, Element, is_forest, is_tag}
 use Rattle.md_text.specs.Html.{are_attributes, elements, void_tags, all_attributes, any_attribute}
-use Rattle.md_text.specs.Html.{HasOneReadingWith, Attribute, is_tag, elements, void_tags}
 use Rattle.md_text.specs.Html.{HasOneReadingWith}
 use Rattle.md_text.proofs.HtmlReading.{all-any}
 use Rattle.md_safe.specs.Input.{with_line_feeds}
 use Rattle.md_safe.specs.Token.{Token, Character, StartTag, EndTag, EndOfFile, TokenAttribute}
-use Rattle.md_safe.specs.Token.{Token, TokenAttribute}
 use Rattle.md_safe.specs.TokenizerStates.{Data, leaves_state}
 use Rattle.md_safe.specs.Tokenizer.{IsTokenized}
 use Rattle.md_safe.specs.Tokens.{tokens, seen, seen_attributes, is_listed, is_tag_of}
-use Rattle.md_safe.specs.Tokens.{seen_attributes}
 use Rattle.md_safe.proofs.GoodNames.{element-good, void-good, good-leaves, by_rule}
 use Rattle.md_safe.proofs.OneRun.{one_run}
 use Rattle.md_safe.proofs.Between.{reading-runs}

@@ -2,9 +2,8 @@
 -- an id by number determines its prefix, since what follows it begins with `fn`, and has no other
 -- `fn`.
 use Rattle.std.proofs.Common.{◌≡◌, ℕ, ◌≤◌, ◌==◌, Bool, true, false, ◌&&◌, ◌||◌, List, [], ◌∷◌, ◌++◌}
-use Rattle.std.proofs.Common.{refl, sym, ap, ◌∙◌, arith, codes, bytes_eq, append-nil, ◌≡◌, ◌⊎◌, inl}
-use Rattle.std.proofs.Common.{inr, ℕ, ◌||◌, Bool, true, false, not, List, [], ◌∷◌, ◌++◌, length}
-use Rattle.std.proofs.Common.{◌<◌, ◌^◌, ◌+◌, ◌≤◌, arith, refl, sym, ap, ◌∙◌, codes}
+use Rattle.std.proofs.Common.{refl, sym, ap, ◌∙◌, arith, codes, bytes_eq, append-nil, ◌⊎◌, inl, inr}
+use Rattle.std.proofs.Common.{not, length, ◌<◌, ◌^◌, ◌+◌}
 use Rattle.std.specs.List.{list_any, list_all, list_any}
 use Rattle.std.specs.Fmt.{decimal}
 use Rattle.std.proofs.lemmas.Bool.{or_right, and_from, or_left, or_right}
