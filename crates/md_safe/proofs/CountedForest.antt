@@ -247,7 +247,8 @@ spent d w (Node name start end children rest) around before waits m f h =
           later.prints;
       heading = subst (Waiting w (waits_after waits' rest) later.left) (heading-both
           others.found.heading here.found.heading) later.heading;
-      texts = texts-append w one.notes later.notes here.footnotes others.footnotes one.texts later.texts;
+      texts = texts-append w one.notes later.notes here.footnotes others.footnotes one.texts
+          later.texts;
       few = omega (one.few, later.few, due-append d w before.calls here.calls others.calls, arith);
     }
   where
