@@ -67,9 +67,7 @@ for-others w n footnote footnotes (identifier ∷ others) none h =
       h.0,
       h.1,
       h.2,
-      subst (λ b. Counts w h.0 (option_map_or (λ (f : Footnote). f.text) (cond b (Some footnote)
-          (find (λ f. bytes_eq f.identifier identifier) footnotes)) [])) (sym
-          (bytes_eq-sym footnote.identifier identifier ∙ parts.0)) h.3,
+      rw (bytes_eq-sym footnote.identifier identifier ∙ parts.0) h.3,
       for-others w h.1 footnote footnotes others parts.1 h.4,
     )
 
@@ -115,14 +113,8 @@ item-turn : (d : Document) (w : List ℕ) (n : ℕ) (v : List ℕ) → Escaped v
     (codes "<li id=\"" ++ (v ++ (codes "\">" ++ []))) (codes "</li>")
 item-turn d w n v h =
     let hit : ℕ = occurs w (read_back v ∷ []) in
-    record {
-      turn = λ x held. subst (λ o. Counts w (hit + n) (o ++ (x ++ codes "</li>"))) (ap
-          (λ y. codes "<li id=\"" ++ y) (append_assoc v (34 ∷ []) (62 ∷ []))) (subst
-          (Counts w (hit + n)) (append_assoc
-          (opening_tag (codes "li") (attribute (codes "id") v ∷ [])) x (closing_tag (codes "li")))
-          (counts-enclosed w n hit (codes "li") (attribute (codes "id") v ∷ []) x (li_id v h)
-          (omega arith) held));
-    }
+    record { turn = λ x held. simp append_assoc (simp append_assoc at (counts-enclosed w n hit
+        (codes "li") (attribute (codes "id") v ∷ []) x (li_id v h) (omega arith) held)) }
 
 occurs-first : (w x : List ℕ) (xs : List (List ℕ)) →
     occurs w (x ∷ xs) ≡ occurs w (x ∷ []) + occurs w xs

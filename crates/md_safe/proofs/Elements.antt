@@ -53,10 +53,6 @@ record IsOpening (W Q R : List ℕ → Type 0) (ending close : List ℕ)
   adds : Adds ending (IsFramed W open_tag) pieces
   turns : Turns Q R open_tag close
 
-pub ol_start : (n : List ℕ) → Escaped n →
-    is_tag elements (codes "ol") (attribute (codes "start") n ∷ []) ≡ true
-ol_start n h = rw h refl
-
 -- an ordered list around its items
 pub adds-ordered : {W Q R : List ℕ → Type 0} {test : Attribute → Bool} → IsBeside W → Takes W Q →
     Takes W R → (context : Context) → W context.ending → IsTest test context.options →
@@ -69,11 +65,8 @@ adds-ordered {W} {Q} {R} beside takes stays context h known turns at {inner} fit
     (codes "1") in
     let opening = by (without_zeros first) (zeros-escaped first
     (digits_of (number_in_list at.children) fits)) (bytes_eq (without_zeros first) (codes "1")) in
-    let start : List Piece = list_start context at in
-    let end : List Piece = Forced ∷ said (codes "</ol>") in
-    subst (λ x. Adds context.ending R (on_own_line (codes "<ol") ++ x))
-    (append_assoc start (said (codes ">")) (inner ++ end)) (adds-turned takes stays opening.turns
-    opening.adds a (framed-forced beside h))
+    rw (← (append_assoc (list_start context at) (said (codes ">")) (inner ++ (Forced ∷ said (codes
+    "</ol>"))))) (adds-turned {o = opening.open_tag} takes stays opening.turns opening.adds a (framed-forced beside h))
   where
     digits_of : (found : Option Position) → option_map_or
         (λ place. list_all is_digit (text_in context.bytes place)) found true ≡ true →
@@ -94,9 +87,7 @@ adds-ordered {W} {Q} {R} beside takes stays context h known turns at {inner} fit
       open_tag = codes "<ol start=\"" ++ (number ++ codes "\">");
       adds = adds-framed_flat beside (Text (codes "<ol") ∷ Text (codes " start=\"") ∷ Text number
           ∷ Text (codes "\"") ∷ Text (codes ">") ∷ []) refl (adds-needed beside h);
-      turns = subst (λ o. Turns Q R o (codes "</ol>")) (ap (λ x. codes "<ol start=\"" ++ x)
-          (append_assoc number (34 ∷ []) (62 ∷ []))) (turns.tag
-          (attribute (codes "start") number ∷ []) (ol_start number e)
+      turns = simp append_assoc at (turns.tag (attribute (codes "start") number ∷ []) (rw e refl)
           (cc (known.other (codes "start") number refl)));
     }
 

@@ -35,16 +35,13 @@ none-later : (options : CompileOptions) → options.gfm_footnote_number_ids ≡ 
     length all + 1 < 2 ^ 64 → length (before ++ x ∷ mid) + length calls + 1 < 2 ^ 64 →
     occurs (id_after options all before x) (ids_after options all (before ++ x ∷ mid) calls) ≡ 0
 none-later options on all before mid x [] among few small = refl
-none-later options on all before mid x (y ∷ calls) among few small = occurs-other _ _ _ (ids-differ
-    options on all before mid x y among few (omega (small, arith))) ∙ subst (λ b. occurs
-    (id_after options all before x) (ids_after options all b calls) ≡ 0)
-    (sym (append_assoc before (x ∷ mid) (y ∷ []))) (none-later options on all before (mid ++ y ∷ [])
-    x calls among few (omega (
-      ap length (append_assoc before (x ∷ mid) (y ∷ [])),
-      length-append (before ++ x ∷ mid) (y ∷ []),
-      small,
-      arith,
-    )))
+none-later options on all before mid x (y ∷ calls) among few small =
+    let same = append_assoc before (x ∷ mid) (y ∷ []) in
+    let longer = length-append (before ++ x ∷ mid) (y ∷ []) in
+    let later = none-later options on all before (mid ++ y ∷ []) x calls among few
+    (omega (ap length same, longer, small, arith)) in
+    occurs-other _ _ _ (ids-differ options on all before mid x y among few (omega (small, arith)))
+    ∙ (rw (← same) at later)
 
 -- each id is that of one call at most
 pub calls-once : (options : CompileOptions) → options.gfm_footnote_number_ids ≡ true →

@@ -88,8 +88,7 @@ pub not-active : (created : ℕ) (xs : List Entry) → AreCreated created xs →
 not-active created [] o = refl
 not-active created (Marker ∷ xs) o = not-active created xs o
 not-active created (Formatting identity name attributes ∷ xs) o =
-    ap (λ b. b || is_active created xs) (ne_eqb created identity (λ e. omega
-    (e, o.0, arith))) ∙ not-active created xs o.1
+    grind (arith, o.0, not-active created xs o.1)
 
 -- what is open stays open under another element
 pub open-under : (node : Open) (stack : List Open) (xs : List Entry) → AreOpen stack xs →

@@ -67,10 +67,10 @@ info-node : (s : Setting) (escaping : Bool) {inner rest : List Piece} → escapi
     (IsInfo code_tag) ((said (codes " class=\"language-") ++ (inner ++ said (codes "\""))) ++ rest)
 info-node s escaping e a b = adds-append
     {f = λ w. (v : List ℕ) × (w ≡ codes " class=\"language-" ++ (v ++ codes "\"")) × Escaped v}
-    (λ x y f g. subst (IsInfo code_tag) (sym (ap (λ y. x ++ y) g ∙ append-nil x ∙ f.1))
-    (inr (f.0, refl, f.2, refl))) (adds-append {f = λ x. x ≡ codes " class=\"language-"}
-    {g = λ w. (v : List ℕ) × (w ≡ v ++ codes "\"") × Escaped v} (λ x w f g.
-    (g.0, ap (λ x. x ++ w) f ∙ ap (λ w. codes " class=\"language-" ++ w) g.1, g.2)) (adds-text refl)
+    {g = IsNil} (λ x y f g. rw (g, append-nil, f.1) (inr (f.0, refl, f.2, refl))) (adds-append {f =
+    λ x. x ≡ codes " class=\"language-"}
+    {g = λ w. (v : List ℕ) × (w ≡ v ++ codes "\"") × Escaped v} (λ x w f g. (g.0, rw (f, g.1) refl,
+    g.2)) (adds-text refl)
     (adds-append (λ v y f g. (v, ap (λ y. v ++ y) g, f e)) a
     (adds-text {f = λ x. x ≡ codes "\""} refl))) b
 
@@ -97,8 +97,8 @@ meta-node s t _ is inner rest b = lie is
 -- the mark of a task that is done
 checked : (s : Setting) (in_image : Bool) {rest : List Piece} → Prints s IsNil rest →
     Prints s (IsDone in_image) (when (not in_image) (said (codes "checked=\"\" ")) ++ rest)
-checked s in_image b = adds-append (λ x y f g. subst (IsDone in_image)
-    (sym (ap (λ y. x ++ y) g ∙ append-nil x)) f) (by in_image) b
+checked s in_image b =
+    adds-append {f = IsDone in_image} {g = IsNil} (λ x y f g. rw (g, append-nil) f) (by in_image) b
   where
     by : (in_image : Bool) → Prints s
         (IsDone in_image) (when (not in_image) (said (codes "checked=\"\" ")))

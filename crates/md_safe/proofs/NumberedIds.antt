@@ -64,23 +64,13 @@ last-append (b ∷ []) (c ∷ y) h = h
 last-append (b ∷ c ∷ x) y h = last-append (c ∷ x) y h
 
 -- ---- what is read back
-digit-no_and : (b : ℕ) → is_digit b ≡ true → no_and b ≡ true
-digit-no_and b h = (and_parts _ _ (digit-plain b h)).1
-
 digits-no_and : (x : List ℕ) → list_all is_digit x ≡ true → list_all no_and x ≡ true
-digits-no_and x h = all-weaker is_digit no_and digit-no_and x h
+digits-no_and = all-weaker is_digit no_and (λ b h. (and_parts _ _ (digit-plain b h)).1)
 
 -- a text without `&` is read back as it is
 plain-back : (x : List ℕ) → list_all no_and x ≡ true → read_back x ≡ x
 plain-back [] h = refl
-plain-back (b ∷ x) h =
-    let parts = and_parts (not (b == 38)) (list_all no_and x) h in
-    read_back-other b x (λ e. lie (subst (λ b. not (b == 38) ≡ true) e parts.0))
-    ∙ ap (λ y. b ∷ y) (plain-back x parts.1)
-
-no_and-append : (x y : List ℕ) → list_all no_and x ≡ true → list_all no_and y ≡ true →
-    list_all no_and (x ++ y) ≡ true
-no_and-append x y h g = list_all-append no_and x y ∙ and_from _ _ h g
+plain-back (b ∷ x) h = grind (arith, read_back-other b x, plain-back x)
 
 -- the prefix, read back
 abbrev pub back_prefix : CompileOptions → List ℕ
@@ -130,8 +120,9 @@ call-back options on identifier number occurrence =
     (append_assoc prefix (codes "fnref-" ++ decimal number) (45 ∷ decimal occurrence))
     ∙ prefix-back options (call_tail number occurrence)
     ∙ ap (λ x. back_prefix options ++ x) (plain-back (call_tail number occurrence)
-    (no_and-append (decimal number) (45 ∷ decimal occurrence) (digits-no_and (decimal number)
-    (decimal-digits number)) (digits-no_and (decimal occurrence) (decimal-digits occurrence))))
+    (list_all-append no_and (decimal number) (45 ∷ decimal occurrence)
+    ∙ and_from _ _ (digits-no_and (decimal number) (decimal-digits number))
+    (digits-no_and (decimal occurrence) (decimal-digits occurrence))))
 
 -- equal ids have equal numbers
 pub same-note : (options : CompileOptions) (n m : ℕ) → n < 2 ^ 64 → m < 2 ^ 64 →
@@ -162,7 +153,7 @@ note-no_call options n m k e =
     cc tails
 
 pub label-no_digit : (x : List ℕ) → codes "footnote-label" ≡ x → EndsInDigit x → ⊥
-label-no_digit x e ends = lie (subst EndsInDigit (sym e) ends)
+label-no_digit x e ends = lie (rw (sym e) at ends)
 
 pub note-ends : (options : CompileOptions) (n : ℕ) →
     EndsInDigit (back_prefix options ++ note_tail n)
@@ -216,28 +207,21 @@ calls-differ all before mid x y among numbers occurrences =
 -- numbers and occurrences are no greater than the calls are many, and one
 place-last : (xs : List (List ℕ)) (x : List ℕ) → place_among xs x ≤ suc (length xs)
 place-last [] x = omega arith
-place-last (y ∷ ys) x = cond_both (bytes_eq y x) 1 (suc (place_among ys x))
-    (λ n. n ≤ suc (suc (length ys))) (λ _. omega arith) (λ _. omega (place-last ys x, arith))
+place-last (y ∷ ys) x = grind (arith, place-last ys x)
 
 count-last : (xs : List (List ℕ)) (x : List ℕ) → count_of xs x ≤ length xs
 count-last [] x = omega arith
-count-last (y ∷ ys) x = cond_both (bytes_eq y x) 1 0 (λ n. n + count_of ys x ≤ suc (length ys))
-    (λ _. omega (count-last ys x, arith)) (λ _. omega (count-last ys x, arith))
+count-last (y ∷ ys) x = grind (arith, count-last ys x)
 
 filter-fewer : (p : List ℕ → Bool) (xs : List (List ℕ)) → length (filter p xs) ≤ length xs
 filter-fewer p [] = omega arith
-filter-fewer p (x ∷ xs) = cond_both (p x) (x ∷ filter p xs) (filter p xs)
-    (λ ys. length ys ≤ suc (length xs)) (λ _. omega (filter-fewer p xs, arith))
-    (λ _. omega (filter-fewer p xs, arith))
+filter-fewer p (x ∷ xs) = grind (arith, filter-fewer p xs)
 
 pub distinct-fewer : (calls : List (List ℕ)) → length (distinct calls) ≤ length calls
 distinct-fewer [] = omega arith
 distinct-fewer (call ∷ calls) =
-    omega (
-      filter-fewer (λ other. not (bytes_eq other call)) (distinct calls),
-      distinct-fewer calls,
-      arith,
-    )
+    let fewer = filter-fewer (λ other. not (bytes_eq other call)) (distinct calls) in
+    omega (fewer, distinct-fewer calls, arith)
 
 pub number-bound : (all : List (List ℕ)) (x : List ℕ) →
     place_among (distinct all) x ≤ suc (length all)

@@ -136,15 +136,11 @@ a-formats = record {
 
 pub void-named : (name : List ℕ) → is_one_of (codes "br" ∷ codes "img" ∷ codes "input" ∷ []) name
     ≡ true → IsVoid name
-void-named name h = either _ _ h (λ e. void (codes "br") e refl (λ attributes p. refl)) (λ c. either
-    _ _ c (λ e. void (codes "img") e refl (λ attributes p. refl)) (λ c. either _ _ c
-    (λ e. void (codes "input") e refl (λ attributes p. refl)) (λ none. lie none)))
-  where
-    void : (one : List ℕ) → bytes_eq name one ≡ true → is_one_of parts one ≡ false → ((attributes :
-        List TokenAttribute) (p : Parser) → start_in_body one attributes p ≡ reconstructed p
-        (insert_void one attributes)) → IsVoid name
-    void one e outer starts = subst IsVoid (sym ((bytes_eq-Decides name one).0 e))
-        (record { outer = outer; starts = starts })
+void-named name h =
+    let same = λ (one : List ℕ) (e : bytes_eq name one ≡ true). (bytes_eq-Decides name one).0 e in
+    either _ _ h (λ e. rw (same (codes "br") e) search) (λ c. either _ _ c
+    (λ e. rw (same (codes "img") e) search) (λ c. either _ _ c
+    (λ e. rw (same (codes "input") e) search) (λ none. lie none)))
 
 -- ---- what is built
 

@@ -76,15 +76,12 @@ pub fenced-end : {W : List ℕ → Type 0} {ending : List ℕ} → IsBeside W �
     ending (IsFramed W code_closing) (when (runs_out t)
     (Forced ∷ []) ++ (code_end t ++ when (is_unclosed t) (Needed ∷ [])))
 fenced-end {W} {ending} beside h t =
-    let chunks : Bool = list_any is_chunk (spine_names t.children) in
-    let out : List Piece = when (runs_out t) (Forced ∷ []) in
-    let line : List Piece = when chunks (Needed ∷ []) in
-    let last : List Piece = when (is_unclosed t) (Needed ∷ []) in
-    subst (λ x. Adds ending (IsFramed W code_closing) (out ++ x))
-    (sym (append_assoc line (said code_closing) last)) (subst
-    (Adds ending (IsFramed W code_closing)) (append_assoc out line (Text code_closing ∷ last))
-    (adds-framed (adds-append beside.both (adds-when beside _ (adds-forced h))
-    (adds-when beside _ (adds-needed beside h))) (adds-when beside _ (adds-needed beside h))))
+    let out = adds-when beside (runs_out t) (adds-forced h) in
+    let line = adds-when beside (list_any is_chunk (spine_names t.children)) (adds-needed beside h)
+    in
+    let last = adds-when beside (is_unclosed t) (adds-needed beside h) in
+    simp append_assoc (simp append_assoc at (adds-framed {c = code_closing} (adds-append beside.both
+        out line) last))
 
 pub code_class : (v : List ℕ) → Escaped v → is_tag elements (codes "code")
     (attribute (codes "class") (codes "language-" ++ v) ∷ []) ≡ true

@@ -20,7 +20,7 @@ use Rattle.md_base.specs.Identifier.{is_nonempty}
 use Rattle.md_text.specs.References.{is_escaped, read_back}
 use Rattle.md_text.specs.Safe.{is_safe_value}
 use Rattle.md_text.proofs.EncodeLaws.{read_back-other}
-use Rattle.md_safe.proofs.Cases.{one_of-passes, all-weaker}
+use Rattle.md_safe.proofs.Cases.{one_of-passes, all-weaker, cases}
 use Rattle.md_safe.specs.Tokens.{seen}
 use Rattle.md_safe.proofs.EscapedCases.{IsPlain, by_escaped}
 use Rattle.md_safe.proofs.LineFeeds.{no_return, line_feeds-name, one}
@@ -94,16 +94,7 @@ ReadsAlike x = (read_back (with_line_feeds x) ≡ with_line_feeds (read_back x))
 
 one-read : (b : ℕ) (feed : Bool) (later : List ℕ) → IsPlain b →
     read_back (one b feed later) ≡ one b feed (read_back later)
-one-read b feed later p = elim (cases_Bool (b == 13)) [
-  | inl is ↦ ap read_back (here _ is refl) ∙ by feed later ∙ sym (here _ is refl)
-  | inr not ↦ ap read_back (past _ not refl) ∙ read_back-other b later (eqb-false b 38 p.no_and)
-      ∙ sym (past _ not refl)
-]
-  where
-    by : (feed : Bool) (later : List ℕ) → read_back (cond feed later (10 ∷ later))
-        ≡ cond feed (read_back later) (10 ∷ read_back later)
-    by true later = refl
-    by false later = refl
+one-read b feed later p = grind (arith, read_back-other b later (eqb-false b 38 p.no_and))
 
 plain-alike : (b : ℕ) (rest : List ℕ) → IsPlain b → ReadsAlike rest → ReadsAlike (b ∷ rest)
 plain-alike b rest p h =
@@ -122,22 +113,14 @@ seen-is x e =
 -- ---- a protocol of letters
 protocol-split : (x q : List ℕ) → protocol_of x ≡ Some q → (r : List ℕ) × (x ≡ q ++ (58 ∷ r))
 protocol-split [] q e = absurd (none_some q e)
-protocol-split (b ∷ rest) q e = elim (cases_Bool (b == 58)) [
-  | inl colon ↦ (rest, first (eqb-true b 58 colon) (sym (protocol_of-colon b rest colon) ∙ e))
-  | inr on ↦ elim (cases_Bool (ends_protocol b)) [
-    | inl ends ↦ absurd (none_some q (sym (protocol_of-end b rest on ends) ∙ e))
-    | inr goes ↦ (let g : goes_on b ≡ true = ap₂ (λ s t. not s && not t) on goes in
-        let p = map_some b (protocol_of rest) q (sym (protocol_of-goes_on b rest g) ∙ e) in
-        let later = protocol-split rest p.0 p.1 in
-        (later.0, ap (λ y. b ∷ y) later.1 ∙ ap (λ q. q ++ (58 ∷ later.0)) (sym p.2)))
-  ]
-]
-  where
-    empty : (q : List ℕ) → Some [] ≡ Some q → [] ≡ q
-    empty q e = cc
-
-    first : b ≡ 58 → Some [] ≡ Some q → b ∷ rest ≡ q ++ (58 ∷ rest)
-    first is e = ap (λ b. b ∷ rest) is ∙ ap (λ q. q ++ (58 ∷ rest)) (empty q e)
+protocol-split (b ∷ rest) q e = cases (b == 58) (λ colon.
+    let none : Some [] ≡ Some q = sym (protocol_of-colon b rest colon) ∙ e in
+    (rest, cc (eqb-true b 58 colon, none))) (λ on. cases (ends_protocol b)
+    (λ ends. absurd (none_some q (sym (protocol_of-end b rest on ends) ∙ e))) (λ goes.
+    let g : goes_on b ≡ true = ap₂ (λ s t. not s && not t) on goes in
+    let p = map_some b (protocol_of rest) q (sym (protocol_of-goes_on b rest g) ∙ e) in
+    let later = protocol-split rest p.0 p.1 in
+    (later.0, ap (λ y. b ∷ y) later.1 ∙ ap (λ q. q ++ (58 ∷ later.0)) (sym p.2))))
 
 abbrev pub is_word : List ℕ → Bool
 is_word name = is_nonempty name && list_all is_letter name

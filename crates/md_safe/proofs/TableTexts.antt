@@ -32,9 +32,8 @@ space-read : (x : List ℕ) → list_all is_space x ≡ true → list_all is_spa
 space-read [] h = refl
 space-read (b ∷ x) h =
     let parts = and_parts (is_space b) (list_all is_space x) h in
-    ap (list_all is_space) (read_back-other b x (λ e. lie (subst (λ b. is_space b ≡ true) e
-    parts.0)))
-    ∙ and_from (is_space b) (list_all is_space (read_back x)) parts.0 (space-read x parts.1)
+    rw (read_back-other b x (λ e. lie (rw e at parts.0)))
+    (and_from (is_space b) (list_all is_space (read_back x)) parts.0 (space-read x parts.1))
 
 pub space-seen : (x : List ℕ) → list_all is_space x ≡ true → list_all is_space (seen x) ≡ true
 space-seen x h = space-read (with_line_feeds x) (line_feeds-all is_space refl x h)

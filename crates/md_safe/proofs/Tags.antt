@@ -72,16 +72,14 @@ pub record Single (test : Attribute → Bool) (R : List ℕ → Type 0) (name : 
 
 pub element-read : (p : Claim) (name : List ℕ) → Tagged p.test p.holds p.holds name
 element-read p name = record {
-  tag = λ attributes inside h a r. subst (λ x. p.holds (60 ∷ (name ++ x)))
-      (written_attributes-before attributes (62 ∷ (inside ++ (60 ∷ 47 ∷ (name ++ (62 ∷ []))))))
-      (p.within name attributes inside h a r);
+  tag = λ attributes inside h a r. rw (← (written_attributes-before attributes _)) (p.within name
+      attributes inside h a r);
 }
 
 pub void-read : (p : Claim) (name : List ℕ) → Single p.test p.holds name
 void-read p name = record {
-  tag = λ attributes h a. p.plain (60 ∷ (name ++ attributes_before attributes (32 ∷ 47 ∷ 62 ∷ [])))
-      (subst (λ x. HasReadingWith p.test (60 ∷ (name ++ x)))
-      (written_attributes-before attributes (32 ∷ 47 ∷ 62 ∷ [])) (void p.test name attributes h a));
+  tag = λ attributes h a. rw (← (written_attributes-before attributes _)) (p.plain _ (void p.test
+      name attributes h a));
 }
 
 -- what stays when such texts are beside it
