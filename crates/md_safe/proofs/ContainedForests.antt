@@ -1,27 +1,35 @@
--- The content model allows the meaning of a document's nodes: one induction over blocks, in
--- addition to that of `Forests`, which covers strings, code and images.
-use Rattle.std.proofs.Common.{◌≡◌, ℕ, Bool, true, false, List, refl, sym, ◌||◌, cond, [], ◌∷◌, ap}
-use Rattle.std.proofs.Common.{◌∙◌, subst, append-nil}
+-- The content model allows the meaning of a document's nodes: what pieces add to a text stands as
+-- some content; one induction over blocks, in addition to that of `Forests`, which covers strings,
+-- code and images.
+use Rattle.std.proofs.Common.{◌≡◌, ℕ, Bool, true, List, [], ◌++◌, refl, false, sym, ◌||◌, cond, ◌∷◌}
+use Rattle.std.proofs.Common.{ap, ◌∙◌, subst, append-nil}
+use Rattle.md_meaning.specs.Meaning.Layout.{Piece, layout, when}
+use Rattle.md_safe.proofs.Laid.{Adds, adds-append, adds-weaker, adds-nothing, adds-needed}
+use Rattle.md_safe.proofs.Laid.{adds-alone}
+use Rattle.md_safe.specs.Contents.{Content, Phrasing, Flow}
+use Rattle.md_safe.proofs.Stands.{Stands, stands-join, stands-nothing, stands-white, takes-white}
+use Rattle.md_safe.proofs.Stands.{IsWhite, is_spaced, white_beside, line_ends-white, stands-text}
+use Rattle.md_safe.proofs.Stands.{turns-tag, stands-tag, stands-void, stands-wider}
+use Rattle.md_safe.proofs.Costs.{Document, read_in, through-node}
+use Rattle.md_base.specs.declared.event.Name.{Name}
+use Rattle.md_safe.proofs.Claims.{Claims, Known}
+use Rattle.md_safe.proofs.Insides.{is_blocks, is_blocks-same}
+use Rattle.md_content.specs.Built.{content_of, Blocks, is_part, is_source, may_stand}
+use Rattle.md_content.specs.Built.{content_inside, IsBuilt}
+use Rattle.md_safe.proofs.Linking.{place_in, with_links, is_spans, inner_place, inner-place-with}
+use Rattle.md_safe.proofs.Linking.{IsLinked, linked-inside, unnested-inside, unnested-after}
+use Rattle.md_safe.proofs.Linking.{unlinked-here, unlinked-spans}
+use Rattle.md_safe.proofs.Elements.{adds-empty_cells}
 use Rattle.std.specs.Prelude.{Option}
 use Rattle.md_base.proofs.Lies.{lie}
-use Rattle.md_base.specs.declared.event.Name.{Name}
 use Rattle.md_base.specs.declared.event.Name.TheVariants as name_variants
 use name_variants.{Other, BlockQuotePrefix, SpaceOrTab, HeadingSetextText, GfmFootnoteDefinition}
 use Rattle.md_base.specs.Is.{is as named}
 use Rattle.md_base.specs.NameTests.{is_transparent}
-use Rattle.md_meaning.specs.Meaning.At.{Footnote, At, Footnote, Before, At, identifier_of}
-use Rattle.md_meaning.specs.Meaning.Layout.{layout, layout, when}
-use Rattle.md_meaning.specs.Meaning.Nodes.{Outcome, found_at, Outcome, node, before_next, outcome}
-use Rattle.md_safe.proofs.Laid.{adds-alone}
+use Rattle.md_meaning.specs.Meaning.At.{Footnote, At, Before, identifier_of}
+use Rattle.md_meaning.specs.Meaning.Nodes.{Outcome, found_at, node, before_next, outcome}
 use Rattle.md_safe.proofs.Findings.{AreTexts, AreFound, texts-append}
-use Rattle.md_safe.proofs.Costs.{Document, through-node, Document, read_in}
-use Rattle.md_safe.specs.Contents.{Content, Flow, Phrasing, Content, Phrasing, Flow}
 use Rattle.md_safe.specs.Placed.{Block, sort_of, may_stand as may_place, IsPlaced}
-use Rattle.md_safe.proofs.Linking.{with_links, is_spans, place_in, inner_place, inner-place-with}
-use Rattle.md_safe.proofs.Linking.{IsLinked, linked-inside, unnested-inside, unnested-after}
-use Rattle.md_safe.proofs.Linking.{unlinked-here, unlinked-spans}
-use Rattle.md_safe.proofs.Stands.{Stands, Stands, IsWhite, stands-nothing}
-use Rattle.md_safe.proofs.ContainedLaid.{Own, lays-nothing, lays-both, Prints, standing, Own}
 use Rattle.md_safe.proofs.Cases.{OnSome, on-later, on-either, cases}
 use Rattle.std.proofs.lemmas.Bool.{cond_both}
 use Rattle.md_base.specs.Tree.{Forest, Empty, Node}
@@ -29,20 +37,68 @@ use Rattle.md_pattern.specs.Looseness.{is_loose}
 use Rattle.md_meaning.specs.declared.surroundings.Surroundings.{Surroundings}
 use Rattle.md_meaning.specs.Meaning.Inherited.{inside}
 use Rattle.md_meaning.specs.Meaning.Before.{before_children}
-use Rattle.md_content.specs.Built.{Blocks, is_part, is_source, may_stand, content_of}
-use Rattle.md_content.specs.Built.{content_inside, IsBuilt}
 use Rattle.md_safe.proofs.Following.{second}
-use Rattle.md_safe.proofs.Insides.{is_blocks, is_blocks-same}
 use Rattle.md_safe.proofs.Nodes.{not_part}
 use Rattle.md_safe.proofs.Forests.{Ready, ready-inside, ready-after, inside-means, found-at}
 use Rattle.md_safe.proofs.Forests.{Means as SafeMeans, means as safe-means}
 use Rattle.md_safe.proofs.PlainCosts.{no_footnotes}
 use Rattle.md_safe.specs.Links.{has_nested_link}
 use Rattle.md_safe.proofs.Contents.{after-blocks}
-use Rattle.md_safe.proofs.Claims.{Known}
 use Rattle.md_safe.proofs.SpanCases.{Spanning}
 use Rattle.md_safe.proofs.FlowCases.{solid-node}
 use Rattle.md_safe.proofs.Spot.{at_in}
+
+-- what pieces add stands as this content
+abbrev pub Lays : (nested : Bool) → List ℕ → Content → List Piece → Type 0
+Lays nested ending content pieces = Adds ending (Stands nested content) pieces
+
+pub lays-white : {nested : Bool} {ending : List ℕ} {content : Content} {pieces : List Piece} →
+    is_spaced content ≡ true → Adds ending IsWhite pieces → Lays nested ending content pieces
+lays-white is a = adds-weaker (λ x h. stands-white is h) a
+
+pub lays-nothing : {nested : Bool} {ending : List ℕ} {content : Content} →
+    Lays nested ending content []
+lays-nothing = adds-nothing stands-nothing
+
+pub lays-both : {nested : Bool} {ending : List ℕ} {content : Content} {xs ys : List Piece} →
+    Lays nested ending content xs → Lays nested ending content ys →
+    Lays nested ending content (xs ++ ys)
+lays-both a b = adds-append stands-join a b
+
+-- what pieces add in a document
+abbrev pub Prints : (nested : Bool) → Document → Content → List Piece → Type 0
+Prints nested d content pieces = Lays nested d.context.ending content pieces
+
+-- what children print as content, where to the grammar they are blocks
+abbrev pub Own : (nested : Bool) → Document → Content → Name → List Piece → Type 0
+Own nested d content name inner = is_blocks (content_of name Blocks) ≡ true → Prints nested d
+    (place_in nested content name) inner
+
+-- the claims that a text stands as each content
+abbrev pub standing : (nested : Bool) (d : Document) → IsWhite d.context.ending → Claims
+standing nested d white = record {
+  s = read_in d;
+  nested = nested;
+  holds = Stands nested;
+  around = IsWhite;
+  beside = white_beside;
+  ending = white;
+  line_ends = line_ends-white;
+  space = (refl, refl);
+  takes = λ content is. takes-white is;
+  alone = λ content is x h. stands-white is h;
+  text = λ content x h may. stands-text h may;
+  tag = λ held content name opens. turns-tag held opens;
+  element = λ held content name opens. stands-tag held opens;
+  void = λ content name v. stands-void v;
+  wider = stands-wider;
+  code = λ x w h g. stands-join x w (stands-text h refl) (stands-text g.0 refl);
+  filled = λ in_head kinds inner a. lays-both a (adds-empty_cells (read_in d).test
+      (stands-tag Phrasing refl, stands-tag Phrasing refl) (λ xs a. lays-both
+      (lays-white refl (adds-needed white_beside white)) a)
+      (record { none = stands-nothing; both = stands-join }) (stands-nothing {content = Phrasing})
+      in_head kinds);
+}
 
 -- a heading's text that was found is phrasing content
 abbrev pub IsHeading : (nested : Bool) → Option (List ℕ) → Type 0

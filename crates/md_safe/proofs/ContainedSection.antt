@@ -26,8 +26,7 @@ use Rattle.md_safe.proofs.Section.{adds-body, heading_label_of, heading_text, tu
 use Rattle.md_safe.proofs.Section.{item-turns, note_id, texts-among, text_among, backs_of}
 use Rattle.md_safe.proofs.Section.{adds-item, adds-section}
 use Rattle.md_safe.proofs.Costs.{Document, read_in}
-use Rattle.md_safe.proofs.ContainedLaid.{lays-white, lays-both, Prints}
-use Rattle.md_safe.proofs.ContainedForests.{AreFlow}
+use Rattle.md_safe.proofs.ContainedForests.{lays-white, lays-both, Prints, AreFlow}
 use Rattle.md_safe.proofs.Linking.{in_link}
 
 -- a forest with an element among its roots; a text is inserted after the element's children

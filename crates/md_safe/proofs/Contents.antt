@@ -13,7 +13,7 @@ use Rattle.md_content.specs.Built.{Content, Blocks, Spans, Strings, FirstFence, 
 use Rattle.md_content.specs.Built.{Chunks, InfoAndMeta, MetaAlone, Done, Nothing, Sources}
 use Rattle.md_content.specs.Built.{content_past, content_after, content_after_node}
 use Rattle.md_safe.proofs.Texts.{Escaped}
-use Rattle.md_safe.proofs.Claim.{Claim}
+use Rattle.md_safe.proofs.Tags.{Claim}
 use Rattle.md_safe.proofs.Elements.{IsDone}
 use Rattle.md_safe.proofs.RawElements.{IsRaw, IsInfo, code_tag, math_tag}
 

@@ -14,9 +14,8 @@ use Rattle.md_text.proofs.HtmlIds.{counts-more, counts-join, counts-element, cou
 use Rattle.md_text.proofs.HtmlIds.{occurs-append}
 use Rattle.md_text.specs.declared.options.CompileOptions.{CompileOptions}
 use Rattle.md_meaning.specs.Meaning.At.{Footnote, Context, Before, At, identifier_of}
-use Rattle.md_safe.proofs.Claim.{Claim, reading}
+use Rattle.md_safe.proofs.Tags.{Claim, reading, IsTest, attribute}
 use Rattle.md_safe.proofs.Texts.{Escaped}
-use Rattle.md_safe.proofs.Tags.{IsTest, attribute}
 use Rattle.md_safe.proofs.Calls.{a_call, call_text, call-regrouped}
 use Rattle.md_base.proofs.Lies.{lie}
 use Rattle.md_base.specs.declared.event.Name.{Name}

@@ -1,11 +1,10 @@
 -- How often an id stands in the section of footnotes, and in a document: at most once.
-use Rattle.std.proofs.Common.{◌≡◌, ℕ, ◌+◌, ◌≤◌, ◌<◌, ◌^◌, true, false, cond, List, [], ◌∷◌}
-use Rattle.std.proofs.Common.{◌++◌, length, refl, sym, ap, ◌∙◌, subst, arith, append_assoc, codes}
-use Rattle.std.proofs.Common.{bytes_eq}
+use Rattle.std.proofs.Common.{◌≡◌, ℕ, ◌+◌, ◌≤◌, ◌<◌, ◌^◌, true, false, List, [], ◌∷◌, ◌++◌, length}
+use Rattle.std.proofs.Common.{refl, sym, ap, ◌∙◌, subst, arith, append_assoc, codes, bytes_eq}
 use Rattle.std.specs.Prelude.{Some, find}
 use Rattle.std.specs.Option.{option_map_or}
 use Rattle.std.proofs.lemmas.Bool.{or_parts, cond_both}
-use Rattle.md_text.specs.Html.{any_attribute, opening_tag, closing_tag}
+use Rattle.md_text.specs.Html.{any_attribute}
 use Rattle.md_text.proofs.HtmlJoin.{join}
 use Rattle.md_base.specs.Tree.{Forest}
 use Rattle.md_text.specs.References.{read_back}
@@ -23,9 +22,8 @@ use Rattle.md_content.specs.Underlined.{waits_after, IsUnderlined}
 use Rattle.md_meaning.proofs.Identifiers.{is_in, Apart, same, distinct-apart, bytes_eq-sym}
 use Rattle.md_safe.specs.Options.{KeepsGrammar}
 use Rattle.md_safe.proofs.Texts.{Escaped}
-use Rattle.md_safe.proofs.Claim.{Claim}
+use Rattle.md_safe.proofs.Tags.{Claim, Turns, bracket-tag, attribute}
 use Rattle.md_safe.proofs.Laid.{adds-append, adds-nothing, adds-alone}
-use Rattle.md_safe.proofs.Tags.{Turns, bracket-tag, attribute}
 use Rattle.md_safe.proofs.Calls.{label-escaped, id-escaped}
 use Rattle.md_safe.proofs.Spot.{Setting, Prints}
 use Rattle.md_safe.proofs.Section.{turn-after, li_id, item-prints, section-around, text_among}
@@ -113,8 +111,10 @@ item-turn : (d : Document) (w : List ℕ) (n : ℕ) (v : List ℕ) → Escaped v
     (codes "<li id=\"" ++ (v ++ (codes "\">" ++ []))) (codes "</li>")
 item-turn d w n v h =
     let hit : ℕ = occurs w (read_back v ∷ []) in
-    record { turn = λ x held. simp append_assoc (simp append_assoc at (counts-enclosed w n hit
-        (codes "li") (attribute (codes "id") v ∷ []) x (li_id v h) (omega arith) held)) }
+    record {
+      turn = λ x held. simp append_assoc (simp append_assoc at (counts-enclosed w n hit
+          (codes "li") (attribute (codes "id") v ∷ []) x (li_id v h) (omega arith) held));
+    }
 
 occurs-first : (w x : List ℕ) (xs : List (List ℕ)) →
     occurs w (x ∷ xs) ≡ occurs w (x ∷ []) + occurs w xs

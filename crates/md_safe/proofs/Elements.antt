@@ -1,7 +1,7 @@
 -- The tags of blocks, of code, of tasks, of lists and of cells around what they hold: each keeps
 -- the claim.
 use Rattle.std.proofs.Common.{◌≡◌, ◌≢◌, ◌⊎◌, ℕ, ◌≤◌, ◌<◌, ◌==◌, Bool, true, false, not, cond, List}
-use Rattle.std.proofs.Common.{[], ◌∷◌, ◌++◌, refl, ap, ◌∙◌, subst, inl, inr, arith}
+use Rattle.std.proofs.Common.{[], ◌∷◌, ◌++◌, refl, ap, ◌∙◌, inl, inr, arith}
 use Rattle.std.proofs.Common.{append_assoc, codes, ne_eqb}
 use Rattle.std.specs.Prelude.{Option, Some, None, bytes_eq, Option, Some, None}
 use Rattle.std.specs.Option.{option_map_or}
@@ -17,11 +17,10 @@ use Rattle.md_meaning.specs.Meaning.Finds.{number_in_list}
 use Rattle.md_meaning.specs.Meaning.Blocks.{list_start, without_zeros}
 use Rattle.md_content.specs.Built.{is_digit}
 use Rattle.md_safe.proofs.Texts.{Escaped, zeros-escaped}
-use Rattle.md_safe.proofs.Claim.{Claim}
-use Rattle.md_safe.proofs.Laid.{Adds, adds-append, adds-needed, IsBeside, adds-all, adds-nothing}
-use Rattle.md_safe.proofs.Tags.{IsTest, attribute, IsFramed, Bracket, Turns, TurnsTag, Single}
-use Rattle.md_safe.proofs.Tags.{Takes, bracket-tag, adds-turned, adds-flat, framed-text}
+use Rattle.md_safe.proofs.Tags.{Claim, IsTest, attribute, IsFramed, Bracket, Turns, TurnsTag}
+use Rattle.md_safe.proofs.Tags.{Single, Takes, bracket-tag, adds-turned, adds-flat, framed-text}
 use Rattle.md_safe.proofs.Tags.{framed-needed, framed-forced, adds-framed_flat, Tagged}
+use Rattle.md_safe.proofs.Laid.{Adds, adds-append, adds-needed, IsBeside, adds-all, adds-nothing}
 use Rattle.md_base.specs.declared.event.AlignKind.{AlignKind}
 use Rattle.md_base.specs.declared.event.AlignKind.TheVariants as align
 use Rattle.md_meaning.specs.Meaning.Tables.{align_attribute, cell_of}

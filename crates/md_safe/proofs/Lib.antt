@@ -1,7 +1,6 @@
 -- The lemmas: of one reading, links, images and ids,
 pub mod Cases
 pub mod Texts
-pub mod Claim
 pub mod Laid
 pub mod Tags
 pub mod Media
@@ -39,7 +38,6 @@ pub mod Whole
 pub mod WholeIds
 -- and of what stands in what.
 pub mod Placing
-pub mod ContainedLaid
 pub mod ContainedForests
 pub mod ContainedSection
 pub mod ContainedWhole
@@ -67,7 +65,6 @@ pub mod TreeSteps
 pub mod PhrasingNames
 pub mod PhrasingRules
 pub mod Phrasing
-pub mod TableTexts
 pub mod Tables
 pub mod FlowRules
 pub mod Flow

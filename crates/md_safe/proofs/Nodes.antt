@@ -1,7 +1,7 @@
 -- A node of any content, before what is printed after it: the step of the induction
 -- in `Forests.antt`.
 use Rattle.std.proofs.Common.{◌≡◌, ℕ, Bool, true, false, not, ◌||◌, cond, List, [], ◌++◌}
-use Rattle.std.proofs.Common.{refl, sym, ap, ◌∙◌, subst, inl, inr, append-nil, codes}
+use Rattle.std.proofs.Common.{refl, ap, inl, inr, append-nil, codes}
 use Rattle.md_base.proofs.Lies.{lie}
 use Rattle.md_base.specs.declared.event.Name.{Name}
 use Rattle.md_base.specs.declared.event.Name.TheVariants as name_variants
@@ -69,8 +69,11 @@ info-node s escaping e a b = adds-append
     {f = λ w. (v : List ℕ) × (w ≡ codes " class=\"language-" ++ (v ++ codes "\"")) × Escaped v}
     {g = IsNil} (λ x y f g. rw (g, append-nil, f.1) (inr (f.0, refl, f.2, refl))) (adds-append {f =
     λ x. x ≡ codes " class=\"language-"}
-    {g = λ w. (v : List ℕ) × (w ≡ v ++ codes "\"") × Escaped v} (λ x w f g. (g.0, rw (f, g.1) refl,
-    g.2)) (adds-text refl)
+    {g = λ w. (v : List ℕ) × (w ≡ v ++ codes "\"") × Escaped v} (λ x w f g. (
+      g.0,
+      rw (f, g.1) refl,
+      g.2,
+    )) (adds-text refl)
     (adds-append (λ v y f g. (v, ap (λ y. v ++ y) g, f e)) a
     (adds-text {f = λ x. x ≡ codes "\""} refl))) b
 

@@ -1,9 +1,8 @@
 -- Ids by number: which number each has is read back of it. The numbers of calls and their
 -- occurrences determine them, and so do their ids.
 use Rattle.std.proofs.Common.{◌≡◌, ℕ, ◌<◌, ◌^◌, ◌==◌, ◌/◌, ◌%◌, zero, suc, true, false, not, ◌&&◌}
-use Rattle.std.proofs.Common.{cond, List, [], ◌∷◌, ◌++◌, refl, sym, ap, ◌∙◌, subst, arith}
-use Rattle.std.proofs.Common.{append_assoc, codes, ◌+◌, ◌≤◌, Bool, ◌||◌, length, append-nil}
-use Rattle.std.proofs.Common.{bytes_eq}
+use Rattle.std.proofs.Common.{cond, List, [], ◌∷◌, ◌++◌, refl, sym, ap, ◌∙◌, arith, append_assoc}
+use Rattle.std.proofs.Common.{codes, ◌+◌, ◌≤◌, Bool, ◌||◌, length, append-nil, bytes_eq}
 use Rattle.std.specs.Prelude.{Option, Some, None, filter}
 use Rattle.std.specs.Option.{option_map_or}
 use Rattle.std.specs.List.{list_all}

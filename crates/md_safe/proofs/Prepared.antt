@@ -30,7 +30,7 @@ use Rattle.md_safe.proofs.Stands.{IsWhite, line_ends-white}
 use Rattle.md_safe.proofs.Costs.{Document, read_in}
 use Rattle.md_safe.specs.Options.{KeepsGrammar}
 use Rattle.md_safe.proofs.Texts.{Escaped}
-use Rattle.md_safe.proofs.Claim.{reading}
+use Rattle.md_safe.proofs.Tags.{reading}
 use Rattle.md_safe.proofs.Contents.{stays-after}
 use Rattle.md_safe.proofs.Spot.{PassesIds, IsWhole, Setting}
 use Rattle.md_safe.proofs.BlockNodes.{holds-none}

@@ -1,12 +1,12 @@
 -- The tags of fenced code and of math, around what is said of it and what it holds.
-use Rattle.std.proofs.Common.{◌≡◌, ◌⊎◌, ℕ, Bool, true, List, [], ◌∷◌, ◌++◌, refl, sym, ap, subst}
+use Rattle.std.proofs.Common.{◌≡◌, ◌⊎◌, ℕ, true, List, [], ◌∷◌, ◌++◌, refl, ap}
 use Rattle.std.proofs.Common.{append_assoc, append-nil, codes}
 use Rattle.std.specs.List.{list_any}
 use Rattle.md_text.specs.Html.{opening_tag, is_tag, elements}
 use Rattle.md_base.specs.Children.{spine_names}
 use Rattle.md_base.specs.NameTests.{is_chunk}
 use Rattle.md_meaning.specs.Meaning.At.{At}
-use Rattle.md_meaning.specs.Meaning.Layout.{Piece, Text, Needed, Forced, said, when}
+use Rattle.md_meaning.specs.Meaning.Layout.{Piece, Text, Needed, Forced, when}
 use Rattle.md_meaning.specs.Meaning.Blocks.{code_end, is_unclosed, runs_out}
 use Rattle.md_safe.proofs.Texts.{Escaped}
 use Rattle.md_safe.proofs.Laid.{Adds, adds-append, adds-needed, adds-forced, adds-when, IsBeside}
@@ -81,7 +81,7 @@ fenced-end {W} {ending} beside h t =
     in
     let last = adds-when beside (is_unclosed t) (adds-needed beside h) in
     simp append_assoc (simp append_assoc at (adds-framed {c = code_closing} (adds-append beside.both
-        out line) last))
+    out line) last))
 
 pub code_class : (v : List ℕ) → Escaped v → is_tag elements (codes "code")
     (attribute (codes "class") (codes "language-" ++ v) ∷ []) ≡ true

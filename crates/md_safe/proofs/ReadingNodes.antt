@@ -11,14 +11,13 @@ use Rattle.md_meaning.specs.Meaning.Means.{prints}
 use Rattle.md_text.proofs.EscapedLemmas.{escaped-append}
 use Rattle.md_text.proofs.HtmlJoin.{join, nothing, text}
 use Rattle.md_safe.proofs.Elements.{adds-empty_cells}
-use Rattle.md_safe.proofs.Claim.{plain_of}
+use Rattle.md_safe.proofs.Tags.{plain_of, adds-after, adds-before, adds-escaped, bracket-tag}
+use Rattle.md_safe.proofs.Tags.{element-read, takes-escaped, void-read}
 use Rattle.md_safe.proofs.Claims.{Claims, Known}
 use Rattle.md_safe.proofs.FlowCases.{solid-node}
 use Rattle.md_safe.proofs.Laid.{Adds, adds-needed, escaped_beside}
 use Rattle.md_safe.proofs.Linking.{is_spans, with_links}
 use Rattle.md_safe.proofs.Spot.{Setting}
-use Rattle.md_safe.proofs.Tags.{adds-after, adds-before, adds-escaped, bracket-tag, element-read}
-use Rattle.md_safe.proofs.Tags.{takes-escaped, void-read}
 use Rattle.md_safe.proofs.Texts.{Escaped, line_ends-escaped}
 use Rattle.md_safe.specs.Contents.{Cells, Content, Flow, Items, Parts, Rows}
 use Rattle.md_safe.specs.Placed.{Cell, Item, Part, Row, Sort, may_stand, sort_of}

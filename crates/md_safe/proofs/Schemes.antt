@@ -1,10 +1,10 @@
 -- A value without a protocol has no scheme, and one with a permitted protocol has that scheme: no
 -- byte that is removed or changed on the way belongs to a scheme.
 use Rattle.std.proofs.Common.{◌≡◌, ℕ, ◌==◌, Bool, true, false, List, [], ◌∷◌, ◌++◌, refl, None}
-use Rattle.std.proofs.Common.{arith, ◌||◌, not, ◌&&◌, cond, sym, ap, ap₂, ◌∙◌, inl, inr, Option}
+use Rattle.std.proofs.Common.{arith, ◌||◌, not, ◌&&◌, sym, ap, ap₂, ◌∙◌, Option}
 use Rattle.std.proofs.Common.{Some, append-nil, append_assoc, eqb-true}
 use Rattle.std.specs.List.{list_all}
-use Rattle.std.proofs.lemmas.Bool.{cond_both, or_parts, and_parts, or_left, cases_Bool, eqb-false}
+use Rattle.std.proofs.lemmas.Bool.{cond_both, or_parts, and_parts, or_left, eqb-false}
 use Rattle.md_text.specs.Bytes.{is_letter, lower, is_letter, lower, lowered, is_one_of}
 use Rattle.md_text.specs.Url.{protocol_of, protocol_of, link_protocols, image_protocols}
 use Rattle.md_text.proofs.ProtocolLemmas.{map_none, ends_protocol, none_some, map_some}
@@ -24,7 +24,7 @@ use Rattle.md_safe.proofs.Cases.{one_of-passes, all-weaker, cases}
 use Rattle.md_safe.specs.Tokens.{seen}
 use Rattle.md_safe.proofs.EscapedCases.{IsPlain, by_escaped}
 use Rattle.md_safe.proofs.LineFeeds.{no_return, line_feeds-name, one}
-use Rattle.md_safe.proofs.Steps.{past, here}
+use Rattle.md_safe.proofs.Steps.{here}
 use Rattle.md_text.specs.Kept.{goes_on}
 
 abbrev pub HasNone : List ℕ → Type 0

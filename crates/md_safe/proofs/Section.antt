@@ -14,13 +14,12 @@ use Rattle.md_meaning.specs.Meaning.Layout.{Piece, Text, Needed, Piece, Text, Ne
 use Rattle.md_meaning.specs.Meaning.Footnotes.{unended_length, body, option_or, id_of}
 use Rattle.md_meaning.specs.Meaning.Footnotes.{backreferences, item, section, distinct, place_among}
 use Rattle.md_meaning.specs.Meaning.Footnotes.{count_of}
-use Rattle.md_safe.proofs.Claim.{plain_of, Claim, plain_of}
+use Rattle.md_safe.proofs.Tags.{plain_of, Claim, adds-flat, adds-before, adds-after, adds-escaped}
+use Rattle.md_safe.proofs.Tags.{attribute, Turns, TurnsTag, Takes, Bracket, adds-turned}
+use Rattle.md_safe.proofs.Tags.{bracket-tag, element-read, adds-framed, adds-framed_flat}
+use Rattle.md_safe.proofs.Tags.{framed-around, framed-needed, framed-forced, takes-escaped}
 use Rattle.md_safe.proofs.Laid.{Adds, adds-text, adds-needed, escaped_beside, adds-all}
 use Rattle.md_safe.proofs.Laid.{adds-nothing, adds-forced, IsBeside}
-use Rattle.md_safe.proofs.Tags.{adds-flat, adds-before, adds-after, adds-escaped, attribute, Turns}
-use Rattle.md_safe.proofs.Tags.{TurnsTag, Takes, Bracket, adds-turned, bracket-tag, element-read}
-use Rattle.md_safe.proofs.Tags.{adds-framed, adds-framed_flat, framed-around, framed-needed}
-use Rattle.md_safe.proofs.Tags.{framed-forced, takes-escaped}
 use Rattle.md_safe.proofs.Spot.{Setting, Prints, PassesIds, IsWhole, Setting, Prints}
 use Rattle.md_safe.proofs.FlowNodes.{Reads}
 use Rattle.std.specs.Option.{option_map_or}

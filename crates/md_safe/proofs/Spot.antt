@@ -16,9 +16,8 @@ use Rattle.md_meaning.specs.Meaning.Media.{target_defined, leads_to}
 use Rattle.md_meaning.specs.Meaning.Means.{prints}
 use Rattle.md_content.specs.Built.{Content, IsFit, content_of}
 use Rattle.md_safe.proofs.Texts.{Escaped}
-use Rattle.md_safe.proofs.Claim.{Claim}
+use Rattle.md_safe.proofs.Tags.{Claim, IsTest, attribute}
 use Rattle.md_safe.proofs.Laid.{Adds}
-use Rattle.md_safe.proofs.Tags.{IsTest, attribute}
 use Rattle.md_safe.proofs.Media.{IsEscapedTitle}
 use Rattle.md_safe.proofs.Contents.{Holds}
 use Rattle.md_meaning.specs.declared.surroundings.Surroundings.{Surroundings}

@@ -1,34 +1,143 @@
--- Tables are built as they are read: what stands in a part of one, by what each element of it does;
--- and their parts, rows and cells, with white space between.
-use Rattle.std.proofs.Common.{◌≡◌, ℕ, ◌≤◌, Bool, true, false, List, [], ◌∷◌, ◌++◌, refl, sym, ap}
-use Rattle.std.proofs.Common.{◌∙◌, subst, map, codes, arith, eqb-true, suc}
-use Rattle.std.specs.Prelude.{Some, option_and_then}
+-- Tables are built as they are read: texts wait as pending characters, and white space is inserted
+-- as it is; what stands in a part of one, by what each element of it does; and their parts, rows
+-- and cells.
+use Rattle.std.proofs.Common.{◌≡◌, ℕ, Bool, true, false, List, [], ◌∷◌, ◌++◌, refl, sym, ap, ◌∙◌}
+use Rattle.std.proofs.Common.{subst, map, append_assoc, append-nil, arith, ◌≤◌, codes, eqb-true}
+use Rattle.std.proofs.Common.{suc}
+use Rattle.std.specs.Prelude.{Option, Some, None, option_and_then}
 use Rattle.std.specs.List.{list_all}
-use Rattle.std.proofs.lemmas.Bool.{and_parts}
+use Rattle.std.proofs.lemmas.Bool.{and_parts, and_from, not-true}
 use Rattle.md_base.proofs.Lies.{lie}
 use Rattle.md_base.specs.Identifier.{is_nonempty}
-use Rattle.md_text.specs.Bytes.{is_one_of}
 use Rattle.md_text.specs.References.{read_back}
-use Rattle.md_text.specs.Html.{Attribute, Forest, Empty, Text, Void, Element, Attribute, Forest}
-use Rattle.md_safe.specs.Input.{begins_with_line_feed, with_line_feeds}
-use Rattle.md_safe.specs.Token.{Token, Character, StartTag, EndTag, TokenAttribute}
-use Rattle.md_safe.specs.Tokens.{seen, seen_attributes, tokens, seen_attributes, tokens}
-use Rattle.md_safe.specs.Contents.{Content, Parts, Rows, Cells, is_space, voids_in, may_say}
+use Rattle.md_text.proofs.EncodeLaws.{read_back-other}
+use Rattle.md_safe.specs.Input.{with_line_feeds, begins_with_line_feed}
+use Rattle.md_safe.specs.Token.{Character, StartTag, EndTag, TokenAttribute, Token}
+use Rattle.md_safe.specs.Tokens.{seen, seen_attributes, tokens}
+use Rattle.md_safe.specs.Contents.{is_space, Content, Parts, Rows, Cells, voids_in, may_say}
 use Rattle.md_safe.specs.Contents.{is_contained, elements_in, Phrasing}
-use Rattle.md_safe.specs.Node.{Nodes, Mode, Parser, with_element, Empty as NoNode, Entry, Marker}
-use Rattle.md_safe.specs.Node.{InTable, InRow, InCell}
-use Rattle.md_safe.specs.Construction.{run, step, run}
-use Rattle.md_safe.specs.Built.{has_whole_texts, with_characters, put, AreCreated, is_body}
-use Rattle.md_safe.proofs.Lists.{later-created, keeps-all, later-created}
-use Rattle.md_safe.proofs.TreeSteps.{Position, parser_of, with_children, after, seen-characters}
-use Rattle.md_safe.proofs.TreeSteps.{within, after-one, start-in-body}
-use Rattle.md_safe.proofs.PhrasingNames.{Each, found, Passed, Each, also}
+use Rattle.md_safe.specs.Node.{Open, Entry, Mode, InTable, InTableBody, InRow, InTableText, Parser}
+use Rattle.md_safe.specs.Node.{with_character, Nodes, with_element, Empty as NoNode, Marker, InCell}
+use Rattle.md_safe.specs.InTable.{is_tabular, say_all, end_table_text, character_in_table, mode_for}
+use Rattle.md_safe.specs.Construction.{character, start, end, step, run, after_table_text}
+use Rattle.md_safe.specs.Built.{with_characters, at, has_whole_texts, put, AreCreated, is_body}
+use Rattle.md_safe.proofs.Steps.{past, here}
+use Rattle.md_safe.proofs.TreeSteps.{after-one, is_character, Position, parser_of, with_children}
+use Rattle.md_safe.proofs.TreeSteps.{after, seen-characters, within, start-in-body}
+use Rattle.md_text.specs.Bytes.{is_one_of}
+use Rattle.md_text.specs.Html.{Attribute, Forest, Empty, Text, Void, Element}
+use Rattle.md_safe.proofs.Lists.{later-created, keeps-all}
+use Rattle.md_safe.proofs.PhrasingNames.{Each, found, Passed, also}
 use Rattle.md_safe.proofs.Phrasing.{text-escaped, element-parts, phrasing-done}
-use Rattle.md_safe.proofs.TableTexts.{Settles, space-seen, waiting, is_tables, settled, text-waits}
 use Rattle.md_safe.specs.Elements.{button_scope}
 use Rattle.md_safe.specs.Stack.{is_named, has_in_scope}
-use Rattle.md_safe.specs.InTable.{mode_for}
-use Rattle.md_safe.proofs.Steps.{past}
+
+-- ---- white space
+
+-- a test that passes LF passes what is read
+line_feeds-all : (p : ℕ → Bool) → p 10 ≡ true → (x : List ℕ) → list_all p x ≡ true →
+    list_all p (with_line_feeds x) ≡ true
+line_feeds-all p feed [] h = refl
+line_feeds-all p feed (b ∷ x) h = grind (arith, feed, line_feeds-all p feed x)
+
+space-read : (x : List ℕ) → list_all is_space x ≡ true → list_all is_space (read_back x) ≡ true
+space-read [] h = refl
+space-read (b ∷ x) h =
+    let parts = and_parts (is_space b) (list_all is_space x) h in
+    rw (read_back-other b x (λ e. lie (rw e at parts.0)))
+    (and_from (is_space b) (list_all is_space (read_back x)) parts.0 (space-read x parts.1))
+
+pub space-seen : (x : List ℕ) → list_all is_space x ≡ true → list_all is_space (seen x) ≡ true
+space-seen x h = space-read (with_line_feeds x) (line_feeds-all is_space refl x h)
+
+-- ---- the pending characters of a table
+
+-- a parser to which a tag is the same as to another one
+pub record Settles (p q : Parser) : Type 0 where
+  pub starts : (name : List ℕ) (attributes : List TokenAttribute) (flag : Bool) →
+      step p (StartTag name attributes flag) ≡ step q (StartTag name attributes flag)
+  pub ends : (name : List ℕ) → step p (EndTag name) ≡ step q (EndTag name)
+
+-- a parser with pending characters
+abbrev pub waiting : Mode → List Open → List Entry → ℕ → List ℕ → Parser
+waiting mode stack active created bytes = record {
+  mode = InTableText mode;
+  stack = stack;
+  active = active;
+  created = created;
+  pending = bytes;
+  skips_line_feed = false;
+}
+
+say-all : (bytes : List ℕ) (node : Open) (others : List Open) →
+    say_all bytes (node ∷ others)
+    ≡ record node { children = with_characters node.children bytes } ∷ others
+say-all [] node others = refl
+say-all (b ∷ bytes) node others =
+    say-all bytes (record node { children = with_character node.children b }) others
+
+-- modes of tables in which characters wait
+abbrev pub is_tables : Mode → Bool
+is_tables mode = elim mode [ InTable ↦ true | InTableBody ↦ true | InRow ↦ true | _ ↦ false ]
+
+-- what the modes of tables do with a tag and with a character
+tagged : (mode : Mode) → is_tables mode ≡ true → (p : Parser) (tag : Parser → Option Parser) →
+    after_table_text (record p { mode = mode }) tag ≡ tag (record p { mode = mode })
+tagged mode is p tag = grind (arith, is)
+
+said : (mode : Mode) → is_tables mode ≡ true → (byte : ℕ) (p : Parser) →
+    character mode byte p ≡ character_in_table byte p
+said mode is byte p = grind (arith, is)
+
+pub settled : (mode : Mode) → is_tables mode ≡ true →
+    (node : Open) (others : List Open) (active : List Entry)
+    (created : ℕ) (bytes : List ℕ) → list_all is_space bytes ≡ true →
+    Settles (waiting mode (node ∷ others) active created bytes) (at mode
+    (record node { children = with_characters node.children bytes } ∷ others) active created)
+settled mode is node others active created bytes h = record {
+  starts = λ name attributes flag. by (λ p. start p.mode name attributes p);
+  ends = λ name. by (λ p. end p.mode name p);
+}
+  where
+    next : Parser
+    next = at mode (record node { children = with_characters node.children bytes } ∷ others)
+        active created
+
+    by : (tag : Parser → Option Parser) →
+        option_and_then tag (end_table_text mode
+        (waiting mode (node ∷ others) active created bytes)) ≡ after_table_text next tag
+    by tag =
+        ap (option_and_then tag) (here None h
+        (ap (λ stack. Some (at mode stack active created)) (say-all bytes node others)))
+        ∙ sym (tagged mode is next tag)
+
+more-waits : (mode : Mode) (stack : List Open) (active : List Entry) (created : ℕ)
+    (before bytes : List ℕ) → list_all is_character bytes ≡ true → run
+    (waiting mode stack active created before) (map Character bytes)
+    ≡ Some (waiting mode stack active created (before ++ bytes))
+more-waits mode stack active created before [] h = ap
+    (λ x. Some (waiting mode stack active created x)) (sym (append-nil before))
+more-waits mode stack active created before (b ∷ bytes) h =
+    let parts = and_parts _ _ h in
+    after-one (waiting mode stack active created before)
+    (waiting mode stack active created (before ++ (b ∷ []))) (Character b) (map Character bytes)
+    (past _ (not-true _ parts.0) refl) ∙ (more-waits mode stack active created (before ++ (b ∷ []))
+    bytes parts.1 ∙ ap (λ x. Some (waiting mode stack active created x))
+    (append_assoc before (b ∷ []) bytes))
+
+-- a text in a table waits
+pub text-waits : (mode : Mode) → is_tables mode ≡ true → (node : Open) (others : List Open)
+    (active : List Entry) (created : ℕ) (bytes : List ℕ) → is_tabular node ≡ true →
+    is_nonempty bytes ≡ true → list_all is_character bytes ≡ true → run
+    (at mode (node ∷ others) active created) (map Character bytes)
+    ≡ Some (waiting mode (node ∷ others) active created bytes)
+text-waits mode is node others active created [] t f h = lie f
+text-waits mode is node others active created (b ∷ bytes) t f h =
+    let parts = and_parts _ _ h in
+    after-one (at mode (node ∷ others) active created)
+    (waiting mode (node ∷ others) active created (b ∷ [])) (Character b) (map Character bytes) (past
+    _ (not-true _ parts.0) (said mode is b (at mode (node ∷ others) active created) ∙ here None t
+    refl)) ∙ more-waits mode (node ∷ others) active created (b ∷ []) bytes parts.1
 
 -- the tokens of a part of a table, up to characters that still wait
 pub record Set (x : Position) (forest : Forest) : Type 0 where

@@ -1,20 +1,52 @@
--- Tags of the HTML grammar, written in one or between other pieces: a text between them
--- keeps the claim.
-use Rattle.std.specs.Str.{bytes_eq}
+-- What is claimed of a text: that it has a reading, and more. Tags of the HTML grammar, written in
+-- one or between other pieces: a text between them keeps the claim.
 use Rattle.std.specs.List.{list_all}
-use Rattle.std.proofs.Common.{◌≡◌, ℕ, Bool, true, false, not, ◌&&◌, List, [], ◌∷◌, ◌++◌, refl}
-use Rattle.std.proofs.Common.{ap, subst, append_assoc, append-nil, codes}
-use Rattle.md_text.specs.Html.{Attribute, HasReadingWith, opening_tag, closing_tag, is_tag}
-use Rattle.md_text.specs.Html.{elements, void_tags}
-use Rattle.md_text.proofs.HtmlJoin.{text, void, opening-before}
+use Rattle.std.proofs.Common.{◌≡◌, ℕ, Bool, true, List, [], ◌∷◌, ◌++◌, codes, false, not, ◌&&◌}
+use Rattle.std.proofs.Common.{refl, ap, subst, append_assoc, append-nil}
+use Rattle.md_text.specs.Laws.{is_line_ends}
+use Rattle.md_text.specs.Html.{Attribute, HasReadingWith, is_tag, elements, written_attributes}
+use Rattle.md_text.specs.Html.{opening_tag, closing_tag, void_tags}
+use Rattle.md_text.proofs.HtmlJoin.{join, element, text, void, opening-before}
+use Rattle.md_text.proofs.HtmlPut.{paragraph_takes}
+use Rattle.std.specs.Str.{bytes_eq}
 use Rattle.md_text.proofs.HtmlWriting.{attributes_before, written_attributes-before}
 use Rattle.md_text.specs.declared.options.CompileOptions.{CompileOptions}
 use Rattle.md_meaning.specs.Meaning.Layout.{Piece, Text, Needed, Forced}
 use Rattle.md_meaning.specs.Meaning.Media.{href, src}
 use Rattle.md_safe.proofs.Texts.{Escaped}
-use Rattle.md_safe.proofs.Claim.{Claim}
 use Rattle.md_safe.proofs.Laid.{Adds, adds-append, adds-text, adds-weaker, adds-needed, adds-forced}
 use Rattle.md_safe.proofs.Laid.{adds-nothing, IsBeside}
+
+-- a claim about texts, with a test on the attributes in the tags beside a text or around it
+pub record Claim : Type 1 where
+  pub holds : List ℕ → Type 0
+  pub test : Attribute → Bool
+  pub plain : (x : List ℕ) → HasReadingWith test x → holds x
+  pub before : (x y : List ℕ) → HasReadingWith test x → holds y → holds (x ++ y)
+  pub after : (x y : List ℕ) → holds x → HasReadingWith test y → holds (x ++ y)
+  pub within : (name : List ℕ) (attributes : List Attribute) (inside : List ℕ) →
+      is_tag elements name attributes ≡ true → list_all test attributes ≡ true → holds inside
+      → holds (60 ∷ (name
+      ++ (written_attributes attributes ++ (62 ∷ (inside ++ (60 ∷ 47 ∷ (name ++ (62 ∷ []))))))))
+  pub takes : (before endings inserted : List ℕ) → is_line_ends endings ≡ true →
+      holds (before ++ codes "</p>" ++ endings) → HasReadingWith test inserted
+      → holds (before ++ inserted ++ codes "</p>" ++ endings)
+
+-- a reading in which each attribute passes the test
+abbrev pub reading : (Attribute → Bool) → Claim
+reading test = record {
+  holds = HasReadingWith test;
+  test = test;
+  plain = λ x h. h;
+  before = join test;
+  after = join test;
+  within = element test;
+  takes = paragraph_takes test;
+}
+
+-- a text with a reading alone
+abbrev pub plain_of : Claim → Claim
+plain_of p = reading p.test
 
 -- an attribute
 abbrev pub attribute : List ℕ → List ℕ → Attribute

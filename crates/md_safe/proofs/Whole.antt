@@ -19,9 +19,8 @@ use Rattle.md_content.specs.Built.{Blocks, IsBuilt}
 use Rattle.md_safe.proofs.Costs.{Document, read_in}
 use Rattle.md_safe.proofs.Prepared.{document_of, blocks-stay, outermost-ready, reads-whole}
 use Rattle.md_safe.specs.Options.{KeepsGrammar, KeepsLinks, KeepsImages}
-use Rattle.md_safe.proofs.Claim.{reading}
+use Rattle.md_safe.proofs.Tags.{reading, IsTest}
 use Rattle.md_safe.proofs.Laid.{adds-alone}
-use Rattle.md_safe.proofs.Tags.{IsTest}
 use Rattle.md_safe.proofs.Spot.{PassesIds, IsWhole, Setting}
 use Rattle.md_safe.proofs.Forests.{means}
 use Rattle.md_safe.proofs.Section.{section-prints}

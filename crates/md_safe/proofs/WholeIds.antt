@@ -32,7 +32,7 @@ use Rattle.md_meaning.specs.Meaning.Nodes.{Outcome, node, before_next, outcome}
 use Rattle.md_meaning.specs.declared.surroundings.Surroundings.{Surroundings}
 use Rattle.md_safe.proofs.Prepared.{document_of, alone_of}
 use Rattle.md_safe.specs.Options.{KeepsIds}
-use Rattle.md_safe.proofs.Claim.{reading}
+use Rattle.md_safe.proofs.Tags.{reading}
 use Rattle.md_safe.proofs.Costs.{Document}
 use Rattle.md_safe.specs.Apart.{prefix_of, are_apart, ShareNoId}
 use Rattle.md_safe.proofs.CountedSection.{document-counts, document-counted}
