@@ -16,7 +16,7 @@ use Rattle.md_text.specs.Bytes.{is_one_of}
 use Rattle.md_text.specs.Laws.{is_line_ends}
 use Rattle.md_meaning.specs.Meaning.At.{At, text_in}
 use Rattle.md_meaning.specs.Meaning.Spans.{is_dropped, line_ending, span}
-use Rattle.md_meaning.specs.Meaning.Layout.{Piece, Needed, said, when, on_own_line}
+use Rattle.md_meaning.specs.Meaning.Layout.{Piece, Needed, said, on_own_line}
 use Rattle.md_meaning.specs.Meaning.Means.{prints}
 use Rattle.md_meaning.specs.Meaning.Tables.{cell_of}
 use Rattle.md_content.specs.Built.{Blocks, content_of}
@@ -27,7 +27,7 @@ use Rattle.md_safe.specs.Links.{prints_link}
 use Rattle.md_safe.proofs.Insides.{is_blocks}
 use Rattle.md_safe.proofs.Texts.{Escaped}
 use Rattle.md_safe.proofs.Laid.{Adds, IsBeside, adds-append, adds-nothing, adds-text, adds-needed}
-use Rattle.md_safe.proofs.Laid.{adds-when, adds-weaker}
+use Rattle.md_safe.proofs.Laid.{adds-weaker}
 use Rattle.md_safe.proofs.Tags.{Turns, TurnsTag, Tagged, Single, Takes, IsFramed, adds-turned}
 use Rattle.md_safe.proofs.Tags.{framed-text, framed-needed}
 use Rattle.md_safe.proofs.Spot.{Setting, IsFitAt, IsGoodTarget, Inside, PassesIds}
@@ -115,10 +115,6 @@ ending-around m t h =
     (Adds m.s.context.ending m.around) (λ _. adds-text m.space) (λ _. cond_both (is_dropped t) []
     (said x) (Adds m.s.context.ending m.around) (λ _. adds-nothing m.beside.none)
     (λ _. adds-text (m.line_ends x h)))
-
-pub blank-around : (m : Claims) (holds : Bool) → Adds m.s.context.ending
-    m.around (when holds (Needed ∷ []))
-blank-around m holds = adds-when m.beside holds (adds-needed m.beside m.ending)
 
 -- ---- where a node stands
 

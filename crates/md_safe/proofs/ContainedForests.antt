@@ -17,8 +17,8 @@ use Rattle.md_safe.proofs.Insides.{is_blocks, is_blocks-same}
 use Rattle.md_content.specs.Built.{content_of, Blocks, is_part, is_source, may_stand}
 use Rattle.md_content.specs.Built.{content_inside, IsBuilt}
 use Rattle.md_safe.proofs.Linking.{place_in, with_links, is_spans, inner_place, inner-place-with}
-use Rattle.md_safe.proofs.Linking.{IsLinked, linked-inside, unnested-inside, unnested-after}
-use Rattle.md_safe.proofs.Linking.{unlinked-here, unlinked-spans}
+use Rattle.md_safe.proofs.Linking.{IsLinked, linked-inside, unnested-inside}
+use Rattle.md_safe.proofs.Linking.{unlinked-here, unlinked-spans, unnested-parts}
 use Rattle.md_safe.proofs.Elements.{adds-empty_cells}
 use Rattle.std.specs.Prelude.{Option}
 use Rattle.md_base.proofs.Lies.{lie}
@@ -55,10 +55,6 @@ Lays nested ending content pieces = Adds ending (Stands nested content) pieces
 pub lays-white : {nested : Bool} {ending : List ℕ} {content : Content} {pieces : List Piece} →
     is_spaced content ≡ true → Adds ending IsWhite pieces → Lays nested ending content pieces
 lays-white is a = adds-weaker (λ x h. stands-white is h) a
-
-pub lays-nothing : {nested : Bool} {ending : List ℕ} {content : Content} →
-    Lays nested ending content []
-lays-nothing = adds-nothing stands-nothing
 
 pub lays-both : {nested : Bool} {ending : List ℕ} {content : Content} {xs ys : List Piece} →
     Lays nested ending content xs → Lays nested ending content ys →
@@ -216,7 +212,7 @@ pub means : (nested : Bool) (d : Document) (forest : Forest) (around : Surroundi
     (before : Before) (content : Content) → Fits nested d around before content forest →
     Means nested d content (outcome d.context around before forest)
 means nested d Empty around before content f = record {
-  prints = lays-nothing;
+  prints = adds-nothing stands-nothing;
   heading = tt;
   texts = tt;
 }
@@ -274,7 +270,8 @@ means nested d (Node name start end children rest) around before content f =
       heading = on-either (Stands nested Phrasing) here.found.heading before.heading one.heading
           f.heading;
       linked = f.linked;
-      unnested = λ no. unnested-after name around.in_link start end children rest (f.unnested no);
+      unnested = λ no. (unnested-parts name around.in_link start end children rest
+          (f.unnested no)).1;
     }) in
     record {
       prints = lays-both one.prints later.prints;

@@ -12,7 +12,7 @@ use Rattle.std.specs.List.{list_all}
 use Rattle.md_text.proofs.HtmlPut.{IsMade, made-before}
 use Rattle.md_safe.specs.Contents.{Content, Flow, Phrasing, held_in, is_contained, Items}
 use Rattle.md_safe.proofs.Stands.{Stands, stands-join, stands-nothing, stands-text, turns-tag}
-use Rattle.md_safe.proofs.Stands.{is_held, stands-tag, turns-plain, takes-white, IsWhite}
+use Rattle.md_safe.proofs.Stands.{is_held, stands-tag, takes-white, IsWhite}
 use Rattle.md_safe.proofs.Stands.{white_beside, Opens, stands-wider}
 use Rattle.std.specs.Prelude.{None}
 use Rattle.md_meaning.specs.Meaning.At.{Footnote}
@@ -140,10 +140,6 @@ same-end [] (n ∷ b) c d x e f = not_both n (first_of e) (first_of f)
 same-end (m ∷ a) [] c d x e f = not_both m (sym (first_of e)) (sym (first_of f))
 same-end (m ∷ a) (n ∷ b) c d x e f = same-end a b c d x (rest_of e) (rest_of f)
 
-not_held : (nested : Bool) (name : List ℕ) (children : Forest) →
-    is_held nested Flow (112 ∷ 62 ∷ name) children ≡ false
-not_held nested name children = refl
-
 -- the element whose end that is, is a paragraph
 paragraph-name : (nested : Bool) (name : List ℕ) (children : Forest) (endings rest : List ℕ) →
     112 ∷ 62 ∷ endings ≡ name ++ (62 ∷ rest) → is_held nested Flow name children ≡ true →
@@ -151,8 +147,7 @@ paragraph-name : (nested : Bool) (name : List ℕ) (children : Forest) (endings 
 paragraph-name nested [] children endings rest e h = lie (ap (λ n. n == 62) (first_of e))
 paragraph-name nested (b ∷ []) children endings rest e h = ap (λ b. b ∷ []) (sym (first_of e))
 paragraph-name nested (b ∷ c ∷ name) children endings rest e h =
-    lie (sym (not_held nested name children)
-    ∙ subst (λ c. is_held nested Flow (112 ∷ c ∷ name) children ≡ true)
+    lie (subst (λ c. is_held nested Flow (112 ∷ c ∷ name) children ≡ true)
     (sym (first_of (rest_of e)))
     (subst (λ b. is_held nested Flow (b ∷ c ∷ name) children ≡ true) (sym (first_of e)) h))
 
@@ -243,7 +238,7 @@ pub section-prints : (nested : Bool) (d : Document) → IsWhite d.context.ending
     AreFlow nested footnotes → Prints nested d Flow (section d.context footnotes)
 section-prints nested d w no_tag no_attributes footnotes h = adds-section white_beside
     (takes-white refl) (takes-white refl) (takes-white refl) d.context w
-    (turns-plain (codes "ol") refl refl) (heading-turns nested (heading_label_of d.context.options)
+    ((turns-tag Items {name = codes "ol"} refl).tag [] refl refl) (heading-turns nested (heading_label_of d.context.options)
     (label-escaped d.context.options)) no_tag no_attributes stands-nothing footnotes (adds-all
     (record { none = stands-nothing; both = stands-join }) (item-prints nested d w footnotes h)
     (distinct d.context.calls))

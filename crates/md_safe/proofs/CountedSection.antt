@@ -116,10 +116,6 @@ item-turn d w n v h =
           (codes "li") (attribute (codes "id") v ∷ []) x (li_id v h) (omega arith) held));
     }
 
-occurs-first : (w x : List ℕ) (xs : List (List ℕ)) →
-    occurs w (x ∷ xs) ≡ occurs w (x ∷ []) + occurs w xs
-occurs-first w x xs = occurs-append w (x ∷ []) xs
-
 -- the items
 items-counted : (d : Document) (w : List ℕ) (footnotes : List Footnote) (n : ℕ)
     (identifiers : List (List ℕ)) → TextsFor w n footnotes identifiers → Prints (counted_in d w 0)
@@ -135,7 +131,7 @@ items-counted d w footnotes n (identifier ∷ others) texts =
     let total : ℕ = occurs w (note_ids d.context.options d.context.calls (identifier ∷ others)) + n
     in
     adds-append (λ x y a b. counts-more w _ _ _ (omega (
-      occurs-first w (read_back id) (note_ids d.context.options d.context.calls others),
+      occurs-append w (read_back id ∷ []) (note_ids d.context.options d.context.calls others),
       texts.2,
       arith,
     )) (counts-join w (hit + texts.0) (later + texts.1) x y a b)) (item-prints

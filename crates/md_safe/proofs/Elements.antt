@@ -9,7 +9,7 @@ use Rattle.std.specs.List.{list_all, flat_map, list_all}
 use Rattle.std.specs.Fmt.{decimal}
 use Rattle.std.proofs.lemmas.Bool.{agree_below, agree_below_at, not_from_false}
 use Rattle.md_base.specs.declared.event.Position.{Position}
-use Rattle.md_text.specs.Html.{Attribute, opening_tag, closing_tag, is_tag, elements, Attribute}
+use Rattle.md_text.specs.Html.{Attribute, Attribute}
 use Rattle.md_text.specs.declared.options.CompileOptions.{CompileOptions}
 use Rattle.md_meaning.specs.Meaning.Layout.{Piece, Text, Needed, Forced, said, on_own_line, when}
 use Rattle.md_meaning.specs.Meaning.At.{Context, At, text_in}
@@ -17,17 +17,13 @@ use Rattle.md_meaning.specs.Meaning.Finds.{number_in_list}
 use Rattle.md_meaning.specs.Meaning.Blocks.{list_start, without_zeros}
 use Rattle.md_content.specs.Built.{is_digit}
 use Rattle.md_safe.proofs.Texts.{Escaped, zeros-escaped}
-use Rattle.md_safe.proofs.Tags.{Claim, IsTest, attribute, IsFramed, Bracket, Turns, TurnsTag}
-use Rattle.md_safe.proofs.Tags.{Single, Takes, bracket-tag, adds-turned, adds-flat, framed-text}
+use Rattle.md_safe.proofs.Tags.{IsTest, attribute, IsFramed, Turns, TurnsTag}
+use Rattle.md_safe.proofs.Tags.{Single, Takes, adds-turned, adds-flat, framed-text}
 use Rattle.md_safe.proofs.Tags.{framed-needed, framed-forced, adds-framed_flat, Tagged}
 use Rattle.md_safe.proofs.Laid.{Adds, adds-append, adds-needed, IsBeside, adds-all, adds-nothing}
 use Rattle.md_base.specs.declared.event.AlignKind.{AlignKind}
 use Rattle.md_base.specs.declared.event.AlignKind.TheVariants as align
 use Rattle.md_meaning.specs.Meaning.Tables.{align_attribute, cell_of}
-
-pub bracket-plain : (p : Claim) (name : List ℕ) → is_tag elements name [] ≡ true →
-    Bracket p (opening_tag name []) (closing_tag name)
-bracket-plain p name h = (bracket-tag p name).tag [] h refl
 
 abbrev pub code_closing : List ℕ
 code_closing = codes "</code></pre>"
@@ -64,8 +60,9 @@ adds-ordered {W} {Q} {R} beside takes stays context h known turns at {inner} fit
     (codes "1") in
     let opening = by (without_zeros first) (zeros-escaped first
     (digits_of (number_in_list at.children) fits)) (bytes_eq (without_zeros first) (codes "1")) in
-    rw (← (append_assoc (list_start context at) (said (codes ">")) (inner ++ (Forced ∷ said (codes
-    "</ol>"))))) (adds-turned {o = opening.open_tag} takes stays opening.turns opening.adds a (framed-forced beside h))
+    let end : List Piece = inner ++ (Forced ∷ said (codes "</ol>")) in
+    rw (← (append_assoc (list_start context at) (said (codes ">")) end)) (adds-turned
+    {o = opening.open_tag} takes stays opening.turns opening.adds a (framed-forced beside h))
   where
     digits_of : (found : Option Position) → option_map_or
         (λ place. list_all is_digit (text_in context.bytes place)) found true ≡ true →

@@ -9,7 +9,7 @@ use name_variants.{Other, BlockQuotePrefix, SpaceOrTab, HeadingSetextText, Defin
 use name_variants.{GfmFootnoteDefinition, Resource, ResourceTitleString}
 use Rattle.md_base.specs.Is.{is as named}
 use Rattle.md_base.specs.NameTests.{is_transparent}
-use Rattle.md_meaning.specs.Meaning.At.{Defined, Footnote, Found, nothing_found, At}
+use Rattle.md_meaning.specs.Meaning.At.{Defined, Footnote, Found, At}
 use Rattle.md_meaning.specs.Meaning.Layout.{Piece, layout}
 use Rattle.md_meaning.specs.Meaning.Nodes.{found_at}
 use Rattle.md_content.specs.Built.{Content, Blocks, Sources, may_stand, content_inside, IsBuilt}
@@ -78,9 +78,6 @@ pub record Inner (s : Setting) (t : At) (content : Content) (name : Name)
   pub built : IsBuilt s.context.bytes (content_inside content name) t.children
   pub before : PrintsBefore s t (content_inside content name) name inner
   pub found : AreFound s (content_inside content name) t.found
-
-pub nothing-found : (s : Setting) (content : Content) → AreFound s content nothing_found
-nothing-found s content = record { heading = λ _. tt; title = tt; resource = tt }
 
 -- what is found where a node stands
 pub found-node : {s : Setting} {content : Content} {inner : List Piece} (t : At) (name : Name) →

@@ -31,16 +31,16 @@ use Rattle.md_text.specs.Html.{Attribute, elements, is_tag, opening_tag}
 use Rattle.md_safe.proofs.Cases.{either, cases}
 use Rattle.md_safe.proofs.Elements.{adds-cell_in, adds-ordered, class-passes, code_closing}
 use Rattle.md_safe.proofs.Elements.{heading_name, item-end, ranked}
-use Rattle.md_safe.proofs.Claims.{Claims, Known, NodePrints, Own, Prints, alone, blank-around}
+use Rattle.md_safe.proofs.Claims.{Claims, Known, NodePrints, Own, Prints, alone}
 use Rattle.md_safe.proofs.Claims.{block-pair, ending-around, lined, nothing, plain_tag, turned}
 use Rattle.md_safe.proofs.Contents.{Holds}
 use Rattle.md_safe.proofs.FenceNodes.{inside-is}
 use Rattle.md_safe.proofs.FlowNodes.{in-raw, is_flow, is_math, line-escaped, raw-prints, raw_tag}
 use Rattle.md_safe.proofs.FlowNodes.{setext-fits}
 use Rattle.md_safe.proofs.Insides.{is_raw}
-use Rattle.md_safe.proofs.Laid.{Adds, adds-alone, adds-text, adds-weaker}
+use Rattle.md_safe.proofs.Laid.{Adds, adds-alone, adds-text, adds-weaker, adds-when, adds-needed}
 use Rattle.md_safe.proofs.Linking.{is_spans, with_links}
-use Rattle.md_safe.proofs.RawElements.{IsInfo, IsRaw, adds-raw, code-end, code_class, code_tag}
+use Rattle.md_safe.proofs.RawElements.{IsInfo, IsRaw, adds-raw, code-end, code_tag}
 use Rattle.md_safe.proofs.RawElements.{fenced-end, info_regrouped}
 use Rattle.md_safe.proofs.SpanCases.{Spanning, inline-node, is_inline}
 use Rattle.md_safe.proofs.Stands.{is_spaced}
@@ -93,7 +93,7 @@ turns-info : (m : Claims) (math : Bool) (x : List ℕ) → IsInfo (raw_tag math)
     TurnsCode m (raw_tag math ++ (x ++ (62 ∷ [])))
 turns-info m false x (inl e) = rw e (turns-code m [] refl refl)
 turns-info m false x (inr e) = rw e.1 (subst (TurnsCode m) (info_regrouped e.0) (turns-code m
-    (attribute (codes "class") (codes "language-" ++ e.0) ∷ []) (code_class e.0 e.2)
+    (attribute (codes "class") (codes "language-" ++ e.0) ∷ []) (rw e.2 refl)
     (class-passes m.s.test (codes "language-" ++ e.0))))
 turns-info m true x (inl e) = rw e (turns-code m
     (attribute (codes "class") (codes "language-math math-display") ∷ []) refl
@@ -242,7 +242,7 @@ inner-node m t Characters CodeFlowChunk other stands inner k a = adds-weaker
 inner-node m t content LineEnding other stands inner k a = alone m (ending-spaced content stands)
     (ending-around m t k.fit)
 inner-node m t content BlankLineEnding other stands inner k a = alone m
-    (ending-spaced content stands) (blank-around m t.is_last)
+    (ending-spaced content stands) (adds-when m.beside t.is_last (adds-needed m.beside m.ending))
 inner-node m t _ _ other stands inner k a = lie stands
 
 -- a node that isn't transparent prints what its place allows

@@ -174,10 +174,6 @@ later-of : (content : Content) (name : Name) → is_raw name ≡ false →
 later-of content name plain s = cases (is_first (content_of name content))
     (λ e. lie (sym plain ∙ (allowed_inside content name s).first e)) (λ e. e)
 
-later-after : (content : Content) (forest : Forest) → IsLater content →
-    IsLater (content_after content forest)
-later-after = stays-after IsLater (λ content name h. (past_of content name).later)
-
 -- after a fence no first one is to come
 later-fenced : (content : Content) (names : List Name) → Follows content names →
     list_any fence_name names ≡ true →
@@ -203,4 +199,5 @@ pub later-inside :
 later-inside bytes content name start end children s fit built = cases (is_raw name)
     (λ is. fenced-after bytes (content_of name content) children built
     (follows-inside content name s) (has-fence bytes name start end children is fit))
-    (λ plain. later-after (content_of name content) children (later-of content name plain s))
+    (λ plain. stays-after IsLater (λ content name h. (past_of content name).later)
+    (content_of name content) children (later-of content name plain s))

@@ -30,7 +30,7 @@ use Rattle.md_safe.proofs.FlowNodes.{Reads}
 use Rattle.md_safe.proofs.BlockNodes.{holds-none}
 use Rattle.md_safe.proofs.Nodes.{Knows, any-node, inside-alone, Before as PrintsBefore}
 use Rattle.md_safe.proofs.Findings.{AreFound, AreRead, titles-append, texts-append}
-use Rattle.md_safe.proofs.Findings.{Inner, nothing-found, found-node, note-node}
+use Rattle.md_safe.proofs.Findings.{Inner, found-node, note-node}
 use Rattle.md_safe.proofs.Cases.{on-later, on-either, cases}
 use Rattle.md_safe.proofs.Texts.{Escaped}
 use Rattle.md_safe.proofs.Media.{IsEscapedTitle}
@@ -126,7 +126,7 @@ pub means : (s : Setting) (forest : Forest) (around : Surroundings) (before : Be
     Means s around content forest (outcome s.context around before forest)
 means s Empty around before content built r = record {
   prints = λ later h. h;
-  found = nothing-found s content;
+  found = record { heading = λ _. tt; title = tt; resource = tt };
   titles = tt;
   texts = tt;
 }

@@ -125,17 +125,11 @@ parts : (a b c d : Bool) → (a && b || c && d) ≡ false →
     (c ≡ true → d ≡ false) × (a ≡ true → b ≡ false)
 parts a b c d h = (λ e. grind (arith, h, e), λ e. grind (arith, h, e))
 
-unnested-parts : (name : Name) (in_link : Bool) (start end : Point) (children rest : Forest) →
+pub unnested-parts : (name : Name) (in_link : Bool) (start end : Point) (children rest : Forest) →
     has_nested_link in_link (Node name start end children rest) ≡ false → ((in_link && prints_link
     name || not (named Image name) && has_nested_link (named Link name || in_link) children)
     ≡ false) × (has_nested_link in_link rest ≡ false)
 unnested-parts name in_link start end children rest h = or_parts _ _ h
-
-pub unnested-after : (name : Name) (in_link : Bool) (start end : Point) (children rest : Forest) →
-    has_nested_link in_link (Node name start end children rest) ≡ false →
-    has_nested_link in_link rest ≡ false
-unnested-after name in_link start end children rest h =
-    (unnested-parts name in_link start end children rest h).1
 
 no_image : (name : Name) → is_blocks (content_inside Blocks name) ≡ true →
     not (named Image name) ≡ true

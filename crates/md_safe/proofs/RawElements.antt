@@ -1,8 +1,8 @@
 -- The tags of fenced code and of math, around what is said of it and what it holds.
-use Rattle.std.proofs.Common.{◌≡◌, ◌⊎◌, ℕ, true, List, [], ◌∷◌, ◌++◌, refl, ap}
+use Rattle.std.proofs.Common.{◌≡◌, ◌⊎◌, ℕ, List, [], ◌∷◌, ◌++◌, refl, ap}
 use Rattle.std.proofs.Common.{append_assoc, append-nil, codes}
 use Rattle.std.specs.List.{list_any}
-use Rattle.md_text.specs.Html.{opening_tag, is_tag, elements}
+use Rattle.md_text.specs.Html.{opening_tag}
 use Rattle.md_base.specs.Children.{spine_names}
 use Rattle.md_base.specs.NameTests.{is_chunk}
 use Rattle.md_meaning.specs.Meaning.At.{At}
@@ -82,10 +82,6 @@ fenced-end {W} {ending} beside h t =
     let last = adds-when beside (is_unclosed t) (adds-needed beside h) in
     simp append_assoc (simp append_assoc at (adds-framed {c = code_closing} (adds-append beside.both
     out line) last))
-
-pub code_class : (v : List ℕ) → Escaped v → is_tag elements (codes "code")
-    (attribute (codes "class") (codes "language-" ++ v) ∷ []) ≡ true
-code_class v h = rw h refl
 
 pub info_regrouped : (v : List ℕ) → codes "<pre>" ++ opening_tag (codes "code")
     (attribute (codes "class") (codes "language-" ++ v) ∷ []) ≡ code_tag

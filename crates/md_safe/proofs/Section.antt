@@ -29,7 +29,6 @@ use Rattle.md_meaning.specs.Meaning.At.{Footnote, Context}
 use Rattle.md_meaning.specs.FootnoteHeading.{tag_of, attributes_of}
 use Rattle.md_safe.proofs.Texts.{Escaped}
 use Rattle.md_safe.proofs.Calls.{label-escaped, id-escaped, backreferences-read, reads-text}
-use Rattle.md_safe.proofs.Elements.{bracket-plain}
 use Rattle.md_safe.proofs.BlockNodes.{holds-none}
 use Rattle.md_safe.proofs.Findings.{AreTexts, AreRead}
 
@@ -222,7 +221,7 @@ pub section-around : (s : Setting) (q : Claim) → Turns s.p.holds q.holds (head
     Prints s q.holds (section s.context footnotes)
 section-around s q turn no_tag no_attributes footnotes a = adds-section escaped_beside
     (takes-escaped s.p) (takes-escaped s.p) (takes-escaped q) s.context s.ending
-    (bracket-plain s.p (codes "ol") refl) turn no_tag no_attributes (q.plain [] (nothing q.test))
+    ((bracket-tag s.p (codes "ol")).tag [] refl refl) turn no_tag no_attributes (q.plain [] (nothing q.test))
     footnotes a
 
 pub section-prints : (s : Setting) → IsWhole s.p → s.context.options.gfm_footnote_label_tag_name

@@ -11,15 +11,14 @@ use Rattle.md_base.proofs.Lies.{lie}
 use Rattle.md_text.specs.Laws.{is_line_ends}
 use Rattle.md_text.specs.Bytes.{is_one_of}
 use Rattle.md_text.specs.Html.{Attribute, Forest, Empty, Text, Void, Element, is_tag, elements}
-use Rattle.md_text.specs.Html.{void_tags, written_attributes, opening_tag, closing_tag, IsReading}
-use Rattle.md_text.specs.Html.{any_attribute}
+use Rattle.md_text.specs.Html.{void_tags, written_attributes, closing_tag, IsReading, any_attribute}
 use Rattle.md_text.proofs.HtmlJoin.{text_before, joined, after_forest, opening-before}
 use Rattle.md_text.proofs.HtmlReading.{only_reading, all-any}
 use Rattle.md_text.proofs.HtmlWriting.{written_attributes-before}
 use Rattle.md_text.proofs.EscapedLemmas.{escaped-append}
 use Rattle.md_safe.proofs.Texts.{Escaped, line_ends-escaped}
 use Rattle.md_safe.proofs.Laid.{IsBeside}
-use Rattle.md_safe.proofs.Tags.{Turns, TurnsTag, Tagged, Single, Takes}
+use Rattle.md_safe.proofs.Tags.{TurnsTag, Tagged, Single, Takes}
 use Rattle.md_safe.specs.Contents.{Content, Flow, Phrasing, Linked, Preformatted, Characters}
 use Rattle.md_safe.specs.Contents.{held_in, voids_in, is_space, may_say, is_contained}
 use Rattle.md_safe.specs.Contents.{IsContainedAs, span_elements, block_elements}
@@ -216,11 +215,6 @@ turns-tag held {name = name} opens = record {
         h opens r);
   };
 }
-
-pub turns-plain : {nested : Bool} {held content : Content} (name : List ℕ) →
-    is_tag elements name [] ≡ true → Opens nested content held name →
-    Turns (Stands nested held) (Stands nested content) (opening_tag name []) (closing_tag name)
-turns-plain {held = held} name h opens = (turns-tag held opens).tag [] h refl
 
 find-first : {A : Type 0} (test : A → Bool) (xs ys : List A) (x : A) → find test xs ≡ Some x →
     find test (xs ++ ys) ≡ Some x

@@ -147,12 +147,6 @@ adds-turned {W} {Q} {c = c} takes stays turns a r b = adds-append
     (λ x w f g. rw g.2 (enclosed takes stays turns f g.3 g.4)) a
     (adds-append (λ y z f g. (y, z, refl, f, g)) r b)
 
--- pieces between those of a bracket
-pub adds-pair : (p : Claim) {ending o c : List ℕ} {xs ys zs : List Piece} → Bracket p o c →
-    Adds ending (IsFramed Escaped o) xs → Adds ending p.holds ys →
-    Adds ending (IsFramed Escaped c) zs → Adds ending p.holds (xs ++ (ys ++ zs))
-adds-pair p bracket a r b = adds-turned (takes-escaped p) (takes-escaped p) bracket a r b
-
 -- a text between pieces that add such texts, and a tag
 pub framed-around : {W : List ℕ → Type 0} {ending c : List ℕ} {xs ys zs : List Piece} →
     Adds ending W xs → Adds ending (λ y. y ≡ c) ys → Adds ending W zs →
