@@ -238,7 +238,8 @@ pub section-prints : (nested : Bool) (d : Document) → IsWhite d.context.ending
     AreFlow nested footnotes → Prints nested d Flow (section d.context footnotes)
 section-prints nested d w no_tag no_attributes footnotes h = adds-section white_beside
     (takes-white refl) (takes-white refl) (takes-white refl) d.context w
-    ((turns-tag Items {name = codes "ol"} refl).tag [] refl refl) (heading-turns nested (heading_label_of d.context.options)
+    ((turns-tag Items {name = codes "ol"} refl).tag [] refl refl) (heading-turns nested
+    (heading_label_of d.context.options)
     (label-escaped d.context.options)) no_tag no_attributes stands-nothing footnotes (adds-all
     (record { none = stands-nothing; both = stands-join }) (item-prints nested d w footnotes h)
     (distinct d.context.calls))

@@ -67,9 +67,13 @@ stays-after Q past content (Node name start end children rest) h = stays-after Q
     (is_transparent name) (content_after content children) (content_past content name)) rest
     (cond_both _ _ _ Q (λ _. stays-after Q past content children h) (λ _. past content name h))
 
+-- blocks stand after blocks
+pub blocks-stay : (forest : Forest) → content_after Blocks forest ≡ Blocks
+blocks-stay forest = stays-after (λ content. content ≡ Blocks)
+    (λ content name e. ap (λ content. content_past content name) e) Blocks forest refl
+
 -- after each node in blocks the content is still blocks
 pub after-blocks : (name : Name) (children : Forest) → content_after_node Blocks name
     children ≡ Blocks
-after-blocks name children = cond_both _ _ _ (λ c. c ≡ Blocks) (λ _. stays-after
-    (λ content. content ≡ Blocks) (λ content name e. ap (λ content. content_past content name) e)
-    Blocks children refl) (λ _. refl)
+after-blocks name children =
+    cond_both _ _ _ (λ c. c ≡ Blocks) (λ _. blocks-stay children) (λ _. refl)

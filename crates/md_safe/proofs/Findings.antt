@@ -15,7 +15,7 @@ use Rattle.md_meaning.specs.Meaning.Nodes.{found_at}
 use Rattle.md_content.specs.Built.{Content, Blocks, Sources, may_stand, content_inside, IsBuilt}
 use Rattle.md_safe.proofs.Media.{IsEscapedTitle}
 use Rattle.md_safe.proofs.Contents.{Holds}
-use Rattle.md_safe.proofs.Insides.{is_blocks, asks_escaping, Suits}
+use Rattle.md_safe.proofs.Insides.{is_blocks, asks_escaping, Suits, is_blocks-same}
 use Rattle.md_safe.proofs.Spot.{Setting, AreTitles, IsGoodTarget, IsFitAt}
 use Rattle.md_safe.proofs.FlowNodes.{Reads}
 use Rattle.md_safe.proofs.Nodes.{inside-alone, Before as PrintsBefore}
@@ -26,8 +26,7 @@ use Rattle.md_safe.proofs.Cases.{OnSome}
 blocks-read : (s : Setting) (escaping in_image : Bool) (content : Content) →
     is_blocks content ≡ true →
     (x : List ℕ) → Holds s.p escaping in_image content x → Reads s x
-blocks-read s escaping in_image Blocks is x h = h
-blocks-read s escaping in_image _ is x h = lie is
+blocks-read s escaping in_image content is x h = rw (is_blocks-same content is) at h
 
 -- a footnote stands among blocks
 note-blocks : (content : Content) → may_stand content GfmFootnoteDefinition ≡ true →

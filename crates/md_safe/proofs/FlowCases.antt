@@ -2,6 +2,7 @@
 -- it is.
 use Rattle.std.proofs.Common.{Bool, List, ap, append_assoc, codes, cond, drop, false, inl, inr, not}
 use Rattle.std.proofs.Common.{refl, sym, true, ℕ, ◌&&◌, ◌++◌, ◌||◌, ◌∙◌, ◌∷◌, ◌≡◌, ◌≤◌, [], subst}
+use Rattle.std.proofs.Common.{arith}
 use Rattle.std.specs.Fmt.{digits}
 use Rattle.std.specs.List.{flat_map, list_all}
 use Rattle.std.specs.Prelude.{None, Option, Some, bytes_eq, count_by, slice_get}
@@ -58,9 +59,7 @@ holds_phrasing held =
 
 phrasing-held : (held : Option Content) → holds_phrasing held ≡ true → held ≡ Some Phrasing
 unfolding holds_phrasing
-phrasing-held (Some Phrasing) h = refl
-phrasing-held (Some _) h = lie h
-phrasing-held None h = lie h
+phrasing-held held h = grind (arith, h)
 
 turns-heading : (m : Claims) (rank : ℕ) → (1 ≤ rank) × (rank ≤ 6) → Turns (m.holds Phrasing)
     (m.holds Flow) (heading_tag (codes "<h") rank) (heading_tag (codes "</h") rank)

@@ -57,9 +57,7 @@ place-other nested content Link other = lie (sym other)
 place-other nested content _ other = refl
 
 with-without : (content : Content) → with_links (without_links content) ≡ with_links content
-with-without Phrasing = refl
-with-without Linked = refl
-with-without _ = refl
+with-without content = grind arith
 
 -- no place is without links by its name
 place-with : (name : Name) → with_links (place_of name) ≡ place_of name

@@ -221,7 +221,8 @@ pub section-around : (s : Setting) (q : Claim) → Turns s.p.holds q.holds (head
     Prints s q.holds (section s.context footnotes)
 section-around s q turn no_tag no_attributes footnotes a = adds-section escaped_beside
     (takes-escaped s.p) (takes-escaped s.p) (takes-escaped q) s.context s.ending
-    ((bracket-tag s.p (codes "ol")).tag [] refl refl) turn no_tag no_attributes (q.plain [] (nothing q.test))
+    ((bracket-tag s.p (codes "ol")).tag [] refl refl) turn no_tag no_attributes (q.plain []
+    (nothing q.test))
     footnotes a
 
 pub section-prints : (s : Setting) → IsWhole s.p → s.context.options.gfm_footnote_label_tag_name

@@ -17,13 +17,14 @@ use Rattle.md_meaning.specs.Meaning.Layout.{layout}
 use Rattle.md_meaning.specs.Meaning.Nodes.{outcome}
 use Rattle.md_content.specs.Built.{Blocks, IsBuilt}
 use Rattle.md_safe.proofs.Costs.{Document, read_in}
-use Rattle.md_safe.proofs.Prepared.{document_of, blocks-stay, outermost-ready, reads-whole}
+use Rattle.md_safe.proofs.Prepared.{document_of, outermost-ready, reads-whole}
 use Rattle.md_safe.specs.Options.{KeepsGrammar, KeepsLinks, KeepsImages}
 use Rattle.md_safe.proofs.Tags.{reading, IsTest}
 use Rattle.md_safe.proofs.Laid.{adds-alone}
 use Rattle.md_safe.proofs.Spot.{PassesIds, IsWhole, Setting}
 use Rattle.md_safe.proofs.Forests.{means}
 use Rattle.md_safe.proofs.Section.{section-prints}
+use Rattle.md_safe.proofs.Contents.{blocks-stay}
 
 -- a document and its section
 document-prints : (s : Setting) → IsWhole s.p → (document : Forest) →
