@@ -1,19 +1,26 @@
--- Texts in a row, and the line endings of two of them.
+-- Texts in a row, and the line endings of two of them; single texts that end in the data state, and
+-- ones that don't.
 use Rattle.std.proofs.Common.{◌≡◌, ℕ, ◌==◌, Bool, true, false, ◌&&◌, cond, List, [], ◌∷◌, ◌++◌}
-use Rattle.std.proofs.Common.{refl, ap, ◌∙◌, append-nil, append_assoc}
+use Rattle.std.proofs.Common.{refl, ap, ◌∙◌, append-nil, append_assoc, codes, sym}
 use Rattle.md_safe.specs.Input.{begins_with_line_feed, with_line_feeds}
 use Rattle.md_safe.specs.Embedded.{splits_newline, EndsInDataState, HasTokensAfter}
 use Rattle.md_safe.specs.Embedded.{ends_with_return}
 use Rattle.md_safe.proofs.LineFeeds.{one, one-append}
 use Rattle.md_text.specs.Html.{Attribute, Forest, is_forest, written, IsReading, HasOneReadingWith}
-use Rattle.md_safe.specs.Token.{Token, EndOfFile}
+use Rattle.md_safe.specs.Token.{Token, EndOfFile, Character, StartTag}
 use Rattle.md_safe.specs.TokenizerStates.{Data}
-use Rattle.md_safe.specs.Tokenizer.{IsTokenized}
+use Rattle.md_safe.specs.Tokenizer.{IsTokenized, IsRun}
 use Rattle.md_safe.specs.Tokens.{tokens}
 use Rattle.md_safe.specs.Tokenizes.{Tokenizes}
 use Rattle.md_safe.proofs.ForestLeads.{forest-ends, reading-ends}
 use Rattle.md_safe.proofs.Joining.{leads-on, runs-on, run-on}
-use Rattle.std.proofs.lemmas.Bool.{and_right}
+use Rattle.std.proofs.lemmas.Bool.{and_right, or_right}
+use Rattle.std.specs.Str.{bytes_eq}
+use Rattle.std.specs.List.{list_any}
+use Rattle.md_safe.proofs.OneRun.{one_run}
+use Rattle.md_safe.proofs.Steps.{attribute}
+use Rattle.md_base.proofs.Lies.{lie}
+use Rattle.std.proofs.lemmas.List.Folds.{list_any-append}
 
 pub line_feeds-apart : (x r : List ℕ) → splits_newline x r ≡ false →
     with_line_feeds (x ++ r) ≡ with_line_feeds x ++ with_line_feeds r
@@ -125,3 +132,51 @@ pub between-tokenized : (before text after : List ℕ) (earlier later : List Tok
 between-tokenized before text after earlier later f h reading n m k = simp append_assoc at
     (tokenized (before ++ text) after (earlier ++ tokens f) later (joined before text earlier f h
     reading n) m k)
+
+-- the rest would be emitted, and isn't
+lost : (p : Token → Bool) (input mid : List ℕ) (t u all : List Token) → IsRun Data mid u →
+    IsRun Data input all → list_any p u ≡ true → list_any p all ≡ false →
+    Tokenizes Data input t mid → ⊥
+lost p input mid t u all k l has hasn't h = lie (sym hasn't ∙ ap (list_any p) (one_run _ _ _ _ l
+    (runs-on _ _ _ t u h k)) ∙ list_any-append p t u ∙ or_right _ _ has)
+
+abbrev is_byte : ℕ → Token → Bool
+is_byte b token = elim token [ Character c ↦ c == b | _ ↦ false ]
+
+abbrev is_start : List ℕ → Token → Bool
+is_start name token = elim token [ StartTag n attributes flag ↦ bytes_eq n name | _ ↦ false ]
+
+pub reference : (emits : List Token) → EndsInDataState (codes "&") emits → ⊥
+reference emits h =
+    lost (is_byte 97) (codes "&amp;") (codes "amp;") emits
+    (Character 97 ∷ Character 109 ∷ Character 112 ∷ Character 59 ∷ EndOfFile ∷ [])
+    (Character 38 ∷ EndOfFile ∷ []) record { steps = 9; emits = refl }
+    record { steps = 9; emits = refl } refl refl (h (codes "amp;"))
+
+pub tag : (emits : List Token) → EndsInDataState (codes "<div ") emits → ⊥
+tag emits h =
+    lost (is_byte 62) (codes "<div >") (codes ">") emits (Character 62 ∷ EndOfFile ∷ [])
+    (StartTag (codes "div") [] false ∷ EndOfFile ∷ [])
+    record { steps = 19; emits = refl } record { steps = 19; emits = refl } refl
+    refl (h (codes ">"))
+
+pub title : (emits : List Token) → EndsInDataState (codes "<title>") emits → ⊥
+title emits h =
+    lost (is_start (codes "p")) (codes "<title><p>") (codes "<p>") emits
+    (StartTag (codes "p") [] false ∷ EndOfFile ∷ []) (StartTag (codes "title") [] false
+    ∷ Character 60 ∷ Character 112 ∷ Character 62 ∷ EndOfFile ∷ [])
+    record { steps = 19; emits = refl } record { steps = 19; emits = refl } refl
+    refl (h (codes "<p>"))
+
+pub value : (emits : List Token) → EndsInDataState (codes "<div class=\"") emits → ⊥
+value emits h =
+    lost (is_byte 62) (codes "<div class=\"\">") (codes "\">") emits
+    (Character 34 ∷ Character 62 ∷ EndOfFile ∷ [])
+    (StartTag (codes "div") (attribute (codes "class") [] ∷ []) false ∷ EndOfFile ∷ [])
+    record { steps = 29; emits = refl } record { steps = 29; emits = refl } refl
+    refl (h (codes "\">"))
+
+pub two_feeds : Tokenizes Data (10 ∷ []) (Character 10 ∷ []) (10 ∷ []) → ⊥
+two_feeds h = cc (one_run _ (10 ∷ []) (Character 10 ∷ EndOfFile ∷ []) (Character 10 ∷ Character 10 ∷
+    EndOfFile ∷ []) record { steps = 9; emits = refl } (runs-on _ _ _ (Character 10 ∷ []) _ h record
+    { steps = 9; emits = refl }))

@@ -58,7 +58,6 @@ pub mod TagLeads
 pub mod ForestLeads
 pub mod Joining
 pub mod Between
-pub mod Cuts
 -- and of tree construction.
 pub mod Lists
 pub mod TreeSteps

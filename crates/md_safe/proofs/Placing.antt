@@ -88,17 +88,13 @@ may_show content seen = may_stand content (sort_for seen)
 
 -- ---- what may stand after a symbol of a group may stand there
 
-reference-shows : (tail : List Symbol) → IsTail symbol.ReferenceMarker tail →
-    list_all (may_show Phrasing) tail ≡ true
-reference-shows tail is = elim is [
+phrasing-shows : (first : Symbol) (tail : List Symbol) → may_show Phrasing first ≡ true →
+    IsTail first tail → list_all (may_show Phrasing) tail ≡ true
+phrasing-shows symbol.ReferenceMarker tail h is = elim is [
   | inl e ↦ rw e refl
   | inr (inl e) ↦ rw e refl
   | inr (inr e) ↦ rw e refl
 ]
-
-phrasing-shows : (first : Symbol) (tail : List Symbol) → may_show Phrasing first ≡ true →
-    IsTail first tail → list_all (may_show Phrasing) tail ≡ true
-phrasing-shows symbol.ReferenceMarker tail h is = reference-shows _ is
 phrasing-shows symbol.SetextText tail h is = lie h
 phrasing-shows first tail h is = rw is refl
 

@@ -43,8 +43,7 @@ digit-plain b h = grind arith
 
 pub digits-escaped : (text : List ℕ) → list_all is_digit text ≡ true → Escaped text
 digits-escaped [] h = refl
-digits-escaped (b ∷ text) h =
-    grind (arith, plain_first b text, digit-plain b, digits-escaped text)
+digits-escaped (b ∷ text) h = grind (arith, plain_first b text, digit-plain b, digits-escaped text)
 
 -- digits without the zeros before them are digits
 pub zeros-escaped : (text : List ℕ) → list_all is_digit text ≡ true → Escaped (without_zeros text)
