@@ -50,13 +50,13 @@ back P g mid u h zero state input t e =
     (subst (λ x. P Data x u) (sym is.1) h))
 back P g mid u h (suc n) state input t e = back-step P g _ u n (back P g _ u h n) _ _ t _ refl e
 
-leads-back : (left : List ℕ) → GoesBack (λ state input t. Tokenizes state input t left)
+pub leads-back : (left : List ℕ) → GoesBack (λ state input t. Tokenizes state input t left)
 leads-back left state next input rest out t e h = record {
   count = suc h.count;
   goes = ap (and_then (steps h.count)) e ∙ ap (emitted_before out) h.goes;
 }
 
-run-back : GoesBack IsRun
+pub run-back : GoesBack IsRun
 run-back state next input rest out t e h = record {
   steps = suc h.steps;
   emits = ap (after_step (run h.steps)) e ∙ ap (option_map (λ later. out ++ later)) h.emits;

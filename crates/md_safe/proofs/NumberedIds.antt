@@ -188,10 +188,7 @@ count-append (z ∷ zs) ys x = omega (count-append zs ys x, arith)
 
 count-middle : (xs ys : List (List ℕ)) (x : List ℕ) → suc (count_of xs x) ≤ count_of
     (xs ++ x ∷ ys) x
-count-middle xs ys x =
-    let own : ℕ = cond (bytes_eq x x) 1 0 in
-    let one : own ≡ 1 = ap (λ is. cond is 1 0) (itself x) in
-    omega (one, count-append xs (x ∷ ys) x, arith)
+count-middle xs ys x = grind (arith, itself x, count-append xs (x ∷ ys) x)
 
 -- two calls have another number, or another occurrence
 calls-differ : (all before mid : List (List ℕ)) (x y : List ℕ) → is_in x all ≡ true →

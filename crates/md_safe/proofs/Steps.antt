@@ -1,14 +1,15 @@
 -- Step by step: a run from a state, by a run from the state after its first step.
 use Rattle.std.proofs.Common.{◌≡◌, ℕ, ◌==◌, Bool, true, false, cond, List, [], ◌∷◌, ◌++◌, map, refl}
-use Rattle.std.proofs.Common.{sym, ap, ◌∙◌, Some, option_map, suc, arith}
+use Rattle.std.proofs.Common.{sym, ap, ◌∙◌, Some, arith}
 use Rattle.std.proofs.lemmas.Bool.{eqb-false}
 use Rattle.md_text.specs.References.{is_escaped, read_back}
 use Rattle.md_text.proofs.EncodeLaws.{read_back-other}
 use Rattle.md_safe.specs.Token.{Token, Character, TokenAttribute}
 use Rattle.md_safe.specs.Tag.{Tag, with_value}
 use Rattle.md_safe.specs.TokenizerStates.{State, Data, AttributeValueDoubleQuoted, Goes, Rcdata}
-use Rattle.md_safe.specs.Tokenizer.{step, run, after_step, IsRun}
+use Rattle.md_safe.specs.Tokenizer.{step, run, IsRun}
 use Rattle.md_safe.proofs.EscapedCases.{IsPlain, by_escaped}
+use Rattle.md_safe.proofs.Joining.{run-back}
 
 -- the branches of a test
 pub past : {A : Type 0} {c : Bool} {y z : A} (x : A) → c ≡ false → y ≡ z → cond c x y ≡ z
@@ -21,18 +22,12 @@ here {x = x} y e f = ap (λ c. cond c x y) e ∙ f
 pub quiet : {state next : State} {input rest : List ℕ} {t : List Token} →
     step state input ≡ Goes [] next rest →
     IsRun next rest t → IsRun state input t
-quiet e h = record {
-  steps = suc h.steps;
-  emits = ap (after_step (run h.steps)) e ∙ ap (option_map (λ later. later)) h.emits;
-}
+quiet e h = run-back _ _ _ _ [] _ e h
 
 -- a step that emits one token
 pub loud : {state next : State} {input rest : List ℕ} {t : List Token} (x : Token) →
     step state input ≡ Goes (x ∷ []) next rest → IsRun next rest t → IsRun state input (x ∷ t)
-loud x e h = record {
-  steps = suc h.steps;
-  emits = ap (after_step (run h.steps)) e ∙ ap (option_map (λ later. x ∷ later)) h.emits;
-}
+loud x e h = run-back _ _ _ _ (x ∷ []) _ e h
 
 -- the same run, of what is equal
 pub along : (state : State) (x y : List ℕ) (s t : List Token) → x ≡ y → s ≡ t →

@@ -1,6 +1,6 @@
 -- Step by step: the way to the data state from a state, by the way from the state after its first
 -- step.
-use Rattle.std.proofs.Common.{◌≡◌, ℕ, List, [], ◌∷◌, ◌++◌, map, refl, ap, ◌∙◌, subst, suc}
+use Rattle.std.proofs.Common.{◌≡◌, ℕ, List, [], ◌∷◌, ◌++◌, map, refl, subst}
 use Rattle.std.proofs.Common.{append-nil, append_assoc, true}
 use Rattle.md_text.specs.References.{is_escaped, read_back}
 use Rattle.md_text.proofs.EncodeLaws.{read_back-other}
@@ -8,9 +8,9 @@ use Rattle.md_safe.specs.Token.{Token, Character, TokenAttribute}
 use Rattle.md_safe.specs.TokenizerStates.{State, Data, Goes}
 use Rattle.md_safe.specs.Tokenizer.{step, IsRun}
 use Rattle.md_safe.proofs.EscapedCases.{IsPlain, by_escaped}
-use Rattle.md_safe.proofs.Joining.{runs-on}
+use Rattle.md_safe.proofs.Joining.{runs-on, leads-back}
 use Rattle.md_safe.proofs.Steps.{AtValue, plain-ne, plain_step, value_step}
-use Rattle.md_safe.specs.Tokenizes.{Tokenizes, emitted_before, and_then, steps}
+use Rattle.md_safe.specs.Tokenizes.{Tokenizes}
 
 -- with the rest of the input first
 abbrev pub To : List ℕ → State → List ℕ → List Token → Type 0
@@ -22,18 +22,12 @@ arrived left = record { count = 0; goes = refl }
 -- a step that emits nothing
 pub quiet : {left : List ℕ} {state next : State} {input rest : List ℕ} {t : List Token} →
     step state input ≡ Goes [] next rest → To left next rest t → To left state input t
-quiet e h = record {
-  count = suc h.count;
-  goes = ap (and_then (steps h.count)) e ∙ ap (emitted_before []) h.goes;
-}
+quiet {left} e h = leads-back left _ _ _ _ [] _ e h
 
 -- a step that emits one token
 pub loud : {left : List ℕ} {state next : State} {input rest : List ℕ} {t : List Token} (x : Token) →
     step state input ≡ Goes (x ∷ []) next rest → To left next rest t → To left state input (x ∷ t)
-loud x e h = record {
-  count = suc h.count;
-  goes = ap (and_then (steps h.count)) e ∙ ap (emitted_before (x ∷ [])) h.goes;
-}
+loud {left} x e h = leads-back left _ _ _ _ (x ∷ []) _ e h
 
 -- the same way, of what is equal
 pub along : {left : List ℕ} (state : State) (x y : List ℕ) (s t : List Token) → x ≡ y → s ≡ t →
