@@ -154,11 +154,9 @@ reference emits h =
     record { steps = 9; emits = refl } refl refl (h (codes "amp;"))
 
 pub tag : (emits : List Token) → EndsInDataState (codes "<div ") emits → ⊥
-tag emits h =
-    lost (is_byte 62) (codes "<div >") (codes ">") emits (Character 62 ∷ EndOfFile ∷ [])
-    (StartTag (codes "div") [] false ∷ EndOfFile ∷ [])
-    record { steps = 19; emits = refl } record { steps = 19; emits = refl } refl
-    refl (h (codes ">"))
+tag emits h = lost (is_byte 62) (codes "<div >") (codes ">") emits (Character 62 ∷ EndOfFile ∷ [])
+    (StartTag (codes "div") [] false ∷ EndOfFile ∷ []) record { steps = 19; emits = refl }
+    record { steps = 19; emits = refl } refl refl (h (codes ">"))
 
 pub title : (emits : List Token) → EndsInDataState (codes "<title>") emits → ⊥
 title emits h =

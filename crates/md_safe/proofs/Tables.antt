@@ -47,9 +47,6 @@ space-read (b ∷ x) h =
     rw (read_back-other b x (λ e. lie (rw e at parts.0)))
     (and_from (is_space b) (list_all is_space (read_back x)) parts.0 (space-read x parts.1))
 
-pub space-seen : (x : List ℕ) → list_all is_space x ≡ true → list_all is_space (seen x) ≡ true
-space-seen x h = space-read (with_line_feeds x) (line_feeds-all is_space refl x h)
-
 -- ---- the pending characters of a table
 
 -- a parser to which a tag is the same as to another one
@@ -225,7 +222,8 @@ set-all (Text bytes rest) content is mode tables parent tabular putting h c x ma
     let waits = text-waits mode tables y.node y.others y.active y.created (seen bytes) tabular
     (filled bytes rest h) (seen-characters bytes (text-escaped bytes rest h).0) in
     let settle = settled mode tables y.node y.others y.active y.created (seen bytes)
-    (space-seen bytes (white-said content bytes is parts.0)) in
+    (space-read (with_line_feeds bytes) (line_feeds-all is_space refl bytes
+    (white-said content bytes is parts.0))) in
     by rest h parts.1 wait waits settle (set-all rest content is mode tables parent tabular putting
     (text-escaped bytes rest h).1 parts.1 (with_children x
     (with_characters x.node.children (seen bytes)) x.active x.created) made)
