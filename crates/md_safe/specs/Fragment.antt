@@ -1,13 +1,13 @@
 -- The HTML Standard's fragment parsing (13.4): the nodes that `innerHTML` inserts into an element,
 -- its context.
-use Rattle.std.specs.Prelude.{ℕ, Bool, not, ◌++◌, List, [], ◌∷◌, if◌then◌else◌, Option, None}
+use Rattle.std.specs.Prelude.{ℕ, Bool, not, ◌++◌, List, [], ◌∷◌, if◌then◌else◌, Option, Some, None}
 use Rattle.std.specs.Prelude.{option_map, codes}
 use Rattle.md_text.specs.Bytes.{is_one_of}
 use Rattle.md_safe.specs.Token.{Token}
 use Rattle.md_safe.specs.Node.{Nodes, Empty, Text, Element, InBody}
 use Rattle.md_safe.specs.Elements.{apart}
 use Rattle.md_safe.specs.Built.{at, open_at}
-use Rattle.md_safe.specs.Page.{constructed}
+use Rattle.md_safe.specs.Page.{Document, constructed}
 
 -- the contexts for which the tokenizer begins in another state than the data state
 abbrev pub of_other_states : List (List ℕ)
