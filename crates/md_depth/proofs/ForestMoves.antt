@@ -129,7 +129,7 @@ solid d p name n e room built ready waits known below =
     let a : Inside s t Blocks name inner.pieces = inside-means t Blocks name e built.0 built.1
     built.2 known in
     record {
-      prints = node-moves s t (n - 2) n room name ready.suits.0 e
+      prints = node-moves s t (n - 2) n room name (ready.suits.escaped refl) e
           (not_part (is_part name || is_source name) stands) built.1
           (λ _. (n - 1, omega arith, waits)) known.found.resource inner.pieces a
           (λ is. (below is).prints);

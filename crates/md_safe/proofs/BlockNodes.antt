@@ -1,5 +1,5 @@
 -- Names that print nothing, or only their children.
-use Rattle.std.proofs.Common.{◌≡◌, Bool, true, false, not, ◌&&◌, ◌||◌, List, [], refl, cond, subst}
+use Rattle.std.proofs.Common.{◌≡◌, Bool, true, false, not, ◌&&◌, ◌||◌, List, [], refl}
 use Rattle.std.proofs.lemmas.Bool.{and_parts, not-true}
 use Rattle.md_base.specs.declared.event.Name.{Name}
 use Rattle.md_base.specs.declared.event.Name.TheVariants as name_variants
@@ -14,12 +14,12 @@ use Rattle.md_meaning.specs.Meaning.At.{At, Context}
 use Rattle.md_meaning.specs.Meaning.Layout.{Piece}
 use Rattle.md_meaning.specs.Meaning.Means.{prints}
 use Rattle.md_content.specs.Built.{Blocks, content_of, is_part, is_source, is_autolink}
-use Rattle.md_steps.proofs.Standing.{picked}
 use Rattle.md_safe.proofs.Spot.{Setting}
 use Rattle.md_safe.proofs.Insides.{is_blocks}
 use Rattle.md_safe.proofs.StringNodes.{is_text}
 use Rattle.md_safe.proofs.SpanNodes.{is_shown}
 use Rattle.md_safe.proofs.FlowNodes.{Reads, is_flow, is_leaf}
+use Rattle.md_base.proofs.Lies.{lie}
 
 -- what prints nothing of its children
 abbrev pub is_hidden : Name → Bool
@@ -65,20 +65,14 @@ holds-none s = s.p.plain [] (nothing s.p.test)
 -- these print nothing
 pub hidden-prints : (context : Context) (t : At) (name : Name) → is_hidden name ≡ true →
     (inner : List Piece) → prints context t name inner ≡ []
-hidden-prints context t name is inner = picked _ _ _ (by name) is
-  where
-    by : (name : Name) → cond (is_hidden name) (prints context t name inner) [] ≡ []
-    by LineEnding = refl
-    by _ = refl
+hidden-prints context t LineEnding is inner = lie is
+hidden-prints context t _ is inner = cc
 
 -- these print their children
 pub silent-prints : (context : Context) (t : At) (name : Name) → is_silent name ≡ true →
     (inner : List Piece) → prints context t name inner ≡ inner
-silent-prints context t name is inner = picked _ _ _ (by name) is
-  where
-    by : (name : Name) → cond (is_silent name) (prints context t name inner) inner ≡ inner
-    by LineEnding = refl
-    by _ = refl
+silent-prints context t LineEnding is inner = lie is
+silent-prints context t _ is inner = cc
 
 -- a name that isn't silent, or in which blocks stand, and that is no link
 abbrev is_silent_block : Name → Bool
@@ -92,5 +86,5 @@ silent-blocks _ = refl
 pub silent-block : (name : Name) → is_silent name ≡ true →
     (is_blocks (content_of name Blocks) ≡ true) × (named Link name ≡ false)
 silent-block name is =
-    let parts = and_parts _ _ (subst (λ s. not s || (is_blocks (content_of name Blocks) && not
-    (named Link name)) ≡ true) is (silent-blocks name)) in (parts.0, not-true _ parts.1)
+    let parts = and_parts _ _ (rw is at (silent-blocks name)) in
+    (parts.0, not-true _ parts.1)

@@ -1,6 +1,6 @@
 -- Calls and the ways back to them have readings, as they are printed.
 use Rattle.std.proofs.Common.{◌≡◌, ℕ, ◌==◌, zero, suc, Bool, true, not, ◌&&◌, cond, List, [], ◌∷◌}
-use Rattle.std.proofs.Common.{◌++◌, refl, subst, append_assoc, codes}
+use Rattle.std.proofs.Common.{◌++◌, refl, subst, append_assoc, codes, arith}
 use Rattle.std.specs.Prelude.{Option, Some, None, option_map, string_bytes}
 use Rattle.std.specs.Fmt.{decimal}
 use Rattle.std.proofs.lemmas.Bool.{cond_both}
@@ -16,7 +16,6 @@ use Rattle.md_meaning.specs.Meaning.Footnotes.{backreferences}
 use Rattle.md_safe.proofs.Texts.{Escaped, decimal-escaped}
 use Rattle.md_safe.proofs.Laid.{Adds}
 use Rattle.md_safe.proofs.Tags.{IsTest, attribute, Tagged, adds-flat}
-use Rattle.md_safe.proofs.Media.{pass_four}
 
 -- a text of the options, escaped
 option-escaped : (text : Option (List ℕ)) (unset : List ℕ) → Escaped unset →
@@ -41,11 +40,9 @@ pub id-escaped : (options : CompileOptions) (kind identifier : List ℕ) (number
 id-escaped options kind identifier number h =
     let own : List ℕ =
     cond options.gfm_footnote_number_ids (decimal number) (sanitized identifier) in
-    escaped-append (id_prefix options) (kind ++ own)
-    (option-escaped (prefix_given options) (codes "user-content-") refl)
-    (escaped-append kind own h
-    (cond_both options.gfm_footnote_number_ids (decimal number) (sanitized identifier) Escaped
-    (λ _. decimal-escaped number) (λ _. sanitized-escaped identifier)))
+    let e : Escaped own = grind (arith, decimal-escaped number, sanitized-escaped identifier) in
+    escaped-append (id_prefix options) (kind ++ own) (option-escaped (prefix_given options) (codes
+    "user-content-") refl) (escaped-append kind own h e)
 
 pub call_id-escaped : (options : CompileOptions) (identifier : List ℕ) (number occurrence : ℕ) →
     Escaped (call_id options identifier number occurrence)
@@ -80,14 +77,18 @@ call-read : {test : Attribute → Bool} {Q R : List ℕ → Type 0} {options : C
     IsTest test options → Tagged test Q R (codes "a") → Tagged test R R (codes "sup") →
     (v w n : List ℕ) → Escaped v → test (attribute (codes "id") w) ≡ true → Escaped w → Q n →
     R (call_text v w n)
-call-read {test = test} {R = R} known a sup v w n h passes g r = subst R (call-regrouped v w n)
-    (sup.tag [] (codes "<a href=\"#" ++ (v ++ (codes "\" id=\"" ++ (w ++ (codes
-    "\" data-footnote-ref=\"\" aria-describedby=\"footnote-label\">" ++ (n ++ codes "</a>"))))))
-    refl refl (a.tag (attribute (codes "href") (35 ∷ v) ∷ attribute (codes "id") w ∷ attribute
-    (codes "data-footnote-ref") [] ∷ attribute (codes "aria-describedby") (codes "footnote-label")
-    ∷ []) n (a_call v w h g) (pass_four test _ _ _ _ (known.anchor v) passes
-    (known.other (codes "data-footnote-ref") [] refl) (known.other (codes "aria-describedby")
-    (codes "footnote-label") refl)) r))
+call-read {test = test} {R = R} known a sup v w n h passes g r =
+    let link = known.anchor v in
+    let ref = known.other (codes "data-footnote-ref") [] refl in
+    let described = known.other (codes "aria-describedby") (codes "footnote-label") refl in
+    subst R (call-regrouped v w n) (sup.tag [] _ refl refl (a.tag (attribute (codes "href") (35 ∷ v)
+    ∷ attribute (codes "id") w ∷ attribute (codes "data-footnote-ref") [] ∷ attribute (codes
+    "aria-describedby") (codes "footnote-label") ∷ []) n (a_call v w h g) (rw (
+      link,
+      passes,
+      ref,
+      described,
+    ) refl) r))
 
 -- the tags of a call
 abbrev pub call_tags : CompileOptions → List ℕ → ℕ → ℕ → List Piece
@@ -119,12 +120,6 @@ occurrence_mark occurrence =
 abbrev pub arrow : List ℕ
 arrow = 226 ∷ 134 ∷ 169 ∷ []
 
-pub a_back : (v t : List ℕ) → Escaped v → Escaped t →
-    is_tag elements (codes "a") (attribute (codes "href") (35 ∷ v)
-    ∷ attribute (codes "data-footnote-backref") [] ∷ attribute (codes "aria-label") t
-    ∷ attribute (codes "class") (codes "data-footnote-backref") ∷ []) ≡ true
-a_back v t h g = rw (h, g) refl
-
 -- what escaped texts fulfil, and two in a row
 pub record IsText (Q : List ℕ → Type 0) : Type 0 where
   pub text : (x : List ℕ) → Escaped x → Q x
@@ -143,15 +138,18 @@ backreference-read {test = test} {Q = Q} {options = options} known inside a sup 
     let mark : Q (occurrence_mark occurrence) = cond_both _ _ _ Q (λ _. inside.text [] refl) (λ _.
     sup.tag [] (decimal occurrence) refl refl (inside.text (decimal occurrence)
     (decimal-escaped occurrence))) in
+    let id : Escaped v = call_id-escaped options identifier number occurrence in
+    let label : Escaped t = option-escaped
+    (option_map string_bytes options.gfm_footnote_back_label) (codes "Back to content") refl in
+    let link = known.anchor v in
+    let back = known.other (codes "data-footnote-backref") [] refl in
+    let named = known.other (codes "aria-label") t refl in
+    let class = known.other (codes "class") (codes "data-footnote-backref") refl in
     a.tag (attribute (codes "href") (35 ∷ v) ∷ attribute (codes "data-footnote-backref") []
     ∷ attribute (codes "aria-label") t ∷ attribute (codes "class") (codes "data-footnote-backref")
-    ∷ []) (arrow ++ occurrence_mark occurrence) (a_back v t
-    (call_id-escaped options identifier number occurrence) (option-escaped
-    (option_map string_bytes options.gfm_footnote_back_label) (codes "Back to content") refl))
-    (pass_four test _ _ _ _ (known.anchor v) (known.other (codes "data-footnote-backref") [] refl)
-    (known.other (codes "aria-label") t refl) (known.other (codes "class")
-    (codes "data-footnote-backref") refl)) (inside.both arrow (occurrence_mark occurrence)
-    (inside.text arrow refl) mark)
+    ∷ []) (arrow ++ occurrence_mark occurrence) (rw (id, label) refl) (rw (link, back, named, class)
+    refl)
+    (inside.both arrow (occurrence_mark occurrence) (inside.text arrow refl) mark)
 
 -- the ways back to calls
 pub backreferences-read : {test : Attribute → Bool} {Q R : List ℕ → Type 0}

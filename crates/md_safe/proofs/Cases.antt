@@ -3,12 +3,33 @@
 use Rattle.std.specs.List.{list_all}
 use Rattle.std.specs.Cmp.Lexicographic.{bytes_decides}
 use Rattle.std.proofs.Common.{◌≡◌, ℕ, Bool, true, ◌||◌, List, [], ◌∷◌, inl, inr, refl, sym, subst}
-use Rattle.std.proofs.lemmas.Bool.{or_cases, and_parts, and_from}
+use Rattle.std.proofs.Common.{arith, false, Option, Some, None}
+use Rattle.std.proofs.lemmas.Bool.{or_cases, and_parts, cases_Bool}
 use Rattle.md_base.proofs.Lies.{lie}
 use Rattle.md_text.specs.Bytes.{is_one_of}
+use Rattle.std.specs.Prelude.{unwrap_or}
+use Rattle.md_base.specs.Children.{or_else}
 
 pub either : {A : Type 0} (a b : Bool) → (a || b) ≡ true → (a ≡ true → A) → (b ≡ true → A) → A
 either a b h f g = elim (or_cases a b h) [ inl is ↦ f is | inr is ↦ g is ]
+
+pub cases : {A : Type 0} (b : Bool) → (b ≡ true → A) → (b ≡ false → A) → A
+cases b f g = elim (cases_Bool b) [ inl e ↦ f e | inr e ↦ g e ]
+
+-- what holds of what is there, if it is there
+abbrev pub OnSome : {A : Type 0} → (A → Type 0) → Option A → Type 0
+OnSome P None = Unit {0}
+OnSome P (Some x) = P x
+
+pub on-later : {A : Type 0} (P : A → Type 0) (first later : Option A) → OnSome P first →
+    OnSome P later → OnSome P (or_else later first)
+on-later P first None f g = f
+on-later P first (Some x) f g = g
+
+pub on-either : {A : Type 0} (P : A → Type 0) (found : Option A) (before : A) → OnSome P found →
+    P before → P (unwrap_or found before)
+on-either P None before f g = g
+on-either P (Some x) before f g = f
 
 pub one_of-passes : (p : List ℕ → Bool) (listed : List (List ℕ)) (name : List ℕ) →
     list_all p listed ≡ true → is_one_of listed name ≡ true → p name ≡ true
@@ -21,6 +42,4 @@ one_of-passes p (t ∷ ts) name g e =
 pub all-weaker : {A : Type 0} (p q : A → Bool) → ((a : A) → p a ≡ true → q a ≡ true) →
     (xs : List A) → list_all p xs ≡ true → list_all q xs ≡ true
 all-weaker p q weaker [] h = refl
-all-weaker p q weaker (x ∷ xs) h =
-    let parts = and_parts (p x) (list_all p xs) h in
-    and_from (q x) (list_all q xs) (weaker x parts.0) (all-weaker p q weaker xs parts.1)
+all-weaker p q weaker (x ∷ xs) h = grind (arith, weaker x, all-weaker p q weaker xs)

@@ -1,6 +1,6 @@
 -- Claims about texts, one for each content: the lemmas on nodes take them as a parameter. And what
 -- is known where a node stands, and of what its children print.
-use Rattle.std.proofs.Common.{◌≡◌, ℕ, Bool, true, false, cond, List, [], ◌∷◌, ◌++◌, refl, sym}
+use Rattle.std.proofs.Common.{◌≡◌, ℕ, Bool, true, false, cond, List, [], ◌∷◌, ◌++◌, refl}
 use Rattle.std.proofs.Common.{subst, append-nil, codes}
 use Rattle.std.proofs.lemmas.Bool.{cond_both}
 use Rattle.std.specs.List.{flat_map}
@@ -16,7 +16,7 @@ use Rattle.md_text.specs.Bytes.{is_one_of}
 use Rattle.md_text.specs.Laws.{is_line_ends}
 use Rattle.md_meaning.specs.Meaning.At.{At, text_in}
 use Rattle.md_meaning.specs.Meaning.Spans.{is_dropped, line_ending, span}
-use Rattle.md_meaning.specs.Meaning.Layout.{Piece, Needed, said, when, on_own_line}
+use Rattle.md_meaning.specs.Meaning.Layout.{Piece, Needed, said, on_own_line}
 use Rattle.md_meaning.specs.Meaning.Means.{prints}
 use Rattle.md_meaning.specs.Meaning.Tables.{cell_of}
 use Rattle.md_content.specs.Built.{Blocks, content_of}
@@ -27,7 +27,7 @@ use Rattle.md_safe.specs.Links.{prints_link}
 use Rattle.md_safe.proofs.Insides.{is_blocks}
 use Rattle.md_safe.proofs.Texts.{Escaped}
 use Rattle.md_safe.proofs.Laid.{Adds, IsBeside, adds-append, adds-nothing, adds-text, adds-needed}
-use Rattle.md_safe.proofs.Laid.{adds-when, adds-weaker}
+use Rattle.md_safe.proofs.Laid.{adds-weaker}
 use Rattle.md_safe.proofs.Tags.{Turns, TurnsTag, Tagged, Single, Takes, IsFramed, adds-turned}
 use Rattle.md_safe.proofs.Tags.{framed-text, framed-needed}
 use Rattle.md_safe.proofs.Spot.{Setting, IsFitAt, IsGoodTarget, Inside, PassesIds}
@@ -89,9 +89,8 @@ block-pair m hs cs turn a = turned m hs cs turn (framed-needed m.beside m.ending
 pub pair : (m : Claims) (t : At) {content : Content} {o c : List ℕ} {inner : List Piece} →
     is_spaced content ≡ true → t.around.in_image ≡ false → Turns (m.holds content) (m.holds content)
     o c → Prints m content inner → Prints m content (span t (said o) inner (said c))
-pair m t {content} {o} {c} {inner} is out turn a = subst (λ b. Prints m content
-    (cond b inner (said o ++ (inner ++ said c)))) (sym out) (turned m is is turn
-    (framed-text m.beside) a (framed-text m.beside))
+pair m t is out turn a =
+    rw out (turned m is is turn (framed-text m.beside) a (framed-text m.beside))
 
 -- what may be around a text, and nothing, may stand alone
 pub alone : (m : Claims) {content : Content} {pieces : List Piece} → is_spaced content ≡ true →
@@ -116,10 +115,6 @@ ending-around m t h =
     (Adds m.s.context.ending m.around) (λ _. adds-text m.space) (λ _. cond_both (is_dropped t) []
     (said x) (Adds m.s.context.ending m.around) (λ _. adds-nothing m.beside.none)
     (λ _. adds-text (m.line_ends x h)))
-
-pub blank-around : (m : Claims) (holds : Bool) → Adds m.s.context.ending
-    m.around (when holds (Needed ∷ []))
-blank-around m holds = adds-when m.beside holds (adds-needed m.beside m.ending)
 
 -- ---- where a node stands
 
@@ -156,28 +151,8 @@ pub record AreSpans (nested : Bool) (content : Content) : Type 0 where
 
 pub are-spans : (nested : Bool) (content : Content) → is_spans content ≡ true →
     AreSpans nested content
-are-spans nested Phrasing is = record {
-  text = λ x. refl;
-  em = refl;
-  strong = refl;
-  del = refl;
-  code = refl;
-  br = refl;
-  img = refl;
-  input = refl;
-  spaced = refl;
-}
-are-spans nested Linked is = record {
-  text = λ x. refl;
-  em = refl;
-  strong = refl;
-  del = refl;
-  code = refl;
-  br = refl;
-  img = refl;
-  input = refl;
-  spaced = refl;
-}
+are-spans nested Phrasing is = search
+are-spans nested Linked is = search
 are-spans nested _ is = lie is
 
 -- where spans stand: what is known of them, what children print, that of a link too, and of a node

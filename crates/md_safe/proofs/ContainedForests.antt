@@ -1,47 +1,134 @@
--- The content model allows the meaning of a document's nodes: one induction over blocks, in
--- addition to that of `md_safe`, which covers strings, code and images.
-use Rattle.std.proofs.Common.{◌≡◌, Bool, true, false, ◌||◌, cond, [], ◌∷◌, refl, sym, ap, ◌∙◌}
-use Rattle.std.proofs.Common.{subst, append-nil}
-use Rattle.std.proofs.lemmas.Bool.{cond_both}
-use Rattle.md_base.proofs.Lies.{lie}
+-- The content model allows the meaning of a document's nodes: what pieces add to a text stands as
+-- some content; one induction over blocks, in addition to that of `Forests`, which covers strings,
+-- code and images.
+use Rattle.std.proofs.Common.{◌≡◌, ℕ, Bool, true, List, [], ◌++◌, refl, false, sym, ◌||◌, cond, ◌∷◌}
+use Rattle.std.proofs.Common.{ap, ◌∙◌, subst, append-nil}
+use Rattle.md_meaning.specs.Meaning.Layout.{Piece, layout, when}
+use Rattle.md_safe.proofs.Laid.{Adds, adds-append, adds-weaker, adds-nothing, adds-needed}
+use Rattle.md_safe.proofs.Laid.{adds-alone}
+use Rattle.md_safe.specs.Contents.{Content, Phrasing, Flow}
+use Rattle.md_safe.proofs.Stands.{Stands, stands-join, stands-nothing, stands-white, takes-white}
+use Rattle.md_safe.proofs.Stands.{IsWhite, is_spaced, white_beside, line_ends-white, stands-text}
+use Rattle.md_safe.proofs.Stands.{turns-tag, stands-tag, stands-void, stands-wider}
+use Rattle.md_safe.proofs.Costs.{Document, read_in, through-node}
 use Rattle.md_base.specs.declared.event.Name.{Name}
+use Rattle.md_safe.proofs.Claims.{Claims, Known}
+use Rattle.md_safe.proofs.Insides.{is_blocks, is_blocks-same}
+use Rattle.md_content.specs.Built.{content_of, Blocks, is_part, is_source, may_stand}
+use Rattle.md_content.specs.Built.{content_inside, IsBuilt}
+use Rattle.md_safe.proofs.Linking.{place_in, with_links, is_spans, inner_place, inner-place-with}
+use Rattle.md_safe.proofs.Linking.{IsLinked, linked-inside, unnested-inside}
+use Rattle.md_safe.proofs.Linking.{unlinked-here, unlinked-spans, unnested-parts}
+use Rattle.md_safe.proofs.Elements.{adds-empty_cells}
+use Rattle.std.specs.Prelude.{Option}
+use Rattle.md_base.proofs.Lies.{lie}
 use Rattle.md_base.specs.declared.event.Name.TheVariants as name_variants
-use name_variants.{GfmFootnoteDefinition}
+use name_variants.{Other, BlockQuotePrefix, SpaceOrTab, HeadingSetextText, GfmFootnoteDefinition}
 use Rattle.md_base.specs.Is.{is as named}
-use Rattle.md_base.specs.Tree.{Forest, Empty, Node}
 use Rattle.md_base.specs.NameTests.{is_transparent}
+use Rattle.md_meaning.specs.Meaning.At.{Footnote, At, Before, identifier_of}
+use Rattle.md_meaning.specs.Meaning.Nodes.{Outcome, found_at, node, before_next, outcome}
+use Rattle.md_safe.proofs.Findings.{AreTexts, AreFound, texts-append}
+use Rattle.md_safe.specs.Placed.{Block, sort_of, may_stand as may_place, IsPlaced}
+use Rattle.md_safe.proofs.Cases.{OnSome, on-later, on-either, cases}
+use Rattle.std.proofs.lemmas.Bool.{cond_both}
+use Rattle.md_base.specs.Tree.{Forest, Empty, Node}
 use Rattle.md_pattern.specs.Looseness.{is_loose}
 use Rattle.md_meaning.specs.declared.surroundings.Surroundings.{Surroundings}
 use Rattle.md_meaning.specs.Meaning.Inherited.{inside}
-use Rattle.md_meaning.specs.Meaning.At.{Footnote, Before, At, identifier_of}
 use Rattle.md_meaning.specs.Meaning.Before.{before_children}
-use Rattle.md_meaning.specs.Meaning.Layout.{layout, when}
-use Rattle.md_meaning.specs.Meaning.Nodes.{Outcome, node, before_next, outcome}
-use Rattle.md_content.specs.Built.{Blocks, is_part, is_source, may_stand, content_of}
-use Rattle.md_content.specs.Built.{content_inside, IsBuilt}
 use Rattle.md_safe.proofs.Following.{second}
-use Rattle.md_safe.proofs.Insides.{is_blocks, is_blocks-same}
 use Rattle.md_safe.proofs.Nodes.{not_part}
-use Rattle.md_safe.proofs.Findings.{AreFound, texts-append}
 use Rattle.md_safe.proofs.Forests.{Ready, ready-inside, ready-after, inside-means, found-at}
 use Rattle.md_safe.proofs.Forests.{Means as SafeMeans, means as safe-means}
-use Rattle.md_safe.proofs.Costs.{through-node, Document, read_in}
 use Rattle.md_safe.proofs.PlainCosts.{no_footnotes}
-use Rattle.md_safe.specs.Contents.{Content, Phrasing, Flow}
 use Rattle.md_safe.specs.Links.{has_nested_link}
-use Rattle.md_safe.specs.Placed.{sort_of, IsPlaced, may_stand as may_place}
-use Rattle.md_safe.proofs.Linking.{is_spans, with_links, place_in, inner_place, inner-place-with}
-use Rattle.md_safe.proofs.Linking.{IsLinked, linked-inside, unnested-inside, unnested-after}
-use Rattle.md_safe.proofs.Linking.{unlinked-here, unlinked-spans}
-use Rattle.md_safe.proofs.Stands.{Stands, IsWhite}
-use Rattle.md_safe.proofs.ContainedLaid.{lays-nothing, lays-both, Prints, standing, Own}
-use Rattle.md_safe.proofs.FlowFindings.{IsHeading, AreFlow, heading-found, note-found, heading-both}
-use Rattle.md_safe.proofs.FlowFindings.{heading-next, heading-inside}
 use Rattle.md_safe.proofs.Contents.{after-blocks}
-use Rattle.md_safe.proofs.Claims.{Known}
 use Rattle.md_safe.proofs.SpanCases.{Spanning}
 use Rattle.md_safe.proofs.FlowCases.{solid-node}
 use Rattle.md_safe.proofs.Spot.{at_in}
+
+-- what pieces add stands as this content
+abbrev pub Lays : (nested : Bool) → List ℕ → Content → List Piece → Type 0
+Lays nested ending content pieces = Adds ending (Stands nested content) pieces
+
+pub lays-white : {nested : Bool} {ending : List ℕ} {content : Content} {pieces : List Piece} →
+    is_spaced content ≡ true → Adds ending IsWhite pieces → Lays nested ending content pieces
+lays-white is a = adds-weaker (λ x h. stands-white is h) a
+
+pub lays-both : {nested : Bool} {ending : List ℕ} {content : Content} {xs ys : List Piece} →
+    Lays nested ending content xs → Lays nested ending content ys →
+    Lays nested ending content (xs ++ ys)
+lays-both a b = adds-append stands-join a b
+
+-- what pieces add in a document
+abbrev pub Prints : (nested : Bool) → Document → Content → List Piece → Type 0
+Prints nested d content pieces = Lays nested d.context.ending content pieces
+
+-- what children print as content, where to the grammar they are blocks
+abbrev pub Own : (nested : Bool) → Document → Content → Name → List Piece → Type 0
+Own nested d content name inner = is_blocks (content_of name Blocks) ≡ true → Prints nested d
+    (place_in nested content name) inner
+
+-- the claims that a text stands as each content
+abbrev pub standing : (nested : Bool) (d : Document) → IsWhite d.context.ending → Claims
+standing nested d white = record {
+  s = read_in d;
+  nested = nested;
+  holds = Stands nested;
+  around = IsWhite;
+  beside = white_beside;
+  ending = white;
+  line_ends = line_ends-white;
+  space = (refl, refl);
+  takes = λ content is. takes-white is;
+  alone = λ content is x h. stands-white is h;
+  text = λ content x h may. stands-text h may;
+  tag = λ held content name opens. turns-tag held opens;
+  element = λ held content name opens. stands-tag held opens;
+  void = λ content name v. stands-void v;
+  wider = stands-wider;
+  code = λ x w h g. stands-join x w (stands-text h refl) (stands-text g.0 refl);
+  filled = λ in_head kinds inner a. lays-both a (adds-empty_cells (read_in d).test
+      (stands-tag Phrasing refl, stands-tag Phrasing refl) (λ xs a. lays-both
+      (lays-white refl (adds-needed white_beside white)) a)
+      (record { none = stands-nothing; both = stands-join }) (stands-nothing {content = Phrasing})
+      in_head kinds);
+}
+
+-- a heading's text that was found is phrasing content
+abbrev pub IsHeading : (nested : Bool) → Option (List ℕ) → Type 0
+IsHeading nested found = OnSome (Stands nested Phrasing) found
+
+-- the texts of some footnotes are flow content
+abbrev pub AreFlow : (nested : Bool) → List Footnote → Type 0
+AreFlow nested footnotes = AreTexts (Stands nested Flow) footnotes
+
+-- blocks stand in flow content
+block-flow : (content : Content) → may_place (with_links content) Block ≡ true → content ≡ Flow
+block-flow Flow h = refl
+block-flow _ h = lie h
+
+-- what a node that isn't transparent adds to the spine
+pub heading-found : (nested : Bool) (d : Document) (content : Content) (name : Name) (t : At)
+    (inner : Outcome) → is_transparent name ≡ false → may_place (with_links content) (sort_of name)
+    ≡ true → Own nested d content name inner.pieces → IsHeading nested (found_at t
+    name (layout d.context.ending inner.pieces)).heading
+heading-found nested d content HeadingSetextText t inner solid stands a =
+    adds-alone (rw (block-flow content stands) at (a refl))
+heading-found nested d content (Other number) t inner solid stands a = lie (sym solid)
+heading-found nested d content BlockQuotePrefix t inner solid stands a = lie (sym solid)
+heading-found nested d content SpaceOrTab t inner solid stands a = lie (sym solid)
+heading-found nested d content _ t inner solid stands a = tt
+
+-- the text of a footnote
+pub note-found : (nested : Bool) (d : Document) (content : Content) (name : Name)
+    (inner : Outcome) → named GfmFootnoteDefinition name ≡ true →
+    may_place (with_links content) (sort_of name) ≡ true → Own nested d content name inner.pieces →
+    Stands nested Flow (layout d.context.ending inner.pieces)
+note-found nested d content GfmFootnoteDefinition inner is stands a =
+    adds-alone (rw (block-flow content stands) at (a refl))
+note-found nested d content _ inner is stands a = lie is
 
 -- what nodes mean, where their content stands
 pub record Means (nested : Bool) (d : Document) (content : Content) (means : Outcome) : Type 0 where
@@ -53,11 +140,11 @@ pub record Means (nested : Bool) (d : Document) (content : Content) (means : Out
 through : {nested : Bool} {d : Document} {content : Content} {inner : Outcome} (name : Name)
     (t : At) → is_transparent name ≡ true → t.found ≡ inner.found → Means nested d content inner →
     Means nested d content (node d.context t name inner)
-through {nested = nested} {d = d} {content = content} {inner = inner} name t is same m = subst
-    (Means nested d content) (sym (through-node d.context t name inner is same)) (record {
+through {d =
+    d} {inner = inner} name t is same m = rw (through-node d.context t name inner is same) (record {
       prints = m.prints;
       heading = m.heading;
-      texts = subst (AreFlow nested) (sym (append-nil inner.footnotes)) m.texts;
+      texts = rw append-nil m.texts;
     })
 
 -- what is known where some nodes stand
@@ -115,23 +202,17 @@ any-node : (nested : Bool) (d : Document) (white : IsWhite d.context.ending) (co
     (is_blocks (content_inside Blocks name) ≡ false → inner.footnotes ≡ []) →
     (is_spans content ≡ true → Spanning t content name) → Means nested d
     content (node d.context t name inner)
-any-node nested d white content name t inner same k stands placed own none g = by
-    (is_transparent name) refl
-  where
-    by : (looked : Bool) → is_transparent name ≡ looked → Means nested d
-        content (node d.context t name inner)
-    by true e = through name t e same (subst (λ c. Means nested d c inner)
-        (ap (λ b. cond b content (place_in nested content name)) e) (own (ap
-        (λ b. is_blocks (cond b Blocks (content_of name Blocks))) e)))
-    by false e = solid-means white inner e (not_part _ (second _ _ e stands)) (second _ _ e placed)
-        (k e) (λ is. subst (λ c. Means nested d c inner)
-        (ap (λ b. cond b content (place_in nested content name)) e) (own is)) none g
+any-node nested d white content name t inner same k stands placed own none g =
+    cases (is_transparent name)
+    (λ e. through name t e same (rw e at (own (rw e refl))))
+    (λ e. solid-means white inner e (not_part _ (second _ _ e stands)) (second _ _ e placed) (k e)
+    (λ is. rw e at (own is)) none g)
 
 pub means : (nested : Bool) (d : Document) (forest : Forest) (around : Surroundings)
     (before : Before) (content : Content) → Fits nested d around before content forest →
     Means nested d content (outcome d.context around before forest)
 means nested d Empty around before content f = record {
-  prints = lays-nothing;
+  prints = adds-nothing stands-nothing;
   heading = tt;
   texts = tt;
 }
@@ -153,13 +234,11 @@ means nested d (Node name start end children rest) around before content f =
     (inner_place nested content name) inner = λ is. means nested d children around' before'
     (inner_place nested content name) (record {
       white = f.white;
-      built = subst (λ c. IsBuilt d.context.bytes c children)
-          (is_blocks-same (content_inside Blocks name) is) f.built.2;
-      placed = subst (λ c. IsPlaced c children) (sym (inner-place-with nested content name))
-          f.placed.1;
-      ready = subst (Ready (read_in d) around' before')
-          (is_blocks-same (content_inside Blocks name) is) within;
-      heading = heading-inside nested (is_transparent name) before.heading f.heading;
+      built = rw (is_blocks-same (content_inside Blocks name) is) at f.built.2;
+      placed = rw (inner-place-with nested content name) f.placed.1;
+      ready = rw (is_blocks-same (content_inside Blocks name) is) at within;
+      heading = cond_both (is_transparent name) before.heading [] (Stands nested Phrasing)
+          (λ _. f.heading) (λ _. stands-nothing);
       linked = linked-inside nested d.context.options (is_loose children) content name around
           f.linked;
       unnested = λ no. unnested-inside d.context.options (is_loose children) name around start end
@@ -167,8 +246,8 @@ means nested d (Node name start end children rest) around before content f =
     }) in
     let one : Means nested d content here = any-node nested d f.white content name t inner refl
     (λ solid. record {
-      escaping = f.ready.suits.0;
-      outside = f.ready.suits.1;
+      escaping = f.ready.suits.escaped refl;
+      outside = f.ready.suits.outside refl;
       fit = f.built.1;
       resource = known.found.resource;
       ids = λ call value. refl;
@@ -184,17 +263,20 @@ means nested d (Node name start end children rest) around before content f =
     }) in
     let later : Means nested d content others = means nested d rest around next content (record {
       white = f.white;
-      built = subst (λ c. IsBuilt d.context.bytes c rest) (after-blocks name children) f.built.3;
+      built = rw (after-blocks name children) at f.built.3;
       placed = f.placed.2;
-      ready = subst (Ready (read_in d) around next) (after-blocks name children)
+      ready = rw (after-blocks name children) at
           (ready-after t name here f.built.0 f.built.2 found f.ready);
-      heading = heading-next nested here.found.heading before.heading one.heading f.heading;
+      heading = on-either (Stands nested Phrasing) here.found.heading before.heading one.heading
+          f.heading;
       linked = f.linked;
-      unnested = λ no. unnested-after name around.in_link start end children rest (f.unnested no);
+      unnested = λ no. (unnested-parts name around.in_link start end children rest
+          (f.unnested no)).1;
     }) in
     record {
       prints = lays-both one.prints later.prints;
-      heading = heading-both nested here.found.heading others.found.heading one.heading
+      heading = on-later (Stands nested Phrasing) here.found.heading others.found.heading
+          one.heading
           later.heading;
       texts = texts-append (Stands nested Flow) here.footnotes others.footnotes one.texts
           later.texts;

@@ -1,5 +1,19 @@
--- The section of footnotes is flow content: its heading, its items and their ways back.
-use Rattle.std.proofs.Common.{◌≡◌, ℕ, Bool, List, [], ◌∷◌, ◌++◌, refl, codes, true, false}
+-- The section of footnotes is flow content: its heading, its items and their ways back, which the
+-- last paragraph of flow content takes before its end.
+use Rattle.std.proofs.Common.{◌≡◌, ℕ, Bool, ◌==◌, true, false, List, [], ◌∷◌, ◌++◌, refl, sym, ap}
+use Rattle.std.proofs.Common.{◌∙◌, subst, append_assoc, append-nil, codes}
+use Rattle.std.proofs.lemmas.Bool.{and_parts, and_from}
+use Rattle.md_base.proofs.Lies.{lie}
+use Rattle.md_text.specs.Laws.{is_line_ends}
+use Rattle.md_text.specs.Html.{Attribute, Forest, Empty, Text, Void, Element, is_forest, is_tag}
+use Rattle.md_text.specs.Html.{elements, written, opening_tag, closing_tag, any_attribute}
+use Rattle.md_text.proofs.HtmlReading.{all-any}
+use Rattle.std.specs.List.{list_all}
+use Rattle.md_text.proofs.HtmlPut.{IsMade, made-before}
+use Rattle.md_safe.specs.Contents.{Content, Flow, Phrasing, held_in, is_contained, Items}
+use Rattle.md_safe.proofs.Stands.{Stands, stands-join, stands-nothing, stands-text, turns-tag}
+use Rattle.md_safe.proofs.Stands.{is_held, stands-tag, takes-white, IsWhite}
+use Rattle.md_safe.proofs.Stands.{white_beside, Opens, stands-wider}
 use Rattle.std.specs.Prelude.{None}
 use Rattle.md_meaning.specs.Meaning.At.{Footnote}
 use Rattle.md_meaning.specs.Meaning.Footnotes.{body, item, section, distinct, place_among, count_of}
@@ -8,19 +22,165 @@ use Rattle.md_safe.proofs.Texts.{Escaped}
 use Rattle.md_safe.proofs.Laid.{adds-all, adds-text, adds-needed}
 use Rattle.md_safe.proofs.Tags.{attribute, Turns}
 use Rattle.md_safe.proofs.Calls.{id-escaped, label-escaped, backreferences-read}
-use Rattle.md_safe.proofs.FootnoteBodies.{adds-body}
-use Rattle.md_safe.proofs.Section.{heading_label_of, heading_text, turn-after, item-turns, note_id}
-use Rattle.md_safe.proofs.Section.{texts-among, text_among, backs_of, adds-item, adds-section}
+use Rattle.md_safe.proofs.Section.{adds-body, heading_label_of, heading_text, turn-after}
+use Rattle.md_safe.proofs.Section.{item-turns, note_id, texts-among, text_among, backs_of}
+use Rattle.md_safe.proofs.Section.{adds-item, adds-section}
 use Rattle.md_safe.proofs.Costs.{Document, read_in}
-use Rattle.md_safe.specs.Contents.{Flow, Phrasing, Items}
-use Rattle.md_safe.proofs.Stands.{Stands, stands-join, stands-nothing, stands-tag, turns-tag}
-use Rattle.md_safe.proofs.Stands.{turns-plain, takes-white, IsWhite, white_beside, stands-text}
-use Rattle.md_safe.proofs.Stands.{Opens}
-use Rattle.md_safe.proofs.Wider.{stands-wider}
-use Rattle.md_safe.proofs.ContainedLaid.{lays-white, lays-both, Prints}
-use Rattle.md_safe.proofs.Paragraphs.{paragraph-takes}
-use Rattle.md_safe.proofs.FlowFindings.{AreFlow}
+use Rattle.md_safe.proofs.ContainedForests.{lays-white, lays-both, Prints, AreFlow}
 use Rattle.md_safe.proofs.Linking.{in_link}
+
+-- a forest with an element among its roots; a text is inserted after the element's children
+record Cut (nested : Bool) (x : List ℕ) (f : Forest) (y : List ℕ) : Type 0 where
+  front : List ℕ
+  name : List ℕ
+  attributes : List Attribute
+  children : Forest
+  rest : Forest
+  front_stands : Stands nested Flow front
+  tag : is_tag elements name attributes ≡ true
+  held : is_held nested Flow name children ≡ true
+  forest : is_forest children ≡ true
+  rest_forest : is_forest rest ≡ true
+  rest_contained : is_contained nested Flow rest ≡ true
+  whole : written f ≡ front
+      ++ ((opening_tag name attributes ++ written children ++ closing_tag name) ++ written rest)
+  made : y ≡ front ++ ((opening_tag name attributes ++ (written children ++ x) ++ closing_tag name)
+      ++ written rest)
+
+-- something before a forest that is cut
+cut-after : (nested : Bool) (x front : List ℕ) (f rest : Forest) (y : List ℕ) →
+    Stands nested Flow front → written f ≡ front ++ written rest → Cut nested x rest y →
+    Cut nested x f (front ++ y)
+cut-after nested x front f rest y stands whole c = record {
+  front = front ++ c.front;
+  name = c.name;
+  attributes = c.attributes;
+  children = c.children;
+  rest = c.rest;
+  front_stands = stands-join front c.front stands c.front_stands;
+  tag = c.tag;
+  held = c.held;
+  forest = c.forest;
+  rest_forest = c.rest_forest;
+  rest_contained = c.rest_contained;
+  whole = whole ∙ ap (λ w. front ++ w) c.whole ∙ sym (append_assoc front c.front _);
+  made = ap (λ w. front ++ w) c.made ∙ sym (append_assoc front c.front _);
+}
+
+void-whole : (name : List ℕ) (attributes : List Attribute) (rest : Forest) →
+    written (Void name attributes rest) ≡ written (Void name attributes Empty) ++ written rest
+void-whole name attributes rest = simp append_assoc
+
+element-whole : (name : List ℕ) (attributes : List Attribute) (children rest : Forest) →
+    written (Element name attributes children rest)
+    ≡ (opening_tag name attributes ++ written children ++ closing_tag name) ++ written rest
+element-whole name attributes children rest = simp append_assoc
+
+-- the text of a forest that is contained stands
+stands-forest : (nested : Bool) (content : Content) (f : Forest) → is_forest f ≡ true →
+    is_contained nested content f ≡ true →
+    Stands nested content (written f)
+stands-forest nested content f h c = record {
+  forest = f;
+  reading = record { in_grammar = h; written_so = refl };
+  contained = c;
+}
+
+cuts : (nested : Bool) (x : List ℕ) → IsMade x (λ f y. is_contained nested Flow f ≡ true → Cut
+    nested x f y)
+cuts nested x = record {
+  texts = λ bytes rest y escaped later contained. cut-after nested x bytes (Text bytes rest) rest y
+      (stands-text escaped refl) refl (later contained);
+  voids = λ name attributes rest y tag later contained. (let parts = and_parts _ _ contained in
+      cut-after nested x (written (Void name attributes Empty)) (Void name attributes rest) rest y
+      (stands-forest nested Flow (Void name attributes Empty) (and_from _ _ tag refl)
+      (and_from _ _ parts.0 refl)) (void-whole name attributes rest) (later parts.1));
+  rests = λ name attributes children rest y tag forest later contained. (let parts = and_parts _ _
+      contained in
+      cut-after nested x (opening_tag name attributes ++ written children ++ closing_tag name)
+      (Element name attributes children rest) rest y (subst (Stands nested Flow) (element-whole name
+      attributes children Empty ∙ append-nil _) (stands-forest nested Flow
+      (Element name attributes children Empty) (and_from _ _ (and_from _ _ tag forest) refl)
+      (and_from _ _ parts.0 refl))) (element-whole name attributes children rest) (later parts.1));
+  insides = λ name attributes children rest tag forest rests contained. (let parts = and_parts _ _
+      contained in
+      record {
+        front = [];
+        name = name;
+        attributes = attributes;
+        children = children;
+        rest = rest;
+        front_stands = stands-nothing;
+        tag = tag;
+        held = parts.0;
+        forest = forest;
+        rest_forest = rests;
+        rest_contained = parts.1;
+        whole = element-whole name attributes children rest;
+        made = refl;
+      });
+}
+
+first_of : {b c : ℕ} {x y : List ℕ} → b ∷ x ≡ c ∷ y → b ≡ c
+first_of e = cc
+
+rest_of : {b c : ℕ} {x y : List ℕ} → b ∷ x ≡ c ∷ y → x ≡ y
+rest_of e = cc
+
+-- no byte is `<` and a space
+not_both : {A : Type 0} (n : ℕ) → 60 ≡ n → 32 ≡ n → A
+not_both n e f = lie (ap (λ n. n == 60) (f ∙ sym e))
+
+-- where an insertion that begins with a space leaves both ends as they were, both are
+-- cut at one place
+same-end : (a b c d x : List ℕ) → a ++ (60 ∷ c) ≡ b ++ (60 ∷ d) →
+    a ++ (32 ∷ (x ++ (60 ∷ c))) ≡ b ++ (32 ∷ (x ++ (60 ∷ d))) → c ≡ d
+same-end [] [] c d x e f = rest_of e
+same-end [] (n ∷ b) c d x e f = not_both n (first_of e) (first_of f)
+same-end (m ∷ a) [] c d x e f = not_both m (sym (first_of e)) (sym (first_of f))
+same-end (m ∷ a) (n ∷ b) c d x e f = same-end a b c d x (rest_of e) (rest_of f)
+
+-- the element whose end that is, is a paragraph
+paragraph-name : (nested : Bool) (name : List ℕ) (children : Forest) (endings rest : List ℕ) →
+    112 ∷ 62 ∷ endings ≡ name ++ (62 ∷ rest) → is_held nested Flow name children ≡ true →
+    name ≡ codes "p"
+paragraph-name nested [] children endings rest e h = lie (ap (λ n. n == 62) (first_of e))
+paragraph-name nested (b ∷ []) children endings rest e h = ap (λ b. b ∷ []) (sym (first_of e))
+paragraph-name nested (b ∷ c ∷ name) children endings rest e h =
+    lie (subst (λ c. is_held nested Flow (112 ∷ c ∷ name) children ≡ true)
+    (sym (first_of (rest_of e)))
+    (subst (λ b. is_held nested Flow (b ∷ c ∷ name) children ≡ true) (sym (first_of e)) h))
+
+pub paragraph-takes : (nested : Bool) (before endings x : List ℕ) → is_line_ends endings ≡ true →
+    Stands nested Flow (before ++ codes "</p>" ++ endings) → Stands nested Phrasing (32 ∷ x) →
+    Stands nested Flow (before ++ (32 ∷ x) ++ codes "</p>" ++ endings)
+paragraph-takes nested before endings x h s r =
+    let cut = made-before (λ f y. is_contained nested Flow f ≡ true → Cut nested (32 ∷ x) f y)
+    before endings (32 ∷ x) h (cuts nested (32 ∷ x)) s.forest s.reading s.contained in
+    let open_tag : List ℕ = opening_tag cut.name cut.attributes in
+    let close : List ℕ = 47 ∷ (cut.name ++ (62 ∷ [])) in
+    let front : List ℕ = cut.front ++ (open_tag ++ written cut.children) in
+    let whole = sym s.reading.written_so ∙ cut.whole in
+    let left : before ++ (codes "</p>" ++ endings) ≡ front ++ (60 ∷ (close ++ written cut.rest)) =
+    simp append_assoc (simp append_assoc at whole) in
+    let right : before ++ (32 ∷ (x ++ (codes "</p>" ++ endings)))
+    ≡ front ++ (32 ∷ (x ++ (60 ∷ (close ++ written cut.rest)))) =
+    simp append_assoc (simp append_assoc at cut.made) in
+    let ends : 47 ∷ 112 ∷ 62 ∷ endings ≡ close ++ written cut.rest = same-end before front
+    (47 ∷ 112 ∷ 62 ∷ endings) (close ++ written cut.rest) x left right in
+    let later : 112 ∷ 62 ∷ endings ≡ (cut.name ++ (62 ∷ [])) ++ written cut.rest = rest_of ends in
+    let is : cut.name ≡ codes "p" = paragraph-name nested cut.name cut.children endings
+    (written cut.rest) (later ∙ append_assoc cut.name (62 ∷ []) (written cut.rest)) cut.held in
+    let inside : Stands nested Phrasing (written cut.children) = stands-forest nested Phrasing
+    cut.children cut.forest (rw is at cut.held) in
+    subst (Stands nested Flow) (sym cut.made) (stands-join cut.front _ cut.front_stands (stands-join
+    (open_tag ++ (written cut.children ++ (32 ∷ x)) ++ closing_tag cut.name) (written cut.rest)
+    (subst (Stands nested Flow) (sym (append_assoc open_tag (written cut.children ++ (32 ∷ x))
+    (closing_tag cut.name))) (((turns-tag Phrasing {name = cut.name}
+    (ap (λ name. held_in nested Flow name) is)).tag cut.attributes cut.tag (and_parts
+    (list_all any_attribute cut.attributes) true (all-any (Void [] cut.attributes Empty))).0).turn
+    (written cut.children ++ (32 ∷ x)) (stands-join (written cut.children) (32 ∷ x) inside r)))
+    (stands-forest nested Flow cut.rest cut.rest_forest cut.rest_contained)))
 
 sup-opens : (nested : Bool) → Opens nested (in_link nested) (in_link nested) (codes "sup")
 sup-opens true = refl
@@ -78,7 +238,8 @@ pub section-prints : (nested : Bool) (d : Document) → IsWhite d.context.ending
     AreFlow nested footnotes → Prints nested d Flow (section d.context footnotes)
 section-prints nested d w no_tag no_attributes footnotes h = adds-section white_beside
     (takes-white refl) (takes-white refl) (takes-white refl) d.context w
-    (turns-plain (codes "ol") refl refl) (heading-turns nested (heading_label_of d.context.options)
+    ((turns-tag Items {name = codes "ol"} refl).tag [] refl refl) (heading-turns nested
+    (heading_label_of d.context.options)
     (label-escaped d.context.options)) no_tag no_attributes stands-nothing footnotes (adds-all
     (record { none = stands-nothing; both = stands-join }) (item-prints nested d w footnotes h)
     (distinct d.context.calls))

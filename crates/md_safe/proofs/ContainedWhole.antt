@@ -22,8 +22,7 @@ use Rattle.md_safe.specs.Links.{has_nested_link}
 use Rattle.md_safe.specs.Placed.{IsPlaced}
 use Rattle.md_safe.proofs.Placing.{shaped-placed}
 use Rattle.md_safe.proofs.Stands.{Stands, stands-nothing, contained-once, IsWhite}
-use Rattle.md_safe.proofs.ContainedLaid.{lays-both}
-use Rattle.md_safe.proofs.ContainedForests.{Means, means}
+use Rattle.md_safe.proofs.ContainedForests.{lays-both, Means, means}
 use Rattle.md_safe.proofs.ContainedSection.{section-prints}
 
 -- a document that is built and placed as the grammar says

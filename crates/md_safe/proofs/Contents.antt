@@ -13,7 +13,7 @@ use Rattle.md_content.specs.Built.{Content, Blocks, Spans, Strings, FirstFence, 
 use Rattle.md_content.specs.Built.{Chunks, InfoAndMeta, MetaAlone, Done, Nothing, Sources}
 use Rattle.md_content.specs.Built.{content_past, content_after, content_after_node}
 use Rattle.md_safe.proofs.Texts.{Escaped}
-use Rattle.md_safe.proofs.Claim.{Claim}
+use Rattle.md_safe.proofs.Tags.{Claim}
 use Rattle.md_safe.proofs.Elements.{IsDone}
 use Rattle.md_safe.proofs.RawElements.{IsRaw, IsInfo, code_tag, math_tag}
 
@@ -36,15 +36,6 @@ Holds p escaping in_image Done x = IsDone in_image x
 Holds p escaping in_image Nothing x = x ≡ []
 Holds p escaping in_image Sources x = Unit {0}
 
--- the surroundings in which a content may stand
-abbrev pub Suits : Bool → Bool → Content → Type 0
-Suits escaping in_image Blocks = (escaping ≡ true) × (in_image ≡ false)
-Suits escaping in_image Spans = (escaping ≡ true) × (in_image ≡ true)
-Suits escaping in_image FirstFence = escaping ≡ true
-Suits escaping in_image InfoAndMeta = escaping ≡ true
-Suits escaping in_image Sources = escaping ≡ true
-Suits escaping in_image _ = Unit {0}
-
 -- the names before a content: no fence before a first one, one before what follows it
 abbrev pub Follows : Content → List Name → Type 0
 Follows FirstFence names = list_any fence_name names ≡ false
@@ -61,16 +52,11 @@ is_first _ = false
 pub holds-nothing : (p : Claim) (escaping in_image : Bool) (content : Content) →
     is_first content ≡ false → Holds p escaping in_image content []
 holds-nothing p escaping in_image Blocks h = p.plain [] (nothing p.test)
-holds-nothing p escaping in_image Spans h = refl
-holds-nothing p escaping in_image Strings h = λ _. refl
 holds-nothing p escaping in_image FirstFence h = lie (sym h)
 holds-nothing p escaping in_image FirstMathFence h = lie (sym h)
-holds-nothing p escaping in_image Chunks h = refl
 holds-nothing p escaping in_image InfoAndMeta h = inl refl
-holds-nothing p escaping in_image MetaAlone h = refl
 holds-nothing p escaping in_image Done h = inl refl
-holds-nothing p escaping in_image Nothing h = refl
-holds-nothing p escaping in_image Sources h = tt
+holds-nothing p escaping in_image _ h = search
 
 -- what stays after each name stays after nodes
 pub stays-after : (Q : Content → Type 0) → ((content : Content) (name : Name) → Q content → Q
@@ -81,9 +67,13 @@ stays-after Q past content (Node name start end children rest) h = stays-after Q
     (is_transparent name) (content_after content children) (content_past content name)) rest
     (cond_both _ _ _ Q (λ _. stays-after Q past content children h) (λ _. past content name h))
 
+-- blocks stand after blocks
+pub blocks-stay : (forest : Forest) → content_after Blocks forest ≡ Blocks
+blocks-stay forest = stays-after (λ content. content ≡ Blocks)
+    (λ content name e. ap (λ content. content_past content name) e) Blocks forest refl
+
 -- after each node in blocks the content is still blocks
 pub after-blocks : (name : Name) (children : Forest) → content_after_node Blocks name
     children ≡ Blocks
-after-blocks name children = cond_both _ _ _ (λ c. c ≡ Blocks) (λ _. stays-after
-    (λ content. content ≡ Blocks) (λ content name e. ap (λ content. content_past content name) e)
-    Blocks children refl) (λ _. refl)
+after-blocks name children =
+    cond_both _ _ _ (λ c. c ≡ Blocks) (λ _. blocks-stay children) (λ _. refl)

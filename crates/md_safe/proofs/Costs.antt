@@ -1,7 +1,22 @@
--- What a node costs: how often an id stands in what it prints, as often as calls have it at most.
-use Rattle.std.proofs.Common.{◌≡◌, ℕ, ◌+◌, ◌≤◌, Bool, true, false, List, [], ◌∷◌, ◌++◌, refl, cond}
-use Rattle.std.proofs.Common.{sym, ap, ◌∙◌, subst, arith, append-nil}
-use Rattle.std.specs.Prelude.{unwrap_or}
+-- How often an id stands in what is printed: what is claimed of texts and of footnotes. What a node
+-- costs: how often an id stands in what it prints, as often as calls have it at most.
+use Rattle.std.proofs.Common.{◌≡◌, ℕ, ◌+◌, ◌≤◌, Bool, true, false, not, ◌&&◌, List, [], ◌∷◌, ◌++◌}
+use Rattle.std.proofs.Common.{refl, subst, arith, codes, ap, cond, ◌∙◌, append-nil}
+use Rattle.std.specs.Prelude.{bytes_eq, unwrap_or}
+use Rattle.std.proofs.lemmas.Bool.{and_parts, not-true}
+use Rattle.md_text.specs.References.{read_back}
+use Rattle.md_text.specs.Html.{Attribute, is_tag, elements, any_attribute}
+use Rattle.md_text.proofs.HtmlJoin.{text, nothing}
+use Rattle.md_text.proofs.HtmlWriting.{attributes_before, written_attributes-before}
+use Rattle.md_text.specs.Ids.{ids_in}
+use Rattle.md_text.proofs.HtmlIds.{occurs, is_without, none-attributes, Counts, counts-plain}
+use Rattle.md_text.proofs.HtmlIds.{counts-more, counts-join, counts-element, counts-takes}
+use Rattle.md_text.proofs.HtmlIds.{occurs-append}
+use Rattle.md_text.specs.declared.options.CompileOptions.{CompileOptions}
+use Rattle.md_meaning.specs.Meaning.At.{Footnote, Context, Before, At, identifier_of}
+use Rattle.md_safe.proofs.Tags.{Claim, reading, IsTest, attribute}
+use Rattle.md_safe.proofs.Texts.{Escaped}
+use Rattle.md_safe.proofs.Calls.{a_call, call_text, call-regrouped}
 use Rattle.md_base.proofs.Lies.{lie}
 use Rattle.md_base.specs.declared.event.Name.{Name}
 use Rattle.md_base.specs.declared.event.Name.TheVariants as name_variants
@@ -11,22 +26,106 @@ use Rattle.md_base.specs.Is.{is as named}
 use Rattle.md_base.specs.Tree.{Forest}
 use Rattle.md_base.specs.NameTests.{is_transparent}
 use Rattle.md_pattern.specs.Looseness.{is_loose}
-use Rattle.md_text.specs.Html.{any_attribute}
-use Rattle.md_text.proofs.HtmlJoin.{nothing}
-use Rattle.md_text.proofs.HtmlIds.{occurs, occurs-append, is_without, Counts, counts-plain}
 use Rattle.md_meaning.specs.declared.surroundings.Surroundings.{Surroundings}
 use Rattle.md_meaning.specs.Meaning.Inherited.{inside}
-use Rattle.md_meaning.specs.Meaning.At.{Context, Before, At, identifier_of}
 use Rattle.md_meaning.specs.Meaning.Before.{before_children}
-use Rattle.md_meaning.specs.Meaning.Layout.{layout, when}
+use Rattle.md_meaning.specs.Meaning.Layout.{when}
 use Rattle.md_meaning.specs.Meaning.Nodes.{Outcome, node, outcome}
 use Rattle.md_content.specs.Underlined.{waits_after}
-use Rattle.md_safe.proofs.Texts.{Escaped}
-use Rattle.md_safe.proofs.Claim.{reading}
 use Rattle.md_safe.proofs.Laid.{Adds}
 use Rattle.md_safe.proofs.Spot.{Setting, AreTitles, at_in}
-use Rattle.md_safe.proofs.Counted.{counting, without-test, Waiting, TextsCount}
-use Rattle.md_safe.proofs.CallNumbers.{ids_after, ids-append}
+use Rattle.md_safe.proofs.NumberedIds.{ids_after, ids-append}
+
+-- an id stands in a text at most so often
+abbrev pub counting : List ℕ → ℕ → Claim
+counting w n = record {
+  holds = Counts w n;
+  test = is_without w;
+  plain = λ x h. counts-more w _ _ _ (omega arith) (counts-plain w x h);
+  before = λ x y h g. counts-more w _ _ _ (omega arith)
+      (counts-join w 0 n x y (counts-plain w x h) g);
+  after = λ x y h g. counts-more w _ _ _ (omega arith)
+      (counts-join w n 0 x y h (counts-plain w y g));
+  within = λ name attributes inside h a within. counts-more w _ _ _ (omega arith) (counts-element w
+      n 0 name attributes inside h (omega (none-attributes w attributes a, arith)) within);
+  takes = counts-takes w n;
+}
+
+-- the test on attributes in such a claim
+pub without-test : (w : List ℕ) (options : CompileOptions) → options.allow_dangerous_html ≡ false →
+    IsTest (is_without w) options
+without-test w options html = record {
+  other = λ name value h. ap (λ b. not (b && bytes_eq (read_back value) w)) (not-true (bytes_eq name
+      (codes "id")) (and_parts _ _ (and_parts _ _ h).1).1);
+  link = λ destination. refl;
+  anchor = λ rest. refl;
+  image = λ destination. refl;
+  html = html;
+}
+
+-- a heading that waits for its underline has an id at most so often
+abbrev pub Waiting : List ℕ → Bool → ℕ → List ℕ → Type 0
+Waiting w true n x = Counts w n x
+Waiting w false n x = Unit {0}
+
+-- an id stands in the texts of some footnotes at most so often
+abbrev pub TextsCount : List ℕ → ℕ → List Footnote → Type 0
+TextsCount w n [] = Unit {0}
+TextsCount w n (footnote ∷ others) =
+    (m : ℕ) × (k : ℕ) × (m + k ≤ n) × Counts w m footnote.text × TextsCount w k others
+
+pub texts-append : (w : List ℕ) (n m : ℕ) (xs ys : List Footnote) →
+    TextsCount w n xs → TextsCount w m ys →
+    TextsCount w (n + m) (xs ++ ys)
+texts-append w n m [] ys a b = texts-more w m (n + m) ys (omega arith) b
+  where
+    texts-more : (w : List ℕ) (n m : ℕ) (xs : List Footnote) → n ≤ m →
+        TextsCount w n xs → TextsCount w m xs
+    texts-more w n m [] more h = tt
+    texts-more w n m (x ∷ xs) more h = (h.0, h.1, omega (h.2, more, arith), h.3, h.4)
+texts-append w n m (x ∷ xs) ys a b =
+    (a.0, a.1 + m, omega (a.2, arith), a.3, texts-append w a.1 m xs ys a.4 b)
+
+-- an element, attribute by attribute
+counted-element :
+    (w : List ℕ) (n m : ℕ) (name : List ℕ) (attributes : List Attribute) (inside : List ℕ) →
+    is_tag elements name attributes ≡ true → occurs w (ids_in attributes) ≤ m → Counts w n inside
+    → Counts w (m + n)
+    (60 ∷ (name ++ attributes_before attributes (62 ∷ (inside ++ (60 ∷ 47 ∷ (name ++ (62 ∷ [])))))))
+counted-element w n m name attributes inside h few within =
+    subst (λ x. Counts w (m + n) (60 ∷ (name ++ x))) (written_attributes-before attributes (62
+    ∷ (inside ++ (60 ∷ 47 ∷ (name ++ (62 ∷ []))))))
+    (counts-element w n m name attributes inside h few within)
+
+-- a call has its own id
+pub counts-call : (w v id n : List ℕ) → Escaped v → Escaped id → Escaped n →
+    Counts w (occurs w (read_back id ∷ [])) (call_text v id n)
+counts-call w v id n h g k =
+    let hit : ℕ = occurs w (read_back id ∷ []) in
+    let attributes : List Attribute = attribute (codes "href") (35 ∷ v) ∷ attribute (codes "id") id
+    ∷ attribute (codes "data-footnote-ref") [] ∷ attribute (codes "aria-describedby")
+    (codes "footnote-label") ∷ [] in
+    let link : List ℕ = codes "<a href=\"#" ++ (v ++ (codes "\" id=\"" ++ (id ++ (codes
+    "\" data-footnote-ref=\"\" aria-describedby=\"footnote-label\">" ++ (n ++ codes "</a>"))))) in
+    let own : occurs w (ids_in attributes) ≤ hit = omega arith in
+    let inner : Counts w (hit + 0) link = counted-element w 0 hit (codes "a") attributes n
+    (a_call v id h g) own (counts-plain w n (text (is_without w) n k)) in
+    let outer : Counts w (0 + (hit + 0)) (codes "<sup>" ++ (link ++ codes "</sup>")) =
+    counted-element w (hit + 0) 0 (codes "sup") [] link refl (omega arith) inner in
+    counts-more w _ _ _ (omega arith) (subst (Counts w (0 + (hit + 0))) (call-regrouped v id n)
+    outer)
+
+-- the heading of the section has its id
+pub counts-heading : (w label : List ℕ) → Escaped label → Counts w
+    (occurs w (codes "footnote-label" ∷ [])) (codes
+    "<h2 id=\"footnote-label\" class=\"sr-only\">" ++ (label ++ codes "</h2>"))
+counts-heading w label h =
+    let hit : ℕ = occurs w (codes "footnote-label" ∷ []) in
+    let attributes : List Attribute = attribute (codes "id") (codes "footnote-label") ∷ attribute
+    (codes "class") (codes "sr-only") ∷ [] in
+    let own : occurs w (ids_in attributes) ≤ hit = omega arith in
+    counts-more w _ _ _ (omega arith) (counted-element w 0 hit (codes "h2") attributes label refl
+    own (counts-plain w label (text (is_without w) label h)))
 
 -- a document whose HTML is escaped
 pub record Document : Type 0 where
@@ -143,11 +242,7 @@ counts-none w = counts-plain w [] (nothing (is_without w))
 pub no-footnote : (d : Document) (w : List ℕ) (n : ℕ) (p : Place) (name : Name) →
     named GfmFootnoteDefinition name ≡ false → TextsCount w n (inner_of d p name).footnotes →
     TextsCount w n (here_of d p name).footnotes
-no-footnote d w n p name none h =
-    subst (λ b. TextsCount w n ((inner_of d p name).footnotes ++ when b (record {
-      identifier = identifier_of d.context.bytes p.children;
-      text = layout d.context.ending (inner_of d p name).pieces;
-    } ∷ []))) (sym none) (subst (TextsCount w n) (sym (append-nil (inner_of d p name).footnotes)) h)
+no-footnote d w n p name none h = rw (none, append-nil) h
 
 -- a transparent node means what its children do
 pub through-node : (context : Context) (t : At) (name : Name) (inner : Outcome) →
@@ -170,8 +265,7 @@ pub through-spent : (d : Document) (w : List ℕ) (p : Place) (name : Name) (wai
     is_transparent name ≡ true → Below d w p name waits m →
     Costs d w p.before m (waits_after waits p.children) (here_of d p name)
 through-spent d w p name waits m is b =
-    subst (Costs d w p.before m (waits_after waits p.children))
-    (sym (through-node d.context (at_of d p name) name (inner_of d p name) is refl)) (record {
+    rw (through-node d.context (at_of d p name) name (inner_of d p name) is refl) (record {
       body = b.body;
       left = b.left;
       notes = b.notes;
@@ -179,7 +273,7 @@ through-spent d w p name waits m is b =
       heading = subst (λ through. Waiting w (waits_after waits p.children) b.left
           (unwrap_or (inner_of d p name).found.heading (cond through p.before.heading []))) is
           b.heading;
-      texts = subst (TextsCount w b.notes) (sym (append-nil (inner_of d p name).footnotes)) b.texts;
+      texts = rw append-nil b.texts;
       few = omega (
         b.few,
         ap (due d w p.before.calls) (append-nil (inner_of d p name).calls),

@@ -1,33 +1,152 @@
--- How often an id stands in what nodes mean: at most so often as calls in them have it. The
--- induction is over blocks alone and adds what each node costs; of other contents that of
--- `Forests.antt` is enough.
-use Rattle.std.proofs.Common.{◌≡◌, ℕ, ◌+◌, Bool, true, false, cond, List, [], refl, ap, ◌∙◌, subst}
-use Rattle.std.proofs.Common.{arith}
-use Rattle.std.specs.Prelude.{Option, Some, None, unwrap_or}
-use Rattle.std.proofs.lemmas.Bool.{or_parts}
+-- What nodes cost whose names have a rule of their own: underlined headings, footnotes, calls. How
+-- often an id stands in what nodes mean: at most so often as calls in them have it. The induction
+-- is over blocks alone and adds what each node costs; of other contents that of `Forests.antt` is
+-- enough.
+use Rattle.std.proofs.Common.{◌≡◌, ℕ, suc, ◌+◌, Bool, true, false, not, List, [], ◌∷◌, ◌++◌, refl}
+use Rattle.std.proofs.Common.{arith, codes, cond, ap, ◌∙◌, subst}
+use Rattle.std.specs.Fmt.{decimal}
+use Rattle.std.proofs.lemmas.Bool.{cond_both, or_parts, cond_both}
+use Rattle.md_base.proofs.Lies.{lie}
 use Rattle.md_base.specs.declared.event.Name.{Name}
-use Rattle.md_base.specs.Tree.{Forest, Empty, Node}
+use Rattle.md_base.specs.declared.event.Name.TheVariants as name_variants
+use name_variants.{HeadingSetextText, HeadingSetextUnderlineSequence, GfmFootnoteDefinition}
+use name_variants.{GfmFootnoteCall}
+use Rattle.md_base.specs.Tree.{Forest, Forest, Empty, Node}
+use Rattle.md_base.specs.Children.{spine_names, or_else}
+use Rattle.md_text.specs.References.{read_back}
+use Rattle.md_text.proofs.HtmlIds.{occurs, Counts, counts-more, counts-join}
+use Rattle.md_meaning.specs.Meaning.At.{identifier_of, Before, At}
+use Rattle.md_meaning.specs.Meaning.Footnotes.{distinct, place_among, count_of, id_of, call_id}
+use Rattle.md_meaning.specs.Meaning.Layout.{Piece, layout}
+use Rattle.md_meaning.specs.Meaning.Blocks.{underline_rank}
+use Rattle.md_meaning.specs.Meaning.Spans.{is_at}
+use Rattle.md_content.specs.Underlined.{is_underline, waits_past, waits_after, IsUnderlined}
+use Rattle.md_content.specs.Built.{Blocks, content_inside, content_of, IsBuilt}
+use Rattle.md_safe.proofs.Texts.{decimal-escaped}
+use Rattle.md_safe.proofs.Laid.{Adds, adds-nothing, adds-text, adds-alone, adds-append}
+use Rattle.md_safe.proofs.Tags.{adds-flat}
+use Rattle.md_safe.proofs.Calls.{id-escaped, call_id-escaped, call_tags}
+use Rattle.md_safe.proofs.Insides.{is_blocks, is_blocks, is_blocks-same}
+use Rattle.md_safe.proofs.Spot.{Setting}
+use Rattle.md_safe.proofs.FlowNodes.{setext-fits}
+use Rattle.md_safe.proofs.Costs.{counts-call, Waiting, texts-append, Document, Costs, Place}
+use Rattle.md_safe.proofs.Costs.{inner_of, here_of, Below, cost-least, counts-none, no-footnote}
+use Rattle.md_safe.proofs.Costs.{counted_in, at_of, cost-parts, read_in, due-append, inner_around}
+use Rattle.md_safe.proofs.Costs.{inner_before, through-spent, place_at}
+use Rattle.md_safe.proofs.PlainCosts.{is_special, Stands, IsPlain, around-blocks, around-others}
+use Rattle.md_safe.proofs.FlowCases.{heading-node}
+use Rattle.md_safe.proofs.ReadingNodes.{reads}
+use Rattle.std.specs.Prelude.{Option, Some, None, unwrap_or}
 use Rattle.md_base.specs.NameTests.{is_transparent}
-use Rattle.md_base.specs.Children.{or_else}
-use Rattle.md_text.proofs.HtmlIds.{counts-join}
 use Rattle.md_meaning.specs.declared.surroundings.Surroundings.{Surroundings}
-use Rattle.md_meaning.specs.Meaning.At.{Before, At}
 use Rattle.md_meaning.specs.Meaning.Nodes.{Outcome, before_next, outcome}
-use Rattle.md_content.specs.Underlined.{waits_past, waits_after, IsUnderlined}
-use Rattle.md_content.specs.Built.{Blocks, content_of, content_inside, IsBuilt}
-use Rattle.md_safe.proofs.Laid.{adds-append, adds-nothing}
 use Rattle.md_safe.proofs.Contents.{after-blocks}
-use Rattle.md_safe.proofs.Insides.{is_blocks, is_blocks-same}
 use Rattle.md_safe.proofs.Following.{second}
 use Rattle.md_safe.proofs.Nodes.{not_part}
 use Rattle.md_safe.proofs.Findings.{AreFound}
 use Rattle.md_safe.proofs.Forests.{Ready, Means, ready-inside, ready-after, means, found-at}
-use Rattle.md_safe.proofs.Counted.{Waiting, texts-append}
-use Rattle.md_safe.proofs.Costs.{Document, read_in, Costs, Place, here_of, due-append, inner_around}
-use Rattle.md_safe.proofs.Costs.{inner_before, inner_of, at_of, counts-none, through-spent}
-use Rattle.md_safe.proofs.Costs.{place_at}
-use Rattle.md_safe.proofs.PlainCosts.{Stands, is_special, IsPlain, around-blocks, around-others}
-use Rattle.md_safe.proofs.SpecialCosts.{BelowBlocks, IsAwaited, special-spent}
+use Rattle.md_safe.proofs.Cases.{cases}
+
+-- a heading's text, which waits for the underline
+setext_text : (d : Document) (w : List ℕ) (p : Place) (m : ℕ) →
+    Below d w p HeadingSetextText false 0 → Costs d w p.before m
+    true (here_of d p HeadingSetextText)
+setext_text d w p m b = record {
+  body = 0;
+  left = b.body;
+  notes = b.notes;
+  prints = adds-nothing (counts-none w);
+  heading = adds-alone b.prints;
+  texts = no-footnote d w b.notes p HeadingSetextText refl b.texts;
+  few = omega (b.few, cost-least d w p HeadingSetextText, arith);
+}
+
+-- a footnote's definition, which prints nothing where it stands
+pub footnote : (d : Document) (w : List ℕ) (p : Place) (m : ℕ) →
+    Below d w p GfmFootnoteDefinition false 0 → Costs d w p.before m
+    false (here_of d p GfmFootnoteDefinition)
+footnote d w p m b = record {
+  body = 0;
+  left = 0;
+  notes = b.notes + b.body;
+  prints = adds-nothing (counts-none w);
+  heading = tt;
+  texts = texts-append w b.notes b.body (inner_of d p GfmFootnoteDefinition).footnotes (record {
+    identifier = identifier_of d.context.bytes p.children;
+    text = layout d.context.ending (inner_of d p GfmFootnoteDefinition).pieces;
+  } ∷ []) b.texts (
+    b.body,
+    0,
+    omega arith,
+    adds-alone b.prints,
+    tt,
+  );
+  few = omega (b.few, cost-least d w p GfmFootnoteDefinition, arith);
+}
+
+-- the underline of a heading, which prints the text that waits
+underline : (d : Document) (w : List ℕ) (p : Place) (m : ℕ) → Counts w m p.before.heading →
+    Below d w p HeadingSetextUnderlineSequence false 0 → Costs d w p.before m
+    false (here_of d p HeadingSetextUnderlineSequence)
+underline d w p m h b =
+    let s : Setting = counted_in d w m in
+    record {
+      body = m;
+      left = 0;
+      notes = b.notes;
+      prints = heading-node (reads s) (underline_rank d.context
+          (at_of d p HeadingSetextUnderlineSequence))
+          (setext-fits (is_at 45 d.context.bytes p.start.index)) (adds-text h);
+      heading = tt;
+      texts = no-footnote d w b.notes p HeadingSetextUnderlineSequence refl b.texts;
+      few = omega (b.few, cost-least d w p HeadingSetextUnderlineSequence, arith);
+    }
+
+-- a call, which prints nothing in an image
+pub call : (d : Document) (w : List ℕ) (p : Place) (m : ℕ) → Below d w p GfmFootnoteCall false 0 →
+    Costs d w p.before m false (here_of d p GfmFootnoteCall)
+call d w p m b =
+    let identifier : List ℕ = identifier_of d.context.bytes p.children in
+    let number : ℕ = place_among (distinct d.context.calls) identifier in
+    let occurrence : ℕ = suc (count_of (p.before.calls ++ (inner_of d p GfmFootnoteCall).calls)
+    identifier) in
+    let id : List ℕ = call_id d.context.options identifier number occurrence in
+    let hit : ℕ = occurs w (read_back id ∷ []) in
+    let tags : List Piece = call_tags d.context.options identifier number occurrence in
+    record {
+      body = hit;
+      left = 0;
+      notes = b.notes;
+      prints = cond_both (not p.around.in_image) tags [] (Adds d.context.ending (Counts w hit))
+          (λ _. adds-flat refl (counts-call w
+          (id_of d.context.options (codes "fn-") identifier number) id (decimal number) (id-escaped
+          d.context.options (codes "fn-") identifier number refl) (call_id-escaped d.context.options
+          identifier number occurrence) (decimal-escaped number))) (λ _. adds-nothing
+          (counts-more w 0 hit [] (omega arith) (counts-none w)));
+      heading = tt;
+      texts = no-footnote d w b.notes p GfmFootnoteCall refl b.texts;
+      few = omega (b.few, cost-parts d w p GfmFootnoteCall, arith);
+    }
+
+-- where blocks stand in each node, what they print is known
+abbrev pub BelowBlocks : Document → List ℕ → Place → Name → Bool → ℕ → Type 0
+BelowBlocks d w p name waits m =
+    is_blocks (content_inside Blocks name) ≡ true → Below d w p name waits m
+
+-- an underline stands where a heading waits
+abbrev pub IsAwaited : Bool → Name → Forest → Type 0
+IsAwaited waits name children =
+    is_underline name ≡ true → (waits ≡ true) × (spine_names children ≡ [])
+
+pub special-spent : (d : Document) (w : List ℕ) (p : Place) (name : Name) (waits : Bool) (m : ℕ) →
+    is_special name ≡ true → IsAwaited waits name p.children → Waiting w waits m p.before.heading →
+    BelowBlocks d w p name false 0 → Costs d w p.before m (waits_past waits name) (here_of d p name)
+special-spent d w p HeadingSetextText waits m is awaited h b = setext_text d w p m (b refl)
+special-spent d w p HeadingSetextUnderlineSequence waits m is awaited h b =
+    underline d w p m (rw (awaited refl).0 at h) (b refl)
+special-spent d w p GfmFootnoteCall waits m is awaited h b = call d w p m (b refl)
+special-spent d w p GfmFootnoteDefinition waits m is awaited h b = footnote d w p m (b refl)
+special-spent d w p _ waits m is awaited h b = lie is
 
 -- what is known where some nodes stand: blocks, each underline where a heading waits for it
 pub record Fits (d : Document) (around : Surroundings) (before : Before) (waits : Bool)
@@ -40,30 +159,33 @@ pub record Fits (d : Document) (around : Surroundings) (before : Before) (waits 
 solid-spent : {d : Document} {w : List ℕ} {p : Place} {name : Name} {m : ℕ} (waits : Bool) →
     Stands d p name → IsAwaited waits name p.children → Waiting w waits m p.before.heading →
     BelowBlocks d w p name false 0 → Costs d w p.before m (waits_past waits name) (here_of d p name)
-solid-spent {d = d} {w = w} {p = p} {name = name} {m = m} waits k awaited h b = by (is_special name)
-    refl (is_blocks (content_of name Blocks)) refl
+solid-spent {d} {w} {p} {name} {m} waits k awaited h b = cases (is_special name)
+    (λ is. special-spent d w p name waits m is awaited h b) (λ other.
+    let first = or_parts _ _ other in
+    let later = or_parts _ _ first.1 in
+    let plain : IsPlain name =
+    record { setext = first.0; call = later.0; footnote = later.1 } in
+    cases (is_blocks (content_of name Blocks))
+    (λ of. around-blocks waits k plain of (b (same ∙ of)))
+    (λ of. around-others waits k plain (same ∙ of) h))
   where
-    plain : is_special name ≡ false → IsPlain name
-    plain other =
-        let first = or_parts _ _ other in
-        let later = or_parts _ _ first.1 in
-        record { setext = first.0; call = later.0; footnote = later.1 }
-
     same : is_blocks (content_inside Blocks name) ≡ is_blocks (content_of name Blocks)
     same = ap (λ b. is_blocks (cond b Blocks (content_of name Blocks))) k.solid
 
-    by : (special : Bool) → is_special name ≡ special → (blocks : Bool) →
-        is_blocks (content_of name Blocks) ≡ blocks → Costs d w p.before m
-        (waits_past waits name) (here_of d p name)
-    by true is blocks of = special-spent d w p name waits m is awaited h b
-    by false is true of = around-blocks waits k (plain is) of (b (same ∙ of))
-    by false is false of = around-others waits k (plain is) (same ∙ of) h
-
--- the heading after two
-heading-both : (later first : Option (List ℕ)) (before : List ℕ) →
-    unwrap_or later (unwrap_or first before) ≡ unwrap_or (or_else later first) before
-heading-both None first before = refl
-heading-both (Some x) first before = refl
+-- what a node costs, transparent or not
+node-spent : {d : Document} {w : List ℕ} {p : Place} {name : Name} {waits : Bool} {m : ℕ} →
+    (is_transparent name ≡ false → Stands d p name) → Waiting w waits m p.before.heading →
+    IsAwaited waits name p.children → BelowBlocks d w p name
+    (cond (is_transparent name) waits false) (cond (is_transparent name) m 0) → Costs d w
+    p.before m (cond (is_transparent name) (waits_after waits p.children)
+    (waits_past waits name)) (here_of d p name)
+node-spent {d} {w} {p} {name} {waits} {m} k h awaited b = cond_both (is_transparent name)
+    (waits_after waits p.children) (waits_past waits name) (λ after. Costs d w p.before m after
+    (here_of d p name))
+    (λ e. through-spent d w p name waits m e (subst (λ t. Below d w p name (cond t waits false)
+    (cond t m 0)) e (b (ap (λ b. is_blocks (cond b Blocks (content_of name Blocks))) e))))
+    (λ e. solid-spent waits (k e) awaited h (subst (λ t. BelowBlocks d w p name (cond t waits false)
+    (cond t m 0)) e b))
 
 pub spent : (d : Document) (w : List ℕ) (forest : Forest) (around : Surroundings) (before : Before)
     (waits : Bool) (m : ℕ) → Fits d around before waits forest → Waiting w waits m before.heading →
@@ -102,19 +224,17 @@ spent d w (Node name start end children rest) around before waits m f h =
       within = within;
       known = known;
     } in
-    let one : Costs d w before m waits' here = by name p waits m k h f.underlined.0 (λ is. spent d w
+    let one : Costs d w before m waits' here = node-spent k h f.underlined.0 (λ is. spent d w
     children (inner_around d p name) (inner_before p name) (cond (is_transparent name) waits false)
     (cond (is_transparent name) m 0) (record {
-      built = subst (λ c. IsBuilt d.context.bytes c children)
-          (is_blocks-same (content_inside Blocks name) is) f.built.2;
-      ready = subst (Ready (read_in d) (inner_around d p name) (inner_before p name))
-          (is_blocks-same (content_inside Blocks name) is) within;
+      built = rw (is_blocks-same (content_inside Blocks name) is) at f.built.2;
+      ready = rw (is_blocks-same (content_inside Blocks name) is) at within;
       underlined = f.underlined.1;
     }) (heading-inside (is_transparent name) waits m before.heading h)) in
     let later : Costs d w next one.left (waits_after waits' rest) others = spent d w rest around
     next waits' one.left (record {
-      built = subst (λ c. IsBuilt d.context.bytes c rest) (after-blocks name children) f.built.3;
-      ready = subst (Ready (read_in d) around next) (after-blocks name children)
+      built = rw (after-blocks name children) at f.built.3;
+      ready = rw (after-blocks name children) at
           (ready-after t name here f.built.0 f.built.2 own f.ready);
       underlined = f.underlined.2;
     }) one.heading in
@@ -122,30 +242,23 @@ spent d w (Node name start end children rest) around before waits m f h =
       body = one.body + later.body;
       left = later.left;
       notes = one.notes + later.notes;
-      prints = adds-append (counts-join w one.body later.body) one.prints later.prints;
+      prints = adds-append {f = Counts w one.body} {g = Counts w later.body}
+          {h = Counts w (one.body + later.body)} (counts-join w one.body later.body) one.prints
+          later.prints;
       heading = subst (Waiting w (waits_after waits' rest) later.left) (heading-both
-          others.found.heading here.found.heading before.heading) later.heading;
-      texts = texts-append w _ _ here.footnotes others.footnotes one.texts later.texts;
+          others.found.heading here.found.heading) later.heading;
+      texts = texts-append w one.notes later.notes here.footnotes others.footnotes one.texts
+          later.texts;
       few = omega (one.few, later.few, due-append d w before.calls here.calls others.calls, arith);
     }
   where
+    heading-both : (later first : Option (List ℕ)) →
+        unwrap_or later (unwrap_or first before.heading)
+        ≡ unwrap_or (or_else later first) before.heading
+    heading-both None first = refl
+    heading-both (Some x) first = refl
+
     heading-inside : (through waits : Bool) (m : ℕ) (x : List ℕ) → Waiting w waits m x →
         Waiting w (cond through waits false) (cond through m 0) (cond through x [])
     heading-inside true waits m x h = h
     heading-inside false waits m x h = tt
-
-    by : (name : Name) (p : Place) (waits : Bool) (m : ℕ) →
-        (is_transparent name ≡ false → Stands d p name) → Waiting w waits m p.before.heading →
-        IsAwaited waits name p.children → BelowBlocks d w p name
-        (cond (is_transparent name) waits false) (cond (is_transparent name) m 0) → Costs d w
-        p.before m (cond (is_transparent name) (waits_after waits p.children)
-        (waits_past waits name)) (here_of d p name)
-    by name p waits m k h awaited = of (is_transparent name) refl
-      where
-        of : (through : Bool) → is_transparent name ≡ through →
-            BelowBlocks d w p name (cond through waits false) (cond through m 0) → Costs d w
-            p.before m (cond through (waits_after waits p.children)
-            (waits_past waits name)) (here_of d p name)
-        of true e b = through-spent d w p name waits m e (b (ap
-            (λ b. is_blocks (cond b Blocks (content_of name Blocks))) e))
-        of false e b = solid-spent waits (k e) awaited h b

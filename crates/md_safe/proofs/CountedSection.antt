@@ -1,11 +1,10 @@
 -- How often an id stands in the section of footnotes, and in a document: at most once.
-use Rattle.std.proofs.Common.{◌≡◌, ℕ, ◌+◌, ◌≤◌, ◌<◌, ◌^◌, Bool, true, false, cond, List, [], ◌∷◌}
-use Rattle.std.proofs.Common.{◌++◌, length, refl, sym, ap, ◌∙◌, subst, arith, append_assoc, codes}
-use Rattle.std.proofs.Common.{bytes_eq}
+use Rattle.std.proofs.Common.{◌≡◌, ℕ, ◌+◌, ◌≤◌, ◌<◌, ◌^◌, true, false, List, [], ◌∷◌, ◌++◌, length}
+use Rattle.std.proofs.Common.{refl, sym, ap, ◌∙◌, subst, arith, append_assoc, codes, bytes_eq}
 use Rattle.std.specs.Prelude.{Some, find}
 use Rattle.std.specs.Option.{option_map_or}
-use Rattle.std.proofs.lemmas.Bool.{or_parts}
-use Rattle.md_text.specs.Html.{any_attribute, opening_tag, closing_tag}
+use Rattle.std.proofs.lemmas.Bool.{or_parts, cond_both}
+use Rattle.md_text.specs.Html.{any_attribute}
 use Rattle.md_text.proofs.HtmlJoin.{join}
 use Rattle.md_base.specs.Tree.{Forest}
 use Rattle.md_text.specs.References.{read_back}
@@ -23,20 +22,19 @@ use Rattle.md_content.specs.Underlined.{waits_after, IsUnderlined}
 use Rattle.md_meaning.proofs.Identifiers.{is_in, Apart, same, distinct-apart, bytes_eq-sym}
 use Rattle.md_safe.specs.Options.{KeepsGrammar}
 use Rattle.md_safe.proofs.Texts.{Escaped}
-use Rattle.md_safe.proofs.Claim.{Claim}
+use Rattle.md_safe.proofs.Tags.{Claim, Turns, bracket-tag, attribute}
 use Rattle.md_safe.proofs.Laid.{adds-append, adds-nothing, adds-alone}
-use Rattle.md_safe.proofs.Tags.{Turns, bracket-tag, attribute}
 use Rattle.md_safe.proofs.Calls.{label-escaped, id-escaped}
 use Rattle.md_safe.proofs.Spot.{Setting, Prints}
 use Rattle.md_safe.proofs.Section.{turn-after, li_id, item-prints, section-around, text_among}
 use Rattle.md_safe.proofs.Section.{heading_label_of}
-use Rattle.md_safe.proofs.Counted.{counts-heading, TextsCount}
+use Rattle.md_safe.proofs.Costs.{counts-heading, TextsCount, Document, counted_in, read_in}
+use Rattle.md_safe.proofs.Costs.{counts-none, Costs}
 use Rattle.md_safe.proofs.BlockNodes.{holds-none}
-use Rattle.md_safe.proofs.Costs.{Document, counted_in, read_in, counts-none, Costs}
 use Rattle.md_safe.proofs.CountedForest.{spent}
-use Rattle.md_safe.proofs.CallNumbers.{ids_after}
-use Rattle.md_safe.proofs.IdsOnce.{note_ids}
-use Rattle.md_safe.proofs.Distinct.{label_id, document-once}
+use Rattle.md_safe.proofs.NumberedIds.{ids_after}
+use Rattle.md_safe.proofs.IdsOnce.{note_ids, label_id, document-once}
+use Rattle.md_safe.proofs.Insides.{blocks-suit}
 
 -- the texts of the footnotes with some identifiers
 abbrev TextsFor : List ℕ → ℕ → List Footnote → List (List ℕ) → Type 0
@@ -67,18 +65,9 @@ for-others w n footnote footnotes (identifier ∷ others) none h =
       h.0,
       h.1,
       h.2,
-      subst (λ b. Counts w h.0 (option_map_or (λ (f : Footnote). f.text) (cond b (Some footnote)
-          (find (λ f. bytes_eq f.identifier identifier) footnotes)) [])) (sym
-          (bytes_eq-sym footnote.identifier identifier ∙ parts.0)) h.3,
+      rw (bytes_eq-sym footnote.identifier identifier ∙ parts.0) h.3,
       for-others w h.1 footnote footnotes others parts.1 h.4,
     )
-
--- what is known of the first of some identifiers, which is that of the first footnote or isn't
-abbrev Wanted : List ℕ → ℕ → ℕ → Footnote → List Footnote → List ℕ → List (List ℕ) → Bool → Type 0
-Wanted w m k footnote footnotes identifier others is = (i : ℕ) × (j : ℕ) × (i + j ≤ m + k)
-    × Counts w i (option_map_or (λ (f : Footnote). f.text) (cond is (Some footnote)
-    (find (λ f. bytes_eq f.identifier identifier) footnotes)) [])
-    × TextsFor w j (footnote ∷ footnotes) others
 
 -- one footnote more
 for-one : (w : List ℕ) (m k : ℕ) (footnote : Footnote) (footnotes : List Footnote)
@@ -87,13 +76,11 @@ for-one : (w : List ℕ) (m k : ℕ) (footnote : Footnote) (footnotes : List Foo
     TextsFor w (m + k) (footnote ∷ footnotes) identifiers
 for-one w m k footnote footnotes [] apart own h = tt
 for-one w m k footnote footnotes (identifier ∷ others) apart own h =
-    by (bytes_eq footnote.identifier identifier) refl
-    (for-one w m h.1 footnote footnotes others apart.1 own h.4)
-  where
-    by : (is : Bool) → bytes_eq footnote.identifier identifier ≡ is →
-        TextsFor w (m + h.1) (footnote ∷ footnotes) others →
-        Wanted w m k footnote footnotes identifier others is
-    by true e later = (
+    cond_both (bytes_eq footnote.identifier identifier) (Some footnote)
+    (find (λ f. bytes_eq f.identifier identifier) footnotes)
+    (λ found. (i : ℕ) × (j : ℕ) × (i + j ≤ m + k)
+    × Counts w i (option_map_or (λ (f : Footnote). f.text) found [])
+    × TextsFor w j (footnote ∷ footnotes) others) (λ e. (
       m,
       h.1,
       omega (h.2, arith),
@@ -101,8 +88,13 @@ for-one w m k footnote footnotes (identifier ∷ others) apart own h =
       for-others w h.1 footnote footnotes others
           (subst (λ x. is_in x others ≡ false)
           (sym (same footnote.identifier identifier e)) apart.0) h.4,
-    )
-    by false e later = (h.0, m + h.1, omega (h.2, arith), h.3, later)
+    )) (λ _. (
+      h.0,
+      m + h.1,
+      omega (h.2, arith),
+      h.3,
+      for-one w m h.1 footnote footnotes others apart.1 own h.4,
+    ))
 
 texts-for : (w : List ℕ) (n : ℕ) (footnotes : List Footnote) (identifiers : List (List ℕ)) →
     Apart identifiers →
@@ -120,17 +112,9 @@ item-turn : (d : Document) (w : List ℕ) (n : ℕ) (v : List ℕ) → Escaped v
 item-turn d w n v h =
     let hit : ℕ = occurs w (read_back v ∷ []) in
     record {
-      turn = λ x held. subst (λ o. Counts w (hit + n) (o ++ (x ++ codes "</li>"))) (ap
-          (λ y. codes "<li id=\"" ++ y) (append_assoc v (34 ∷ []) (62 ∷ []))) (subst
-          (Counts w (hit + n)) (append_assoc
-          (opening_tag (codes "li") (attribute (codes "id") v ∷ [])) x (closing_tag (codes "li")))
-          (counts-enclosed w n hit (codes "li") (attribute (codes "id") v ∷ []) x (li_id v h)
-          (omega arith) held));
+      turn = λ x held. simp append_assoc (simp append_assoc at (counts-enclosed w n hit
+          (codes "li") (attribute (codes "id") v ∷ []) x (li_id v h) (omega arith) held));
     }
-
-occurs-first : (w x : List ℕ) (xs : List (List ℕ)) →
-    occurs w (x ∷ xs) ≡ occurs w (x ∷ []) + occurs w xs
-occurs-first w x xs = occurs-append w (x ∷ []) xs
 
 -- the items
 items-counted : (d : Document) (w : List ℕ) (footnotes : List Footnote) (n : ℕ)
@@ -147,7 +131,7 @@ items-counted d w footnotes n (identifier ∷ others) texts =
     let total : ℕ = occurs w (note_ids d.context.options d.context.calls (identifier ∷ others)) + n
     in
     adds-append (λ x y a b. counts-more w _ _ _ (omega (
-      occurs-first w (read_back id) (note_ids d.context.options d.context.calls others),
+      occurs-append w (read_back id ∷ []) (note_ids d.context.options d.context.calls others),
       texts.2,
       arith,
     )) (counts-join w (hit + texts.0) (later + texts.1) x y a b)) (item-prints
@@ -189,7 +173,7 @@ document-counts d w document keeps built underlined called =
     outermost nothing_before false 0 (record {
       built = built;
       ready = record {
-        suits = (refl, refl);
+        suits = blocks-suit;
         follows = tt;
         whole = λ _. record { both = join any_attribute; ids = λ value. refl };
         heading = λ _. holds-none (read_in d);

@@ -1,14 +1,15 @@
--- The tags of blocks, of code, of tasks and of lists around what they hold: each keeps the claim.
+-- The tags of blocks, of code, of tasks, of lists and of cells around what they hold: each keeps
+-- the claim.
 use Rattle.std.proofs.Common.{◌≡◌, ◌≢◌, ◌⊎◌, ℕ, ◌≤◌, ◌<◌, ◌==◌, Bool, true, false, not, cond, List}
-use Rattle.std.proofs.Common.{[], ◌∷◌, ◌++◌, refl, sym, ap, ◌∙◌, subst, inl, inr, arith}
+use Rattle.std.proofs.Common.{[], ◌∷◌, ◌++◌, refl, ap, ◌∙◌, inl, inr, arith}
 use Rattle.std.proofs.Common.{append_assoc, codes, ne_eqb}
-use Rattle.std.specs.Prelude.{Option, Some, None, bytes_eq}
+use Rattle.std.specs.Prelude.{Option, Some, None, bytes_eq, Option, Some, None}
 use Rattle.std.specs.Option.{option_map_or}
-use Rattle.std.specs.List.{list_all}
+use Rattle.std.specs.List.{list_all, flat_map, list_all}
 use Rattle.std.specs.Fmt.{decimal}
 use Rattle.std.proofs.lemmas.Bool.{agree_below, agree_below_at, not_from_false}
 use Rattle.md_base.specs.declared.event.Position.{Position}
-use Rattle.md_text.specs.Html.{Attribute, opening_tag, closing_tag, is_tag, elements}
+use Rattle.md_text.specs.Html.{Attribute, Attribute}
 use Rattle.md_text.specs.declared.options.CompileOptions.{CompileOptions}
 use Rattle.md_meaning.specs.Meaning.Layout.{Piece, Text, Needed, Forced, said, on_own_line, when}
 use Rattle.md_meaning.specs.Meaning.At.{Context, At, text_in}
@@ -16,15 +17,13 @@ use Rattle.md_meaning.specs.Meaning.Finds.{number_in_list}
 use Rattle.md_meaning.specs.Meaning.Blocks.{list_start, without_zeros}
 use Rattle.md_content.specs.Built.{is_digit}
 use Rattle.md_safe.proofs.Texts.{Escaped, zeros-escaped}
-use Rattle.md_safe.proofs.Claim.{Claim}
-use Rattle.md_safe.proofs.Laid.{Adds, adds-append, adds-needed, IsBeside}
-use Rattle.md_safe.proofs.Tags.{IsTest, attribute, IsFramed, Bracket, Turns, TurnsTag, Single}
-use Rattle.md_safe.proofs.Tags.{Takes, bracket-tag, adds-turned, adds-flat, framed-text}
-use Rattle.md_safe.proofs.Tags.{framed-needed, framed-forced, adds-framed_flat}
-
-pub bracket-plain : (p : Claim) (name : List ℕ) → is_tag elements name [] ≡ true →
-    Bracket p (opening_tag name []) (closing_tag name)
-bracket-plain p name h = (bracket-tag p name).tag [] h refl
+use Rattle.md_safe.proofs.Tags.{IsTest, attribute, IsFramed, Turns, TurnsTag}
+use Rattle.md_safe.proofs.Tags.{Single, Takes, adds-turned, adds-flat, framed-text}
+use Rattle.md_safe.proofs.Tags.{framed-needed, framed-forced, adds-framed_flat, Tagged}
+use Rattle.md_safe.proofs.Laid.{Adds, adds-append, adds-needed, IsBeside, adds-all, adds-nothing}
+use Rattle.md_base.specs.declared.event.AlignKind.{AlignKind}
+use Rattle.md_base.specs.declared.event.AlignKind.TheVariants as align
+use Rattle.md_meaning.specs.Meaning.Tables.{align_attribute, cell_of}
 
 abbrev pub code_closing : List ℕ
 code_closing = codes "</code></pre>"
@@ -49,10 +48,6 @@ record IsOpening (W Q R : List ℕ → Type 0) (ending close : List ℕ)
   adds : Adds ending (IsFramed W open_tag) pieces
   turns : Turns Q R open_tag close
 
-pub ol_start : (n : List ℕ) → Escaped n →
-    is_tag elements (codes "ol") (attribute (codes "start") n ∷ []) ≡ true
-ol_start n h = rw h refl
-
 -- an ordered list around its items
 pub adds-ordered : {W Q R : List ℕ → Type 0} {test : Attribute → Bool} → IsBeside W → Takes W Q →
     Takes W R → (context : Context) → W context.ending → IsTest test context.options →
@@ -65,11 +60,9 @@ adds-ordered {W} {Q} {R} beside takes stays context h known turns at {inner} fit
     (codes "1") in
     let opening = by (without_zeros first) (zeros-escaped first
     (digits_of (number_in_list at.children) fits)) (bytes_eq (without_zeros first) (codes "1")) in
-    let start : List Piece = list_start context at in
-    let end : List Piece = Forced ∷ said (codes "</ol>") in
-    subst (λ x. Adds context.ending R (on_own_line (codes "<ol") ++ x))
-    (append_assoc start (said (codes ">")) (inner ++ end)) (adds-turned takes stays opening.turns
-    opening.adds a (framed-forced beside h))
+    let end : List Piece = inner ++ (Forced ∷ said (codes "</ol>")) in
+    rw (← (append_assoc (list_start context at) (said (codes ">")) end)) (adds-turned
+    {o = opening.open_tag} takes stays opening.turns opening.adds a (framed-forced beside h))
   where
     digits_of : (found : Option Position) → option_map_or
         (λ place. list_all is_digit (text_in context.bytes place)) found true ≡ true →
@@ -90,9 +83,7 @@ adds-ordered {W} {Q} {R} beside takes stays context h known turns at {inner} fit
       open_tag = codes "<ol start=\"" ++ (number ++ codes "\">");
       adds = adds-framed_flat beside (Text (codes "<ol") ∷ Text (codes " start=\"") ∷ Text number
           ∷ Text (codes "\"") ∷ Text (codes ">") ∷ []) refl (adds-needed beside h);
-      turns = subst (λ o. Turns Q R o (codes "</ol>")) (ap (λ x. codes "<ol start=\"" ++ x)
-          (append_assoc number (34 ∷ []) (62 ∷ []))) (turns.tag
-          (attribute (codes "start") number ∷ []) (ol_start number e)
+      turns = simp append_assoc at (turns.tag (attribute (codes "start") number ∷ []) (rw e refl)
           (cc (known.other (codes "start") number refl)));
     }
 
@@ -117,13 +108,15 @@ task_tag checkable = codes "<input type=\"checkbox\" " ++ cond checkable [] (cod
 task-read : {test : Attribute → Bool} {R : List ℕ → Type 0} {options : CompileOptions} →
     IsTest test options → Single test R (codes "input") → (checkable : Bool) (x : List ℕ) →
     (x ≡ []) ⊎ (x ≡ codes "checked=\"\" ") → R (task_tag checkable ++ (x ++ codes "/>"))
-task-read {test = test} {R = R} known single checkable x done =
-    elim done [
-      | inl e ↦ subst (λ x. R (task_tag checkable ++ (x ++ codes "/>"))) (sym e) (by checkable)
-      | inr e ↦ subst (λ x. R (task_tag checkable ++ (x ++ codes "/>"))) (sym e) (on checkable)
-    ]
+task-read {test} {R} known single checkable x done = elim done [
+  | inl e ↦ rw e (by checkable)
+  | inr e ↦ rw e (on checkable)
+]
   where
-    kind : test (attribute (codes "type") (codes "checkbox")) ≡ true
+    box : Attribute
+    box = attribute (codes "type") (codes "checkbox")
+
+    kind : test box ≡ true
     kind = known.other (codes "type") (codes "checkbox") refl
 
     disabled : test (attribute (codes "disabled") []) ≡ true
@@ -133,16 +126,14 @@ task-read {test = test} {R = R} known single checkable x done =
     checked = known.other (codes "checked") [] refl
 
     by : (checkable : Bool) → R (task_tag checkable ++ codes "/>")
-    by true = single.tag (attribute (codes "type") (codes "checkbox") ∷ []) refl (cc kind)
-    by false = single.tag (attribute (codes "type") (codes "checkbox") ∷ attribute
-        (codes "disabled") [] ∷ []) refl (rw (kind, disabled) refl)
+    by true = single.tag (box ∷ []) refl (cc kind)
+    by false = single.tag (box ∷ attribute (codes "disabled") [] ∷ []) refl (rw (kind, disabled)
+        refl)
 
     on : (checkable : Bool) → R (task_tag checkable ++ (codes "checked=\"\" " ++ codes "/>"))
-    on true = single.tag (attribute (codes "type") (codes "checkbox") ∷ attribute (codes "checked")
-        [] ∷ []) refl (rw (kind, checked) refl)
-    on false = single.tag (attribute (codes "type") (codes "checkbox") ∷ attribute
-        (codes "disabled") [] ∷ attribute (codes "checked") [] ∷ []) refl
-        (rw (kind, disabled, checked) refl)
+    on true = single.tag (box ∷ attribute (codes "checked") [] ∷ []) refl (rw (kind, checked) refl)
+    on false = single.tag (box ∷ attribute (codes "disabled") [] ∷ attribute (codes "checked") [] ∷
+        []) refl (rw (kind, disabled, checked) refl)
 
 -- a task outside images
 pub adds-task : {test : Attribute → Bool} {R : List ℕ → Type 0} {ending : List ℕ}
@@ -150,10 +141,11 @@ pub adds-task : {test : Attribute → Bool} {R : List ℕ → Type 0} {ending : 
     (checkable in_image : Bool) {inner : List Piece} → Adds ending (IsDone in_image) inner → Adds
     ending R ((Text (codes "<input type=\"checkbox\" ") ∷ when (not checkable)
     (said (codes "disabled=\"\" "))) ++ (inner ++ said (codes "/>")))
-adds-task {R = R} {ending} known single checkable in_image a = adds-append
+adds-task {R =
+    R} {ending} known single checkable in_image a = adds-append {f = λ x. x ≡ task_tag checkable}
     {g = λ w. (x : List ℕ) × (w ≡ x ++ codes "/>") × ((x ≡ []) ⊎ (x ≡ codes "checked=\"\" "))}
-    (λ x w f g. subst R (ap (λ w. task_tag checkable ++ w) (sym g.1) ∙ ap (λ x. x ++ w) (sym f))
-    (task-read known single checkable g.0 g.2)) (first checkable) (adds-append (λ x y f g.
+    (λ x w f g. rw (f, g.1) (task-read known single checkable g.0 g.2)) (first checkable)
+    (adds-append (λ x y f g.
     (x, ap (λ y. x ++ y) g, elim f [ inl e ↦ inl e | inr e ↦ inr e.1 ])) a
     (adds-flat {f = λ y. y ≡ codes "/>"} refl refl))
   where
@@ -161,3 +153,58 @@ adds-task {R = R} {ending} known single checkable in_image a = adds-append
         (codes "<input type=\"checkbox\" ") ∷ when (not checkable) (said (codes "disabled=\"\" ")))
     first true = adds-flat refl refl
     first false = adds-flat refl refl
+
+-- a cell's texts
+abbrev pub cell_texts : Bool → AlignKind → List ℕ → List Piece
+cell_texts in_head kind x =
+    Text (cond in_head (codes "<th") (codes "<td")) ∷ Text (align_attribute kind)
+    ∷ Text (codes ">") ∷ Text x ∷ Text (cond in_head (codes "</th>") (codes "</td>")) ∷ []
+
+-- the tags of both kinds of cells
+abbrev pub CellTags : (Attribute → Bool) → (List ℕ → Type 0) → (List ℕ → Type 0) → Type 0
+CellTags test Q R = Tagged test Q R (codes "th") × Tagged test Q R (codes "td")
+
+cell-flat : {test : Attribute → Bool} {Q R : List ℕ → Type 0} {ending : List ℕ}
+    {options : CompileOptions} → IsTest test options → CellTags test Q R →
+    (in_head : Bool) (kind : AlignKind) (x : List ℕ) → Q x → Adds ending
+    R (cell_texts in_head kind x)
+cell-flat {test} {R = R} {ending} known tags in_head kind x r = by in_head kind
+  where
+    to : List ℕ → List Attribute
+    to value = attribute (codes "align") value ∷ []
+
+    aligned : (value : List ℕ) → list_all test (to value) ≡ true
+    aligned value = rw (known.other (codes "align") value refl) refl
+
+    by : (in_head : Bool) (kind : AlignKind) → Adds ending R (cell_texts in_head kind x)
+    by true align.Left = adds-flat refl (tags.0.tag (to (codes "left")) x refl (aligned _) r)
+    by true align.Right = adds-flat refl (tags.0.tag (to (codes "right")) x refl (aligned _) r)
+    by true align.Center = adds-flat refl (tags.0.tag (to (codes "center")) x refl (aligned _) r)
+    by true align.None = adds-flat refl (tags.0.tag [] x refl refl r)
+    by false align.Left = adds-flat refl (tags.1.tag (to (codes "left")) x refl (aligned _) r)
+    by false align.Right = adds-flat refl (tags.1.tag (to (codes "right")) x refl (aligned _) r)
+    by false align.Center = adds-flat refl (tags.1.tag (to (codes "center")) x refl (aligned _) r)
+    by false align.None = adds-flat refl (tags.1.tag [] x refl refl r)
+
+-- a cell on a line of its own
+adds-cell : {test : Attribute → Bool} {Q R : List ℕ → Type 0} {ending : List ℕ}
+    {options : CompileOptions} → IsTest test options → CellTags test Q R →
+    ((xs : List Piece) → Adds ending R xs → Adds ending R (Needed ∷ xs)) →
+    (in_head : Bool) (kind : AlignKind) (x : List ℕ) → Q x → Adds ending R (cell_of in_head x kind)
+adds-cell known tags lined in_head kind x r = lined (cell_texts in_head kind x)
+    (cell-flat known tags in_head kind x r)
+
+pub adds-cell_in : {test : Attribute → Bool} {Q R : List ℕ → Type 0} {ending : List ℕ}
+    {options : CompileOptions} → IsTest test options → CellTags test Q R →
+    ((xs : List Piece) → Adds ending R xs → Adds ending R (Needed ∷ xs)) → R [] →
+    (in_head : Bool) (kind : Option AlignKind) (x : List ℕ) → Q x →
+    Adds ending R (option_map_or (λ kind. cell_of in_head x kind) kind [])
+adds-cell_in known tags lined none in_head None x r = adds-nothing none
+adds-cell_in known tags lined none in_head (Some kind) x r = adds-cell known tags lined _ _ x r
+
+pub adds-empty_cells : {test : Attribute → Bool} {Q R : List ℕ → Type 0} {ending : List ℕ}
+    {options : CompileOptions} → IsTest test options → CellTags test Q R →
+    ((xs : List Piece) → Adds ending R xs → Adds ending R (Needed ∷ xs)) → IsBeside R → Q [] →
+    (in_head : Bool) (kinds : List AlignKind) → Adds ending R (flat_map (cell_of in_head []) kinds)
+adds-empty_cells known tags lined beside none in_head kinds = adds-all beside
+    (λ kind. adds-cell known tags lined in_head kind [] none) kinds

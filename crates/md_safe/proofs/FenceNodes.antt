@@ -1,8 +1,7 @@
 -- The nodes of code and math in lines print what may stand there: fences, and lines between them.
-use Rattle.std.proofs.Common.{◌≡◌, ℕ, Bool, true, false, not, cond, List, [], ◌∷◌, ◌++◌, refl, sym}
-use Rattle.std.proofs.Common.{ap, ◌∙◌, subst, inl, inr, append_assoc, append-nil, codes}
+use Rattle.std.proofs.Common.{◌≡◌, ℕ, Bool, true, false, not, List, [], ◌∷◌, ◌++◌, refl, sym}
+use Rattle.std.proofs.Common.{ap, ◌∙◌, subst, inl, append_assoc, append-nil, codes}
 use Rattle.std.specs.List.{list_any}
-use Rattle.std.proofs.lemmas.Bool.{or_cases}
 use Rattle.md_base.proofs.Lies.{lie}
 use Rattle.md_base.specs.declared.event.Name.{Name}
 use Rattle.md_base.specs.declared.event.Name.TheVariants.{LineEnding}
@@ -16,7 +15,6 @@ use Rattle.md_meaning.specs.Meaning.Means.{prints}
 use Rattle.md_content.specs.Built.{Content, FirstFence, FirstMathFence, Chunks, InfoAndMeta}
 use Rattle.md_content.specs.Built.{MetaAlone, Nothing, is_line, is_fence, is_code_fence}
 use Rattle.md_content.specs.Built.{is_math_fence, may_stand, content_of}
-use Rattle.md_steps.proofs.Standing.{picked}
 use Rattle.md_safe.proofs.Texts.{Escaped}
 use Rattle.md_safe.proofs.Laid.{adds-append, adds-text, adds-weaker}
 use Rattle.md_safe.proofs.RawElements.{IsRaw, raw, code_tag, math_tag}
@@ -25,6 +23,7 @@ use Rattle.md_safe.proofs.Insides.{allowed_inside}
 use Rattle.md_safe.proofs.Following.{same_fence}
 use Rattle.md_safe.proofs.Spot.{Setting, IsFitAt, Prints, Inside}
 use Rattle.md_safe.proofs.FlowNodes.{line-escaped}
+use Rattle.md_safe.proofs.Cases.{either}
 
 abbrev pub IsNil : List ℕ → Type 0
 IsNil x = x ≡ []
@@ -35,37 +34,29 @@ begun : (s : Setting) (has_fence : Bool) {holds within later : List ℕ → Type
     has_fence ≡ false → Prints s within inner → Prints s later rest →
     Prints s holds ((inner ++ when (not has_fence) (said (codes ">"))) ++ rest)
 begun s true both e a b = lie (sym e)
-begun s false {holds} {later = later} {inner} {rest} both e a b = subst (Prints s holds)
-    (sym (append_assoc inner (said (codes ">")) rest)) (adds-append
-    {g = λ w. (y : List ℕ) × (w ≡ 62 ∷ y) × later y} (λ x w f g. subst (λ w. holds (x ++ w))
-    (sym g.1) (both x g.0 f g.2)) a (adds-append (λ x y f g. (y, ap (λ x. x ++ y) f, g))
-    (adds-text {f = λ x. x ≡ codes ">"} refl) b))
+begun s false {holds} {later = later} {inner} {rest} both e a b = rw append_assoc (adds-append
+    {g = λ w. (y : List ℕ) × (w ≡ 62 ∷ y) × later y} (λ x w f g. rw g.1 (both x g.0 f g.2)) a
+    (adds-append (λ x y f g. (y, ap (λ x. x ++ y) f, g)) (adds-text {f = λ x. x ≡ codes ">"} refl)
+    b))
 
 -- the text of a fence, and its content
 fence-prints : (context : Context) (t : At) (name : Name) → fence_name name ≡ true →
     (inner : List Piece) → prints context t name inner ≡ inner ++ when
     (is_first_fence t) (said (codes ">"))
-fence-prints context t name is inner = picked _ _ _ (by name) is
-  where
-    by : (name : Name) → cond (fence_name name) (prints context t name inner)
-        (inner ++ when (is_first_fence t) (said (codes ">"))) ≡ inner ++ when
-        (is_first_fence t) (said (codes ">"))
-    by LineEnding = refl
-    by _ = refl
+fence-prints context t LineEnding is inner = lie is
+fence-prints context t _ is inner = cc
 
-in-code : (name : Name) → cond (is_code_fence name) (content_of name FirstFence) InfoAndMeta
-    ≡ InfoAndMeta
-in-code LineEnding = refl
-in-code _ = refl
+in-code : (name : Name) → is_code_fence name ≡ true → content_of name FirstFence ≡ InfoAndMeta
+in-code LineEnding is = lie is
+in-code _ is = cc
 
-in-math : (name : Name) → cond (is_math_fence name) (content_of name FirstMathFence) MetaAlone
-    ≡ MetaAlone
-in-math LineEnding = refl
-in-math _ = refl
+in-math : (name : Name) → is_math_fence name ≡ true → content_of name FirstMathFence ≡ MetaAlone
+in-math LineEnding is = lie is
+in-math _ is = cc
 
-in-chunks : (name : Name) → cond (fence_name name) (content_of name Chunks) Nothing ≡ Nothing
-in-chunks LineEnding = refl
-in-chunks _ = refl
+in-chunks : (name : Name) → fence_name name ≡ true → content_of name Chunks ≡ Nothing
+in-chunks LineEnding is = lie is
+in-chunks _ is = cc
 
 -- the pieces of the children, if the content of the node is known
 pub inside-is : (s : Setting) (t : At) (content allowed_inside : Content) (name : Name)
@@ -81,35 +72,31 @@ pub code_fence-node : (s : Setting) (t : At) (name : Name) →
     list_any fence_name t.before.spine ≡ false → is_code_fence name ≡ true →
     (inner rest : List Piece) → Inside s t FirstFence name inner → Prints s Escaped rest →
     Prints s (IsRaw code_tag) (prints s.context t name inner ++ rest)
-code_fence-node s t name e is inner rest a b = subst (λ x. Prints s (IsRaw code_tag) (x ++ rest))
-    (sym (fence-prints s.context t name ((allowed_inside FirstFence name is).fence refl) inner))
+code_fence-node s t name e is inner rest a b =
+    rw (fence-prints s.context t name ((allowed_inside FirstFence name is).fence refl) inner)
     (begun s (list_any fence_name t.before.spine) (raw code_tag) e (inside-is s t FirstFence
-    InfoAndMeta name inner (picked _ _ _ (in-code name) is) a) b)
+    InfoAndMeta name inner (in-code name is) a) b)
 
 pub math_fence-node : (s : Setting) (t : At) (name : Name) →
     list_any fence_name t.before.spine ≡ false → is_math_fence name ≡ true →
     (inner rest : List Piece) → Inside s t FirstMathFence name inner → Prints s Escaped rest →
     Prints s (IsRaw math_tag) (prints s.context t name inner ++ rest)
-math_fence-node s t name e is inner rest a b = subst (λ x. Prints s (IsRaw math_tag) (x ++ rest))
-    (sym (fence-prints s.context t name ((allowed_inside FirstMathFence name is).fence refl) inner))
+math_fence-node s t name e is inner rest a b =
+    rw (fence-prints s.context t name ((allowed_inside FirstMathFence name is).fence refl) inner)
     (begun s (list_any fence_name t.before.spine) (λ x y f h. raw math_tag x y (inl f) h) e
-    (inside-is s t FirstMathFence MetaAlone name inner (picked _ _ _ (in-math name) is) a) b)
+    (inside-is s t FirstMathFence MetaAlone name inner (in-math name is) a) b)
 
 -- a later fence prints nothing
 closed : (s : Setting) (has_fence : Bool) {inner : List Piece} → has_fence ≡ true →
     Prints s IsNil inner → Prints s Escaped (inner ++ when (not has_fence) (said (codes ">")))
-closed s true {inner} e a = subst (Prints s Escaped) (sym (append-nil inner))
-    (adds-weaker (λ x e. subst Escaped (sym e) refl) a)
+closed s true e a = rw append-nil (adds-weaker (λ x e. rw e refl) a)
 closed s false e a = lie e
 
 pub line-node : (s : Setting) (t : At) (name : Name) → list_any fence_name t.before.spine ≡ true →
     may_stand Chunks name ≡ true → IsFitAt s t name → (inner : List Piece) →
     Inside s t Chunks name inner → Prints s Escaped (prints s.context t name inner)
-line-node s t name e is fit inner a = elim (or_cases (is_line name) (is_fence name) is) [
-  | inl is ↦ line-escaped s t name is fit inner
-  | inr is ↦
-      let fence : fence_name name ≡ true = sym (same_fence name) ∙ is in
-      subst (Prints s Escaped) (sym (fence-prints s.context t name fence inner)) (closed s
-      (list_any fence_name t.before.spine) e (inside-is s t Chunks Nothing name inner (picked
-      (fence_name name) (content_of name Chunks) Nothing (in-chunks name) fence) a))
-]
+line-node s t name e is fit inner a = either (is_line name) (is_fence name) is
+    (λ is. line-escaped s t name is fit inner) (λ is.
+    let fence : fence_name name ≡ true = sym (same_fence name) ∙ is in
+    rw (fence-prints s.context t name fence inner) (closed s (list_any fence_name t.before.spine) e
+    (inside-is s t Chunks Nothing name inner (in-chunks name fence) a)))

@@ -1,6 +1,6 @@
 -- What is found where a node stands is good: a heading's text, titles, and the texts of footnotes.
 use Rattle.std.proofs.Common.{◌≡◌, ℕ, Bool, true, ◌||◌, List, [], ◌∷◌, ◌++◌, refl}
-use Rattle.std.specs.Prelude.{Option, Some, None, unwrap_or}
+use Rattle.std.specs.Prelude.{Option}
 use Rattle.std.proofs.lemmas.Bool.{or_left, or_right}
 use Rattle.md_base.proofs.Lies.{lie}
 use Rattle.md_base.specs.declared.event.Name.{Name}
@@ -9,25 +9,24 @@ use name_variants.{Other, BlockQuotePrefix, SpaceOrTab, HeadingSetextText, Defin
 use name_variants.{GfmFootnoteDefinition, Resource, ResourceTitleString}
 use Rattle.md_base.specs.Is.{is as named}
 use Rattle.md_base.specs.NameTests.{is_transparent}
-use Rattle.md_base.specs.Children.{or_else}
-use Rattle.md_meaning.specs.Meaning.At.{Target, Defined, Footnote, Found, nothing_found, At}
+use Rattle.md_meaning.specs.Meaning.At.{Defined, Footnote, Found, At}
 use Rattle.md_meaning.specs.Meaning.Layout.{Piece, layout}
 use Rattle.md_meaning.specs.Meaning.Nodes.{found_at}
 use Rattle.md_content.specs.Built.{Content, Blocks, Sources, may_stand, content_inside, IsBuilt}
 use Rattle.md_safe.proofs.Media.{IsEscapedTitle}
-use Rattle.md_safe.proofs.Contents.{Holds, Suits}
-use Rattle.md_safe.proofs.Insides.{is_blocks}
+use Rattle.md_safe.proofs.Contents.{Holds}
+use Rattle.md_safe.proofs.Insides.{is_blocks, asks_escaping, Suits, is_blocks-same}
 use Rattle.md_safe.proofs.Spot.{Setting, AreTitles, IsGoodTarget, IsFitAt}
 use Rattle.md_safe.proofs.FlowNodes.{Reads}
 use Rattle.md_safe.proofs.Nodes.{inside-alone, Before as PrintsBefore}
 use Rattle.md_safe.proofs.Laid.{adds-alone}
+use Rattle.md_safe.proofs.Cases.{OnSome}
 
 -- what holds of a text among blocks is what is claimed
 blocks-read : (s : Setting) (escaping in_image : Bool) (content : Content) →
     is_blocks content ≡ true →
     (x : List ℕ) → Holds s.p escaping in_image content x → Reads s x
-blocks-read s escaping in_image Blocks is x h = h
-blocks-read s escaping in_image _ is x h = lie is
+blocks-read s escaping in_image content is x h = rw (is_blocks-same content is) at h
 
 -- a footnote stands among blocks
 note-blocks : (content : Content) → may_stand content GfmFootnoteDefinition ≡ true →
@@ -36,16 +35,15 @@ note-blocks Blocks h = refl
 note-blocks _ h = lie h
 
 -- where a title may stand, special characters are escaped
-suits-title : (escaping in_image : Bool) (content : Content) →
+title-asks : (content : Content) →
     (may_stand content DefinitionTitleString || may_stand content ResourceTitleString) ≡ true →
-    Suits escaping in_image content → escaping ≡ true
-suits-title escaping in_image Sources s h = h
-suits-title escaping in_image _ s h = lie s
+    asks_escaping content ≡ true
+title-asks Sources s = refl
+title-asks _ s = lie s
 
 -- a heading's text that was found is as claimed
 abbrev pub IsRead : Setting → Option (List ℕ) → Type 0
-IsRead s None = Unit {0}
-IsRead s (Some x) = Reads s x
+IsRead s found = OnSome (Reads s) found
 
 -- what is found: among blocks a heading as is claimed, and titles that are escaped
 pub record AreFound (s : Setting) (content : Content) (found : Found) : Type 0 where
@@ -80,32 +78,27 @@ pub record Inner (s : Setting) (t : At) (content : Content) (name : Name)
   pub before : PrintsBefore s t (content_inside content name) name inner
   pub found : AreFound s (content_inside content name) t.found
 
-pub nothing-found : (s : Setting) (content : Content) → AreFound s content nothing_found
-nothing-found s content = record { heading = λ _. tt; title = tt; resource = tt }
-
 -- what is found where a node stands
 pub found-node : {s : Setting} {content : Content} {inner : List Piece} (t : At) (name : Name) →
     Inner s t content name inner → AreFound s
     content (found_at t name (layout s.context.ending inner))
-found-node {s = s} {content = content} {inner = inner} t HeadingSetextText i = record {
+found-node {s} {content} {inner} t HeadingSetextText i = record {
   heading = λ is. blocks-read s t.around.is_escaping t.around.in_image content is
       (layout s.context.ending inner) (adds-alone (inside-alone s t content HeadingSetextText
       i.stands i.fit i.built inner i.before));
   title = tt;
   resource = tt;
 }
-found-node {s = s} {content = content} {inner = inner} t DefinitionTitleString i = record {
+found-node {s} {content} {inner} t DefinitionTitleString i = record {
   heading = λ _. tt;
   title = adds-alone (inside-alone s t content DefinitionTitleString i.stands i.fit i.built inner
-      i.before) (suits-title t.around.is_escaping t.around.in_image content (or_left _ _ i.stands)
-      i.suits);
+      i.before) (i.suits.escaped (title-asks content (or_left _ _ i.stands)));
   resource = tt;
 }
-found-node {s = s} {content = content} {inner = inner} t ResourceTitleString i = record {
+found-node {s} {content} {inner} t ResourceTitleString i = record {
   heading = λ _. tt;
   title = adds-alone (inside-alone s t content ResourceTitleString i.stands i.fit i.built inner
-      i.before) (suits-title t.around.is_escaping t.around.in_image content (or_right _ _ i.stands)
-      i.suits);
+      i.before) (i.suits.escaped (title-asks content (or_right _ _ i.stands)));
   resource = tt;
 }
 found-node t Resource i = record { heading = λ _. tt; title = tt; resource = i.found.title }
@@ -122,25 +115,3 @@ note-node {s = s} {content = content} {inner = inner} t GfmFootnoteDefinition i 
     _ _ (note-blocks _ i.stands) _ (adds-alone
     (inside-alone s t _ _ i.stands i.fit i.built _ i.before))
 note-node t _ i is = lie is
-
--- of two things that were found the later one
-pub later-heading : (s : Setting) (first later : Option (List ℕ)) → IsRead s first →
-    IsRead s later → IsRead s (or_else later first)
-later-heading s first None f g = f
-later-heading s first (Some x) f g = g
-
-pub later-title : (first later : Option (List ℕ)) → IsEscapedTitle first → IsEscapedTitle later →
-    IsEscapedTitle (or_else later first)
-later-title first None f g = f
-later-title first (Some x) f g = g
-
-pub later-resource : (first later : Option Target) → IsGoodTarget first → IsGoodTarget later →
-    IsGoodTarget (or_else later first)
-later-resource first None f g = f
-later-resource first (Some x) f g = g
-
-pub heading-before : (s : Setting) (found : Option (List ℕ)) (before : List ℕ) →
-    IsRead s found → Reads s before →
-    Reads s (unwrap_or found before)
-heading-before s None before f g = g
-heading-before s (Some x) before f g = f

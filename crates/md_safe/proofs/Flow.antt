@@ -1,7 +1,7 @@
 -- Flow content is built as it is read: blocks, lists, preformatted code, and among them
 -- spans and tables.
 use Rattle.std.proofs.Common.{◌≡◌, ◌⊎◌, inl, inr, ℕ, ◌≤◌, suc, true, false, List, [], ◌∷◌, refl}
-use Rattle.std.proofs.Common.{sym, ap, ◌∙◌, subst, codes, arith}
+use Rattle.std.proofs.Common.{sym, ap, ◌∙◌, codes, arith}
 use Rattle.std.specs.Prelude.{Some, bytes_eq}
 use Rattle.std.proofs.lemmas.Bool.{and_parts, or_cases}
 use Rattle.std.proofs.lemmas.Slice.Eq.{bytes_eq-Decides}
@@ -27,7 +27,7 @@ use Rattle.md_safe.proofs.PhrasingRules.{is_inline, here-within}
 use Rattle.md_safe.proofs.Phrasing.{span-passes, phrasing-done, here-after, none-done, text-done}
 use Rattle.md_safe.proofs.Phrasing.{void-done, element-done, text-escaped, element-parts}
 use Rattle.md_safe.proofs.Tables.{table-passes}
-use Rattle.md_safe.proofs.FlowBlocks.{IsBlock, HasNoParagraph, block-passes, pre-passes, unclosed}
+use Rattle.md_safe.proofs.FlowRules.{IsBlock, HasNoParagraph, block-passes, pre-passes, unclosed}
 use Rattle.md_safe.proofs.FlowRules.{is_items, Holder, EndsItems, is_flowing, Ruled, flowing-rules}
 
 -- ---- all flow content
@@ -93,12 +93,10 @@ kind-passes {content} {held} {x} {name} {attributes} {inner} rule there h c insi
           k.0 (λ e. lie (sym (ap is_items k.1) ∙ e)) there))
       | inr (inr (inr (inl k))) ↦ blocked k.0.block (inside.flowing (ap is_flowing k.1) new
           (there-within k.0 (λ e. k.2) there))
-      | inr (inr (inr (inr (inl k)))) ↦ subst (λ name. Passed x name attributes inner) (sym k.0)
-          (table-passes there.here.body there.here.made there.no_p there.resets h (subst
-          (λ held. is_contained false held inner ≡ true) k.1 c))
-      | inr (inr (inr (inr (inr k)))) ↦ subst (λ name. Passed x name attributes inner) (sym k.0)
-          (pre-passes there.here.body there.no_p
-          (subst (λ held. is_contained false held inner ≡ true) k.1 c) (inside.flowing
+      | inr (inr (inr (inr (inl k)))) ↦ rw k.0 (table-passes there.here.body there.here.made
+          there.no_p there.resets h (rw k.1 at c))
+      | inr (inr (inr (inr (inr k)))) ↦ rw k.0 (pre-passes there.here.body there.no_p (rw k.1 at c)
+          (inside.flowing
           (ap is_flowing k.1) (within x (codes "pre") those x.active) (record {
             here = here-within (λ e. e) there.here;
             no_p = there.no_p;
@@ -124,9 +122,7 @@ flow-void-step : {x : Position} {name : List ℕ} (attributes : List TokenAttrib
     (parser_of x) (StartTag name attributes true) ≡ Some (parser_of (with_children x
     (with_element x.node.children name attributes NoNode) x.active (suc x.created)))
 flow-void-step {x = x} attributes (inr v) here none = void-step x attributes here.body here.opened v
-flow-void-step {x = x} attributes (inl e) here none = subst (λ name. step (parser_of x)
-    (StartTag name attributes true) ≡ Some (parser_of (with_children x
-    (with_element x.node.children name attributes NoNode) x.active (suc x.created)))) (sym e)
+flow-void-step {x = x} attributes (inl e) here none = rw e
     (start-in-body x here.body (codes "hr") attributes true refl ∙ ap (λ stack. Some (insert_void
     (codes "hr") attributes (record (parser_of x) { stack = stack })))
     (unclosed (x.node ∷ x.others) none))

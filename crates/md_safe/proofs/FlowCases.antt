@@ -2,6 +2,7 @@
 -- it is.
 use Rattle.std.proofs.Common.{Bool, List, ap, append_assoc, codes, cond, drop, false, inl, inr, not}
 use Rattle.std.proofs.Common.{refl, sym, true, ℕ, ◌&&◌, ◌++◌, ◌||◌, ◌∙◌, ◌∷◌, ◌≡◌, ◌≤◌, [], subst}
+use Rattle.std.proofs.Common.{arith}
 use Rattle.std.specs.Fmt.{digits}
 use Rattle.std.specs.List.{flat_map, list_all}
 use Rattle.std.specs.Prelude.{None, Option, Some, bytes_eq, count_by, slice_get}
@@ -27,23 +28,21 @@ use Rattle.md_meaning.specs.Meaning.Spans.{is_at}
 use Rattle.md_meaning.specs.Meaning.Tables.{cell_of}
 use Rattle.md_meaning.specs.declared.surroundings.Surroundings.{Surroundings}
 use Rattle.md_pattern.specs.Looseness.{is_loose}
-use Rattle.md_steps.proofs.Standing.{picked}
 use Rattle.md_text.specs.Html.{Attribute, elements, is_tag, opening_tag}
-use Rattle.md_safe.proofs.Cases.{either}
-use Rattle.md_safe.proofs.Cells.{adds-cell_in}
-use Rattle.md_safe.proofs.Claims.{Claims, Known, NodePrints, Own, Prints, alone, blank-around}
+use Rattle.md_safe.proofs.Cases.{either, cases}
+use Rattle.md_safe.proofs.Elements.{adds-cell_in, adds-ordered, class-passes, code_closing}
+use Rattle.md_safe.proofs.Elements.{heading_name, item-end, ranked}
+use Rattle.md_safe.proofs.Claims.{Claims, Known, NodePrints, Own, Prints, alone}
 use Rattle.md_safe.proofs.Claims.{block-pair, ending-around, lined, nothing, plain_tag, turned}
 use Rattle.md_safe.proofs.Contents.{Holds}
-use Rattle.md_safe.proofs.Elements.{adds-ordered, class-passes, code_closing, heading_name}
-use Rattle.md_safe.proofs.Elements.{item-end, ranked}
 use Rattle.md_safe.proofs.FenceNodes.{inside-is}
 use Rattle.md_safe.proofs.FlowNodes.{in-raw, is_flow, is_math, line-escaped, raw-prints, raw_tag}
 use Rattle.md_safe.proofs.FlowNodes.{setext-fits}
 use Rattle.md_safe.proofs.Insides.{is_raw}
-use Rattle.md_safe.proofs.Laid.{Adds, adds-alone, adds-text, adds-weaker}
+use Rattle.md_safe.proofs.Laid.{Adds, adds-alone, adds-text, adds-weaker, adds-when, adds-needed}
 use Rattle.md_safe.proofs.Linking.{is_spans, with_links}
-use Rattle.md_safe.proofs.RawElements.{IsInfo, IsRaw, adds-raw, code-end, code_class, code_tag}
-use Rattle.md_safe.proofs.RawElements.{fenced-end, info_regrouped, math_tag}
+use Rattle.md_safe.proofs.RawElements.{IsInfo, IsRaw, adds-raw, code-end, code_tag}
+use Rattle.md_safe.proofs.RawElements.{fenced-end, info_regrouped}
 use Rattle.md_safe.proofs.SpanCases.{Spanning, inline-node, is_inline}
 use Rattle.md_safe.proofs.Stands.{is_spaced}
 use Rattle.md_safe.proofs.Tags.{Turns, adds-flat, attribute, framed-forced, framed-needed}
@@ -60,9 +59,7 @@ holds_phrasing held =
 
 phrasing-held : (held : Option Content) → holds_phrasing held ≡ true → held ≡ Some Phrasing
 unfolding holds_phrasing
-phrasing-held (Some Phrasing) h = refl
-phrasing-held (Some _) h = lie h
-phrasing-held None h = lie h
+phrasing-held held h = grind (arith, h)
 
 turns-heading : (m : Claims) (rank : ℕ) → (1 ≤ rank) × (rank ≤ 6) → Turns (m.holds Phrasing)
     (m.holds Flow) (heading_tag (codes "<h") rank) (heading_tag (codes "</h") rank)
@@ -93,20 +90,18 @@ turns-code m attributes h a = turns-two (plain_tag m {held = Preformatted} {cont
 -- the tag of fenced code or math, with what is said in it
 turns-info : (m : Claims) (math : Bool) (x : List ℕ) → IsInfo (raw_tag math) x →
     TurnsCode m (raw_tag math ++ (x ++ (62 ∷ [])))
-turns-info m false x (inl e) = subst (λ x. TurnsCode m (code_tag ++ (x ++ (62 ∷ [])))) (sym e)
-    (turns-code m [] refl refl)
-turns-info m false x (inr e) = subst (λ x. TurnsCode m (code_tag ++ (x ++ (62 ∷ [])))) (sym e.1)
-    (subst (TurnsCode m) (info_regrouped e.0) (turns-code m
-    (attribute (codes "class") (codes "language-" ++ e.0) ∷ []) (code_class e.0 e.2)
+turns-info m false x (inl e) = rw e (turns-code m [] refl refl)
+turns-info m false x (inr e) = rw e.1 (subst (TurnsCode m) (info_regrouped e.0) (turns-code m
+    (attribute (codes "class") (codes "language-" ++ e.0) ∷ []) (rw e.2 refl)
     (class-passes m.s.test (codes "language-" ++ e.0))))
-turns-info m true x (inl e) = subst (λ x. TurnsCode m (math_tag ++ (x ++ (62 ∷ [])))) (sym e)
-    (turns-code m (attribute (codes "class") (codes "language-math math-display") ∷ []) refl
+turns-info m true x (inl e) = rw e (turns-code m
+    (attribute (codes "class") (codes "language-math math-display") ∷ []) refl
     (class-passes m.s.test (codes "language-math math-display")))
 turns-info m true x (inr e) = lie (ap (λ tag. bytes_eq tag code_tag) e.3)
 
 raw-node : (m : Claims) (t : At) (name : Name) → is_raw name ≡ true → (inner : List Piece) →
     Known m t name inner → Prints m Flow (prints m.s.context t name inner)
-raw-node m t name is inner k = subst (Prints m Flow) (sym (raw-prints m.s.context t name is inner))
+raw-node m t name is inner k = rw (raw-prints m.s.context t name is inner)
     (by (is_math name) (inside-is m.s t Blocks _ name inner (in-raw name is) k.within))
   where
     around : Surroundings
@@ -173,11 +168,7 @@ covered _ = refl
 -- no item and no part of a table
 outer : (name : Name) → (cond (is_inner (sort_of name)) false true) ≡ true →
     is_inner (sort_of name) ≡ false
-outer name h = by (is_inner (sort_of name)) h
-  where
-    by : (inner : Bool) → cond inner false true ≡ true → inner ≡ false
-    by true h = lie h
-    by false h = refl
+outer name h = cases (is_inner (sort_of name)) (λ e. lie (rw e at h)) (λ e. e)
 
 -- what blocks and spans print
 flow-node : (m : Claims) (t : At) (name : Name) → is_transparent name ≡ false →
@@ -193,12 +184,8 @@ flow-node m t name solid whole stands inner k a = either _ _ (covered name)
 -- neither a block nor a part of another is a span
 no_block : (name : Name) → (is_block name || (is_raw name || is_inner (sort_of name))) ≡ true →
     may_stand Phrasing (sort_of name) ≡ false
-no_block name is = picked _ _ _ (by name) is
-  where
-    by : (name : Name) → cond (is_block name || (is_raw name || is_inner (sort_of name)))
-        (may_stand Phrasing (sort_of name)) false ≡ false
-    by LineEnding = refl
-    by _ = refl
+no_block LineEnding is = lie is
+no_block _ is = cc
 
 spans-node : (m : Claims) (t : At) (content : Content) (name : Name) → is_transparent name ≡ false →
     (is_part name || is_source name) ≡ false → may_stand Phrasing (sort_of name) ≡ true →
@@ -220,9 +207,9 @@ ending-spaced _ stands = refl
 row-node : (m : Claims) (in_head : Bool) (kinds : List AlignKind) (inner : List Piece) →
     Prints m Cells inner → Prints m Rows (on_own_line (codes "<tr>") ++ (inner ++ (flat_map
     (cell_of in_head []) kinds ++ on_own_line (codes "</tr>"))))
-row-node m in_head kinds inner a = subst (λ x. Prints m Rows (on_own_line (codes "<tr>") ++ x))
-    (append_assoc inner (flat_map (cell_of in_head []) kinds) (on_own_line (codes "</tr>")))
-    (block-pair m refl refl (plain_tag m (codes "tr") refl refl) (m.filled in_head kinds inner a))
+row-node m in_head kinds inner a = rw (← (append_assoc inner (flat_map (cell_of in_head []) kinds)
+    (on_own_line (codes "</tr>")))) (block-pair m refl refl (plain_tag m (codes "tr") refl refl)
+    (m.filled in_head kinds inner a))
 
 -- the contents of blocks and of spans
 abbrev is_usual : Content → Bool
@@ -254,7 +241,7 @@ inner-node m t Characters CodeFlowChunk other stands inner k a = adds-weaker
 inner-node m t content LineEnding other stands inner k a = alone m (ending-spaced content stands)
     (ending-around m t k.fit)
 inner-node m t content BlankLineEnding other stands inner k a = alone m
-    (ending-spaced content stands) (blank-around m t.is_last)
+    (ending-spaced content stands) (adds-when m.beside t.is_last (adds-needed m.beside m.ending))
 inner-node m t _ _ other stands inner k a = lie stands
 
 -- a node that isn't transparent prints what its place allows

@@ -1,6 +1,5 @@
 -- Blocks with tags or raw text; lines of code and HTML print escaped texts.
-use Rattle.std.proofs.Common.{◌≡◌, ℕ, ◌≤◌, Bool, true, false, cond, List, [], refl, ◌||◌, inl, inr}
-use Rattle.std.proofs.Common.{arith}
+use Rattle.std.proofs.Common.{◌≡◌, ℕ, ◌≤◌, Bool, true, false, cond, List, [], ◌||◌, inl, inr, arith}
 use Rattle.std.specs.Prelude.{unwrap_or}
 use Rattle.std.specs.List.{list_any}
 use Rattle.std.proofs.lemmas.Bool.{or_cases}
@@ -23,7 +22,6 @@ use Rattle.md_meaning.specs.Meaning.Spans.{escaped, html}
 use Rattle.md_meaning.specs.Meaning.Blocks.{chunk, fenced}
 use Rattle.md_content.specs.Built.{Blocks, FirstFence, FirstMathFence, IsFit, is_line, is_fence}
 use Rattle.md_content.specs.Built.{content_of}
-use Rattle.md_steps.proofs.Standing.{picked}
 use Rattle.md_safe.proofs.Spot.{Setting, IsFitAt, Prints, encoded-escaped}
 use Rattle.md_safe.proofs.Texts.{Escaped}
 use Rattle.md_safe.proofs.Laid.{adds-text, adds-needed, adds-when, escaped_beside}
@@ -73,22 +71,13 @@ raw_tag math = cond math math_tag code_tag
 
 pub raw-prints : (context : Context) (t : At) (name : Name) → is_raw name ≡ true →
     (inner : List Piece) → prints context t name inner ≡ fenced t (raw_tag (is_math name)) inner
-raw-prints context t name is inner = picked _ _ _ (by name) is
-  where
-    by : (name : Name) → cond (is_raw name) (prints context t name inner)
-        (fenced t (raw_tag (is_math name)) inner) ≡ fenced t (raw_tag (is_math name)) inner
-    by Paragraph = refl
-    by _ = refl
+raw-prints context t Paragraph is inner = lie is
+raw-prints context t _ is inner = cc
 
 pub in-raw : (name : Name) → is_raw name ≡ true →
     content_of name Blocks ≡ cond (is_math name) FirstMathFence FirstFence
-in-raw name is = picked (is_raw name) (content_of name Blocks) _ (by name) is
-  where
-    by : (name : Name) → cond (is_raw name) (content_of name Blocks)
-        (cond (is_math name) FirstMathFence FirstFence)
-        ≡ cond (is_math name) FirstMathFence FirstFence
-    by Paragraph = refl
-    by _ = refl
+in-raw Paragraph is = lie is
+in-raw _ is = cc
 
 -- what is claimed of a text
 abbrev pub Reads : Setting → List ℕ → Type 0

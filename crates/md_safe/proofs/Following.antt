@@ -1,21 +1,92 @@
--- Which names may stand before a node's children, and before what follows it; blocks occur only in
--- blocks, and a condition on blocks alone covers no more after nodes.
-use Rattle.std.proofs.Common.{◌≡◌, ℕ, Bool, true, false, ◌||◌, cond, List, [], ◌∷◌, ◌++◌, refl, sym}
-use Rattle.std.proofs.Common.{ap, ◌∙◌, subst, append_assoc, append-nil}
-use Rattle.std.specs.List.{list_any}
-use Rattle.std.proofs.lemmas.Bool.{cond_both, or_left, or_right}
+-- The surroundings of a node suit its children and what follows it. Which names may stand before a
+-- node's children, and before what follows it; blocks occur only in blocks, and a condition on
+-- blocks alone covers no more after nodes. After a node's children, and after it, no first fence is
+-- to come.
+use Rattle.std.proofs.Common.{◌≡◌, Bool, true, false, ◌||◌, refl, sym, ◌∙◌, subst, ℕ, cond}
+use Rattle.std.proofs.Common.{List, [], ◌∷◌, ◌++◌, append_assoc, append-nil, arith}
+use Rattle.std.proofs.lemmas.Bool.{cond_both, cond_both, or_left, or_right}
 use Rattle.md_base.proofs.Lies.{lie}
 use Rattle.md_base.specs.declared.event.Name.{Name}
-use Rattle.md_base.specs.declared.event.Name.TheVariants.{LineEnding}
-use Rattle.md_base.specs.Tree.{Forest, Empty, Node}
-use Rattle.md_base.specs.NameTests.{is_transparent, is_fence as fence_name}
+use Rattle.md_base.specs.declared.event.Name.TheVariants.{Image, LineEnding}
+use Rattle.md_base.specs.Is.{is as named}
+use Rattle.md_base.specs.Tree.{Forest, Forest, Empty, Node, Forest}
+use Rattle.md_text.specs.declared.options.CompileOptions.{CompileOptions}
+use Rattle.md_meaning.specs.declared.surroundings.Surroundings.{Surroundings}
+use Rattle.md_meaning.specs.Meaning.Inherited.{inside}
+use Rattle.md_content.specs.Built.{Content, Blocks, is_source, may_stand, content_of, content_past}
+use Rattle.md_content.specs.Built.{content_after_node, FirstFence, FirstMathFence, Chunks}
+use Rattle.md_content.specs.Built.{InfoAndMeta, MetaAlone, Nothing, is_fence, is_info}
+use Rattle.md_content.specs.Built.{content_after, content_inside, IsBuilt, IsFit}
+use Rattle.md_safe.proofs.Contents.{stays-after, Follows, spine_after_node, is_first}
+use Rattle.md_safe.proofs.Insides.{allowed_inside, is_blocks, of-blocks, is_blocks-same, Suits}
+use Rattle.md_safe.proofs.Insides.{past_of, is_chunks, is_raw}
+use Rattle.md_safe.proofs.Cases.{either, cases, cases}
+use Rattle.std.specs.List.{list_any}
+use Rattle.md_base.specs.NameTests.{is_transparent, is_fence as fence_name, is_fence as fence_name}
 use Rattle.md_base.specs.Children.{spine_names}
-use Rattle.md_content.specs.Built.{Content, FirstFence, FirstMathFence, Chunks, InfoAndMeta}
-use Rattle.md_content.specs.Built.{MetaAlone, Nothing, is_fence, is_info, may_stand, content_of}
-use Rattle.md_content.specs.Built.{content_past, content_after, content_inside, content_after_node}
-use Rattle.md_content.specs.Built.{IsBuilt, Blocks}
-use Rattle.md_safe.proofs.Contents.{Follows, spine_after_node, stays-after}
-use Rattle.md_safe.proofs.Insides.{is_chunks, allowed_inside, is_blocks, of-blocks}
+use Rattle.std.proofs.lemmas.List.Folds.{list_any-append}
+use Rattle.md_base.specs.declared.event.Point.{Point}
+use Rattle.md_safe.proofs.FlowNodes.{has-fence}
+
+pub suits-after-node : (escaping in_image : Bool) (content : Content) (name : Name)
+    (children : Forest) → Suits escaping in_image content → Suits escaping
+    in_image (content_after_node content name children)
+suits-after-node escaping in_image content name children h =
+    cond_both _ _ _ (Suits escaping in_image)
+    (λ _. stays-after (Suits escaping in_image) past content children h) (λ _. past content name h)
+  where
+    past : (content : Content) (name : Name) → Suits escaping in_image content →
+        Suits escaping in_image (content_past content name)
+    past content name h =
+        let after = past_of content name in
+        record {
+          escaped = λ asks. h.escaped (after.escaping asks);
+          image = λ asks. h.image (after.image asks);
+          outside = λ is. h.outside (after.blocks is);
+        }
+
+-- images alone begin an image, and no blocks stand in them
+still-outside : (options : CompileOptions) (loose : Bool) (around : Surroundings) (name : Name) →
+    is_blocks (content_of name Blocks) ≡ true → around.in_image ≡ false →
+    (inside options loose name around).in_image ≡ false
+still-outside options loose around Image blocks out = lie blocks
+still-outside options loose around _ blocks out = out
+
+-- if HTML is escaped, escaped text stays so, except in the targets of links
+stays-escaping : (options : CompileOptions) → options.allow_dangerous_html ≡ false →
+    (loose : Bool) (around : Surroundings) (name : Name) → around.is_escaping ≡ true →
+    is_source name ≡ false → (inside options loose name around).is_escaping ≡ true
+stays-escaping options html loose around Image e out = e
+stays-escaping options html loose around _ e out = grind (arith, html, e, out)
+
+stays-image : (options : CompileOptions) (loose : Bool) (around : Surroundings) (name : Name) →
+    around.in_image ≡ true → (inside options loose name around).in_image ≡ true
+stays-image options loose around Image e = refl
+stays-image options loose around _ e = e
+
+in-image : (options : CompileOptions) (loose : Bool) (around : Surroundings) (name : Name) →
+    named Image name ≡ true → (inside options loose name around).in_image ≡ true
+in-image options loose around Image is = refl
+in-image options loose around _ is = lie is
+
+-- the surroundings of a node's children suit them
+pub suits-inside : (options : CompileOptions) → options.allow_dangerous_html ≡ false →
+    (loose : Bool) (around : Surroundings) (content : Content) (name : Name) →
+    may_stand content name ≡ true → Suits around.is_escaping around.in_image content → Suits
+    (inside options loose name around).is_escaping
+    (inside options loose name around).in_image (content_of name content)
+suits-inside options html loose around content name s h = record {
+  escaped = λ asks.
+      let needs = (allowed_inside content name s).escaping asks in
+      stays-escaping options html loose around name (h.escaped needs.0) needs.1;
+  image = λ asks. either _ _ ((allowed_inside content name s).image asks)
+      (λ within. stays-image options loose around name (h.image within))
+      (in-image options loose around name);
+  outside = λ is.
+      let blocks = of-blocks content name is in
+      still-outside options loose around name (rw (is_blocks-same content blocks) at is) (h.outside
+      blocks);
+}
 
 -- the two tests of fences are one
 pub same_fence : (name : Name) → is_fence name ≡ fence_name name
@@ -26,32 +97,14 @@ pub same_fences : (names : List Name) → list_any is_fence names ≡ list_any f
 same_fences [] = refl
 same_fences (name ∷ names) = (λ i. same_fence name i || same_fences names i)
 
-any-append : (xs ys : List Name) →
-    list_any fence_name (xs ++ ys) ≡ (list_any fence_name xs || list_any fence_name ys)
-any-append [] ys = refl
-any-append (x ∷ xs) ys = ap (λ b. fence_name x || b) (any-append xs ys)
-    ∙ by (fence_name x) (list_any fence_name xs) (list_any fence_name ys)
-  where
-    by : (a b c : Bool) → (a || (b || c)) ≡ ((a || b) || c)
-    by true b c = refl
-    by false b c = refl
-
-last_fence : (names : List Name) (name : Name) → fence_name name ≡ true →
-    list_any fence_name (names ++ (name ∷ [])) ≡ true
-last_fence names name h = any-append names (name ∷ []) ∙ or_right _ _ (or_left _ _ h)
-
-first_fence : (names more : List Name) → list_any fence_name names ≡ true →
-    list_any fence_name (names ++ more) ≡ true
-first_fence names more h = any-append names more ∙ or_left _ _ h
-
 follows-past : (content : Content) (name : Name) (names : List Name) →
     may_stand content name ≡ true →
     Follows content names → Follows (content_past content name) (names ++ (name ∷ []))
-follows-past FirstFence name names h f =
-    last_fence names name ((allowed_inside FirstFence name h).fence refl)
-follows-past FirstMathFence name names h f =
-    last_fence names name ((allowed_inside FirstMathFence name h).fence refl)
-follows-past Chunks name names h f = first_fence names (name ∷ []) f
+follows-past FirstFence name names h f = list_any-append fence_name names (name ∷ []) ∙ or_right _ _
+    (or_left _ _ ((allowed_inside FirstFence name h).fence refl))
+follows-past FirstMathFence name names h f = list_any-append fence_name names (name ∷ []) ∙ or_right
+    _ _ (or_left _ _ ((allowed_inside FirstMathFence name h).fence refl))
+follows-past Chunks name names h f = list_any-append fence_name names (name ∷ []) ∙ or_left _ _ f
 follows-past InfoAndMeta name names h f = cond_both (is_info name) MetaAlone Nothing
     (λ content. Follows content (names ++ (name ∷ []))) (λ _. tt) (λ _. tt)
 follows-past _ name names h f = tt
@@ -61,36 +114,23 @@ pub second : (a b : Bool) → a ≡ false → (a || b) ≡ true → b ≡ true
 second true b e h = lie (sym e)
 second false b e h = h
 
--- the children of a transparent node
-through : (bytes : List ℕ) (content : Content) (name : Name) (children : Forest) →
-    is_transparent name ≡ true →
-    IsBuilt bytes (content_inside content name) children → IsBuilt bytes content children
-through bytes content name children e built = subst (λ b. IsBuilt bytes
-    (cond b content (content_of name content)) children) e built
-
 follows-node : (content : Content) (name : Name) (names : List Name) (children : Forest) →
     (is_transparent name || may_stand content name) ≡ true → Follows content names → (is_transparent
     name ≡ true → Follows (content_after content children) (names ++ spine_names children)) →
     Follows (content_after_node content name children) (spine_after_node name children names)
-follows-node content name names children stands f inner = by (is_transparent name) refl
-  where
-    by : (through : Bool) → is_transparent name ≡ through → Follows (cond through
-        (content_after content children)
-        (content_past content name)) (names ++ (cond through (spine_names children) (name ∷ [])))
-    by true e = inner e
-    by false e = follows-past content name names (second _ _ e stands) f
+follows-node content name names children stands f inner = cases (is_transparent name)
+    (λ e. rw e (inner e)) (λ e. rw e (follows-past content name names (second _ _ e stands) f))
 
 pub follows-after : (bytes : List ℕ) (content : Content) (names : List Name) (forest : Forest) →
     IsBuilt bytes content forest → Follows content names →
     Follows (content_after content forest) (names ++ spine_names forest)
-follows-after bytes content names Empty built f = subst (Follows content) (sym (append-nil names)) f
+follows-after bytes content names Empty built f = rw append-nil f
 follows-after bytes content names (Node name start end children rest) built f =
     subst (Follows (content_after (content_after_node content name children) rest))
     (append_assoc names (cond (is_transparent name) (spine_names children) (name ∷ []))
     (spine_names rest)) (follows-after bytes (content_after_node content name children)
     (spine_after_node name children names) rest built.3 (follows-node content name names children
-    built.0 f (λ e. follows-after bytes content names children
-    (through bytes content name children e built.2) f)))
+    built.0 f (λ e. follows-after bytes content names children (rw e at built.2) f)))
 
 pub follows-after-node :
     (bytes : List ℕ) (content : Content) (name : Name) (names : List Name) (children : Forest) →
@@ -100,8 +140,7 @@ pub follows-after-node :
     → Follows (content_after_node content name children) (spine_after_node name children names)
 follows-after-node bytes content name names children stands built f =
     follows-node content name names children stands f
-    (λ e. follows-after bytes content names children
-    (through bytes content name children e built) f)
+    (λ e. follows-after bytes content names children (rw e at built) f)
 
 -- nothing stands before a node's first child
 pub follows-inside : (content : Content) (name : Name) → may_stand content name ≡ true →
@@ -119,16 +158,46 @@ pub inside-blocks : (content : Content) (name : Name) → is_blocks (content_ins
 inside-blocks content name = cond_both _ _ _ (λ c. is_blocks c ≡ true → is_blocks content ≡ true)
     (λ _ h. h) (λ _ h. of-blocks content name h)
 
-past-blocks : (content : Content) (name : Name) → is_blocks (content_past content name) ≡ true →
-    is_blocks content ≡ true
-past-blocks Blocks name h = refl
-past-blocks InfoAndMeta name h = cond_both (is_info name) MetaAlone Nothing
-    (λ c. is_blocks c ≡ true → false ≡ true) (λ _ h. h) (λ _ h. h) h
-past-blocks _ name h = h
-
 -- a condition on blocks alone covers no more after nodes
 pub asked-after-node : (A : Type 0) (content : Content) (name : Name) (children : Forest) →
     (is_blocks content ≡ true → A) → is_blocks (content_after_node content name children) ≡ true → A
 asked-after-node A content name children asked = cond_both _ _ _ (λ c. is_blocks c ≡ true → A) (λ _.
-    stays-after (λ c. is_blocks c ≡ true → A) (λ c name asked h. asked (past-blocks c name h))
-    content children asked) (λ _ h. asked (past-blocks content name h))
+    stays-after (λ c. is_blocks c ≡ true → A) (λ c name asked h. asked ((past_of c name).blocks h))
+    content children asked) (λ _ h. asked ((past_of content name).blocks h))
+
+abbrev IsLater : Content → Type 0
+IsLater content = is_first content ≡ false
+
+-- in a node without a fence of its own no first one is to come
+later-of : (content : Content) (name : Name) → is_raw name ≡ false →
+    may_stand content name ≡ true → IsLater (content_of name content)
+later-of content name plain s = cases (is_first (content_of name content))
+    (λ e. lie (sym plain ∙ (allowed_inside content name s).first e)) (λ e. e)
+
+-- after a fence no first one is to come
+later-fenced : (content : Content) (names : List Name) → Follows content names →
+    list_any fence_name names ≡ true →
+    IsLater content
+later-fenced FirstFence names f h = lie (sym f ∙ h)
+later-fenced FirstMathFence names f h = lie (sym f ∙ h)
+later-fenced _ names f h = refl
+
+fenced-after : (bytes : List ℕ) (content : Content) (children : Forest) →
+    IsBuilt bytes content children →
+    Follows content [] → list_any is_fence (spine_names children) ≡ true →
+    IsLater (content_after content children)
+fenced-after bytes content children built f h =
+    later-fenced (content_after content children) (spine_names children)
+    (follows-after bytes content [] children built f) (sym (same_fences (spine_names children)) ∙ h)
+
+-- after a node's children no first fence is to come
+pub later-inside :
+    (bytes : List ℕ) (content : Content) (name : Name) (start end : Point) (children : Forest) →
+    may_stand content name ≡ true → IsFit bytes name start end children →
+    IsBuilt bytes (content_of name content) children
+    → IsLater (content_after (content_of name content) children)
+later-inside bytes content name start end children s fit built = cases (is_raw name)
+    (λ is. fenced-after bytes (content_of name content) children built
+    (follows-inside content name s) (has-fence bytes name start end children is fit))
+    (λ plain. stays-after IsLater (λ content name h. (past_of content name).later)
+    (content_of name content) children (later-of content name plain s))

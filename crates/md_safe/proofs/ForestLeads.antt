@@ -1,5 +1,5 @@
 -- A forest, node by node: to the data state, before whatever follows.
-use Rattle.std.proofs.Common.{◌≡◌, ℕ, true, false, not, List, [], ◌∷◌, ◌++◌, map, refl, sym, ap}
+use Rattle.std.proofs.Common.{◌≡◌, ℕ, true, false, not, List, [], ◌∷◌, ◌++◌, refl, sym, ap}
 use Rattle.std.proofs.Common.{◌∙◌, subst, append-nil, append_assoc}
 use Rattle.std.specs.List.{list_all}
 use Rattle.std.proofs.lemmas.Bool.{and_parts}
@@ -8,17 +8,16 @@ use Rattle.md_text.specs.Html.{Attribute, Forest, Empty, Text, Void, Element, is
 use Rattle.md_text.specs.Html.{begins_with_text, written, IsReading}
 use Rattle.md_text.proofs.HtmlWriting.{attributes_before, forest_before, written-before}
 use Rattle.md_safe.specs.Input.{with_line_feeds, begins_with_line_feed}
-use Rattle.md_safe.specs.Token.{Token, Character, StartTag, EndTag}
+use Rattle.md_safe.specs.Token.{Token, EndTag}
 use Rattle.md_safe.specs.TokenizerStates.{Data}
-use Rattle.md_safe.specs.Tokens.{tokens, seen, seen_attributes}
-use Rattle.md_safe.proofs.TagNames.{good-no_return}
+use Rattle.md_safe.specs.Tokens.{tokens}
+use Rattle.md_safe.proofs.TagLeads.{good-no_return, lined, line_feeds-attributes, element-leads}
+use Rattle.md_safe.proofs.TagLeads.{void-leads, end-leads}
 use Rattle.md_safe.proofs.LineFeeds.{line_feeds-append, line_feeds-name, line_feeds-escaped}
 use Rattle.md_safe.proofs.GoodNames.{is_good_byte, is_good_name, begins_tag, are_good, element-good}
 use Rattle.md_safe.proofs.GoodNames.{void-good}
 use Rattle.md_safe.specs.Embedded.{EndsInDataState}
-use Rattle.md_safe.proofs.TextLeads.{To, arrived, along, text-leads}
-use Rattle.md_safe.proofs.TagLeads.{lined, line_feeds-attributes, element-leads, void-leads}
-use Rattle.md_safe.proofs.TagLeads.{end-leads}
+use Rattle.md_safe.proofs.TextLeads.{To, arrived, text-leads}
 
 -- after a text no line feed comes, unless it comes after all
 pub after_text : (f : Forest) (r : List ℕ) → not (begins_with_text f) ≡ true →
@@ -58,45 +57,40 @@ forest-leads : {left : List ℕ} (f : Forest) (r : List ℕ) (t : List Token) �
     begins_with_line_feed r ≡ false → To left Data (with_line_feeds r ++ left) t →
     To left Data (with_line_feeds (forest_before f r) ++ left) (tokens f ++ t)
 forest-leads Empty r t h n k = k
-forest-leads {left = left} (Text bytes rest) r t h n k =
+forest-leads {left} (Text bytes rest) r t h n k =
     let p = and_parts _ _ h in
     let q = and_parts _ _ p.0 in
     let s = and_parts _ _ q.0 in
     let on = forest_before rest r in
-    along Data _ _ _ _ (sym (append_assoc (with_line_feeds bytes) (with_line_feeds on) left) ∙ ap
-    (λ y. y ++ left) (sym (line_feeds-append bytes on (after_text rest r q.1 n)))) (sym
-    (append_assoc (map Character (seen bytes)) (tokens rest) t)) (text-leads left
-    (with_line_feeds bytes) (line_feeds-escaped bytes s.1) (with_line_feeds on ++ left)
-    (tokens rest ++ t) (forest-leads rest r t p.1 n k))
-forest-leads {left = left} (Void name attributes rest) r t h n k =
+    rw (line_feeds-append bytes on (after_text rest r q.1 n)) (simp append_assoc (text-leads left
+    (with_line_feeds bytes) (line_feeds-escaped bytes s.1) (with_line_feeds on ++ left) (tokens rest
+    ++ t) (forest-leads rest r t p.1 n k)))
+forest-leads {left} (Void name attributes rest) r t h n k =
     let p = and_parts _ _ h in
     let good = void-good name attributes p.0 in
     let on = forest_before rest r in
-    let token = StartTag name (seen_attributes attributes) true in
-    along Data _ _ _ _ (ap (λ y. 60 ∷ y) (tag-lined name attributes (32 ∷ 47 ∷ 62 ∷ on) left good.0
-    good.1)) refl (void-leads name attributes (with_line_feeds on ++ left) (tokens rest ++ t) good.0
-    good.1 (forest-leads rest r t p.1 n k))
-forest-leads {left = left} (Element name attributes children rest) r t h n k =
+    rw (← (tag-lined name attributes (32 ∷ 47 ∷ 62 ∷ on) left good.0 good.1)) (void-leads name
+    attributes (with_line_feeds on ++ left) (tokens rest ++ t) good.0 good.1 (forest-leads rest r t
+    p.1 n k))
+forest-leads {left} (Element name attributes children rest) r t h n k =
     let p = and_parts _ _ h in
     let q = and_parts _ _ p.0 in
     let good = element-good name attributes q.0 in
     let on = forest_before rest r in
     let close = 60 ∷ 47 ∷ (name ++ (62 ∷ on)) in
     let inside = forest_before children close in
-    let token = StartTag name (seen_attributes attributes) false in
     let later : List Token = EndTag name ∷ (tokens rest ++ t) in
-    let ending : To left Data (with_line_feeds close ++ left) later = along Data _ _ _ _ (ap
-    (λ y. 60 ∷ 47 ∷ y) (tag-lined name [] (62 ∷ on) left good.0 refl)) refl (end-leads name
-    (with_line_feeds on ++ left) (tokens rest ++ t) good.0 (forest-leads rest r t p.1 n k)) in
-    along Data _ _ _ _ (ap (λ y. 60 ∷ y) (tag-lined name attributes (62 ∷ inside) left good.0
-    good.1)) (ap (λ y. token ∷ y) (sym (append_assoc (tokens children) (EndTag name ∷ tokens rest)
-    t))) (element-leads name attributes (with_line_feeds inside ++ left) (tokens children ++ later)
-    good.0 good.1 (forest-leads children close later q.1 refl ending))
+    let ending : To left Data (with_line_feeds close ++ left) later = rw (← (tag-lined name [] (62 ∷
+    on) left good.0 refl)) (end-leads name (with_line_feeds on ++ left) (tokens rest ++ t) good.0
+    (forest-leads rest r t p.1 n k)) in
+    rw (← (tag-lined name attributes (62 ∷ inside) left good.0 good.1), append_assoc) (element-leads
+    name attributes (with_line_feeds inside ++ left) (tokens children ++ later) good.0 good.1
+    (forest-leads children close later q.1 refl ending))
 
 pub forest-ends : (f : Forest) → is_forest f ≡ true → EndsInDataState (written f) (tokens f)
-forest-ends f h left = along Data _ _ _ _ (ap (λ y. with_line_feeds y ++ left)
-    (sym (written-before f []) ∙ append-nil (written f))) (append-nil (tokens f))
-    (forest-leads f [] [] h refl (arrived left))
+forest-ends f h left =
+    let ends = forest-leads f [] [] h refl (arrived left) in
+    rw (append-nil (tokens f)) at (rw (sym (written-before f []) ∙ append-nil (written f)) at ends)
 
 pub reading-ends : (text : List ℕ) (f : Forest) → IsReading text f → EndsInDataState text (tokens f)
 reading-ends text f reading =

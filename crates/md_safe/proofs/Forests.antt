@@ -1,7 +1,7 @@
 -- What the nodes of a document mean: the induction over nodes of any content, for any claim that is
 -- kept where two texts meet. It goes over all that an outcome has at once.
-use Rattle.std.proofs.Common.{◌≡◌, Bool, true, false, ◌||◌, cond, List, [], ◌∷◌, ◌++◌, refl, sym}
-use Rattle.std.proofs.Common.{ap, subst, append_assoc}
+use Rattle.std.proofs.Common.{◌≡◌, Bool, true, false, ◌||◌, List, [], ◌∷◌, ◌++◌, sym}
+use Rattle.std.proofs.Common.{subst, append_assoc}
 use Rattle.std.proofs.lemmas.Bool.{cond_both}
 use Rattle.md_base.proofs.Lies.{lie}
 use Rattle.md_base.specs.declared.event.Name.{Name}
@@ -15,23 +15,25 @@ use Rattle.md_text.specs.declared.options.CompileOptions.{CompileOptions}
 use Rattle.md_meaning.specs.declared.surroundings.Surroundings.{Surroundings}
 use Rattle.md_meaning.specs.Meaning.Inherited.{inside}
 use Rattle.md_meaning.specs.Meaning.At.{Defined, Footnote, target_in, Before, At, identifier_of}
+use Rattle.md_meaning.specs.Meaning.At.{Target}
 use Rattle.md_meaning.specs.Meaning.Before.{before_children}
 use Rattle.md_meaning.specs.Meaning.Layout.{Piece, layout, when}
 use Rattle.md_meaning.specs.Meaning.Nodes.{Outcome, found_at, node, before_next, outcome}
-use Rattle.md_content.specs.Built.{Content, Blocks, may_stand, content_of, content_inside}
-use Rattle.md_content.specs.Built.{content_after_node, content_after, content_past, IsBuilt}
-use Rattle.md_safe.proofs.Contents.{stays-after, Holds, Suits, Follows}
-use Rattle.md_safe.proofs.Insides.{is_blocks}
+use Rattle.md_content.specs.Built.{Content, may_stand, content_of, content_inside}
+use Rattle.md_content.specs.Built.{content_after_node, content_after, IsBuilt}
+use Rattle.md_safe.proofs.Contents.{stays-after, Holds, Follows}
+use Rattle.md_safe.proofs.Insides.{is_blocks, Suits, past_of}
 use Rattle.md_safe.proofs.Following.{inside-blocks, asked-after-node, second, follows-inside}
-use Rattle.md_safe.proofs.Following.{follows-after-node}
-use Rattle.md_safe.proofs.Suiting.{suits-inside, suits-after-node}
+use Rattle.md_safe.proofs.Following.{follows-after-node, suits-inside, suits-after-node}
 use Rattle.md_safe.proofs.Spot.{IsWhole, Setting, AreTitles, IsFitAt, Prints, Inside, at_in}
 use Rattle.md_safe.proofs.FlowNodes.{Reads}
 use Rattle.md_safe.proofs.BlockNodes.{holds-none}
 use Rattle.md_safe.proofs.Nodes.{Knows, any-node, inside-alone, Before as PrintsBefore}
-use Rattle.md_safe.proofs.Findings.{AreFound, AreRead, heading-before, titles-append, texts-append}
-use Rattle.md_safe.proofs.Findings.{Inner, nothing-found, found-node, note-node, later-heading}
-use Rattle.md_safe.proofs.Findings.{later-title, later-resource}
+use Rattle.md_safe.proofs.Findings.{AreFound, AreRead, titles-append, texts-append}
+use Rattle.md_safe.proofs.Findings.{Inner, found-node, note-node}
+use Rattle.md_safe.proofs.Cases.{on-later, on-either, cases}
+use Rattle.md_safe.proofs.Texts.{Escaped}
+use Rattle.md_safe.proofs.Media.{IsEscapedTitle}
 
 -- the surroundings of children suit them
 through-suits : (options : CompileOptions) (loose : Bool) (around : Surroundings)
@@ -49,36 +51,23 @@ children-suit : (options : CompileOptions) → options.allow_dangerous_html ≡ 
     (is_transparent name || may_stand content name) ≡ true → Suits around.is_escaping
     around.in_image content → Suits (inside options loose name around).is_escaping
     (inside options loose name around).in_image (content_inside content name)
-children-suit options html loose around content name stands h = by (is_transparent name) refl
-  where
-    by : (through : Bool) → is_transparent name ≡ through → Suits
-        (inside options loose name around).is_escaping
-        (inside options loose name around).in_image (cond through content (content_of name content))
-    by true e = through-suits options loose around content name e h
-    by false e = suits-inside options html loose around content name (second _ _ e stands) h
+children-suit options html loose around content name stands h = cond_both (is_transparent name)
+    content (content_of name content) (Suits (inside options loose name around).is_escaping (inside
+    options loose name around).in_image) (λ e. through-suits options loose around content name e h)
+    (λ e. suits-inside options html loose around content name (second _ _ e stands) h)
 
 -- the state before a node's first child
 children-follow : (content : Content) (name : Name) (before : Before) (children : Forest) →
     (is_transparent name || may_stand content name) ≡ true → Follows content before.spine →
     Follows (content_inside content name) (before_children name children before).spine
-children-follow content name before children stands f = by (is_transparent name) refl
-  where
-    by : (through : Bool) → is_transparent name ≡ through → Follows
-        (cond through content (content_of name content)) (cond through before.spine [])
-    by true e = f
-    by false e = follows-inside content name (second _ _ e stands)
-
--- blocks stay blocks
-blocks-past : (content : Content) (name : Name) → is_blocks content ≡ true →
-    is_blocks (content_past content name) ≡ true
-blocks-past Blocks name h = refl
-blocks-past _ name h = lie h
+children-follow content name before children stands f = cases (is_transparent name)
+    (λ e. rw e f) (λ e. rw e (follows-inside content name (second _ _ e stands)))
 
 blocks-after-node : (content : Content) (name : Name) (children : Forest) →
     is_blocks content ≡ true → is_blocks (content_after_node content name children) ≡ true
 blocks-after-node content name children h = cond_both _ _ _ (λ c. is_blocks c ≡ true) (λ _.
-    stays-after (λ c. is_blocks c ≡ true) blocks-past content children h)
-    (λ _. blocks-past content name h)
+    stays-after (λ c. is_blocks c ≡ true) (λ c name. (past_of c name).stays) content children h) (λ
+    _. (past_of content name).stays h)
 
 -- what nodes mean: they print what may stand where they are, before what is printed after
 -- them; what is found is good; the titles of definitions are escaped, and the texts of
@@ -128,7 +117,8 @@ ready-after {s = s} {content = content} t name here stands built own r = record 
       r.follows;
   whole = asked-after-node (IsWhole s.p) content name t.children r.whole;
   heading = asked-after-node (Reads s (before_next t name here).heading) content name t.children
-      (λ is. heading-before s here.found.heading t.before.heading (own.heading is) (r.heading is));
+      (λ is. on-either (Reads s) here.found.heading t.before.heading (own.heading is) (r.heading
+      is));
 }
 
 pub means : (s : Setting) (forest : Forest) (around : Surroundings) (before : Before)
@@ -136,7 +126,7 @@ pub means : (s : Setting) (forest : Forest) (around : Surroundings) (before : Be
     Means s around content forest (outcome s.context around before forest)
 means s Empty around before content built r = record {
   prints = λ later h. h;
-  found = nothing-found s content;
+  found = record { heading = λ _. tt; title = tt; resource = tt };
   titles = tt;
   texts = tt;
 }
@@ -184,10 +174,11 @@ means s (Node name start end children rest) around before content built r =
           inner.pieces (others.pieces ++ later) built.2 (λ pieces g. within.prints pieces g)
           (after.prints later h));
       found = record {
-        heading = λ is. later-heading s here.found.heading others.found.heading (own.heading is)
+        heading = λ is. on-later (Reads s) here.found.heading others.found.heading (own.heading is)
             (after.found.heading (blocks-after-node content name children is));
-        title = later-title _ _ own.title after.found.title;
-        resource = later-resource _ _ own.resource after.found.resource;
+        title = on-later Escaped _ _ own.title after.found.title;
+        resource = on-later (λ (target : Target). IsEscapedTitle target.title) _ _ own.resource
+            after.found.resource;
       };
       titles = titles-append _ _ (titles-append _ _ within.titles (cond_both (named Definition name)
           (defined ∷ []) [] AreTitles (λ _. (within.found.title, tt)) (λ _. tt))) after.titles;
@@ -203,12 +194,8 @@ pub inside-means : {s : Setting} {inner : Outcome} (t : At) (content : Content) 
     IsFitAt s t name → IsBuilt s.context.bytes (content_inside content name) t.children → Means s
     (inside s.context.options (is_loose t.children) name t.around) (content_inside content name)
     t.children inner → Inside s t content name inner.pieces
-inside-means {s = s} {inner = inner} t content name solid stands fit built means =
-    let same : content_inside content name ≡ content_of name content = ap
-    (λ b. cond b content (content_of name content)) solid in
-    inside-alone s t content name (second _ _ solid stands) fit (subst
-    (λ c. IsBuilt s.context.bytes c t.children) same built) inner.pieces (subst
-    (λ c. PrintsBefore s t c name inner.pieces) same means.prints)
+inside-means {s} {inner} t content name solid stands fit built means = inside-alone s t content name
+    (second _ _ solid stands) fit (rw solid at built) inner.pieces (rw solid at means.prints)
 
 -- what is found at a node whose children print and find what they may
 pub found-at : {s : Setting} {content : Content} (t : At) (name : Name) (inner : List Piece) →

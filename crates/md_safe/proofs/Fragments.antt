@@ -1,6 +1,6 @@
 -- The nodes of a fragment: the root is a place for flow content, and its children are the inserted
 -- nodes.
-use Rattle.std.proofs.Common.{◌≡◌, ℕ, true, List, [], ◌∷◌, ◌++◌, refl, ap, ◌∙◌, cond, codes}
+use Rattle.std.proofs.Common.{◌≡◌, ℕ, true, List, [], ◌∷◌, ◌++◌, ap, ◌∙◌, cond, codes}
 use Rattle.std.specs.Prelude.{Some, None, option_map}
 use Rattle.md_text.specs.Html.{Forest}
 use Rattle.md_safe.specs.Token.{EndOfFile}
@@ -12,15 +12,7 @@ use Rattle.md_safe.specs.Fragment.{is_flow_context, children_of, fragment_of}
 use Rattle.md_safe.proofs.Pages.{constructed-after}
 
 pub root-place : IsPlace InBody (open_at 0 (codes "html") NoNode) [] [] 1
-root-place = record {
-  body = refl;
-  none_active = refl;
-  made = tt;
-  no_paragraph = refl;
-  no_heading = refl;
-  leads_back = refl;
-  none_apart = refl;
-}
+root-place = search
 
 pub fragment-built : (context : List ℕ) (f : Forest) → is_flow_context context ≡ true →
     Builds InBody (open_at 0 (codes "html") NoNode) [] [] 1 f →

@@ -1,10 +1,10 @@
 -- The names of the tables: the tokenizer takes each as it is, and none gives it another state.
 use Rattle.std.specs.Str.{bytes_eq}
 use Rattle.std.proofs.Common.{◌≡◌, ℕ, ◌==◌, Bool, true, false, not, ◌&&◌, List, [], ◌∷◌, refl}
-use Rattle.std.proofs.Common.{subst, codes}
+use Rattle.std.proofs.Common.{subst, codes, arith}
 use Rattle.std.specs.List.{list_all, list_any}
 use Rattle.std.specs.Cmp.Lexicographic.{bytes_decides}
-use Rattle.std.proofs.lemmas.Bool.{and_parts, or_parts, not-true, and_from}
+use Rattle.std.proofs.lemmas.Bool.{and_parts, or_parts, not-true}
 use Rattle.md_base.proofs.Lies.{lie}
 use Rattle.md_base.specs.Identifier.{is_nonempty}
 use Rattle.md_text.specs.Bytes.{is_between, is_letter, is_one_of}
@@ -40,11 +40,7 @@ are_good (a ∷ rest) = is_good_attribute_name a.name && (is_escaped a.value
 pub good_attribute : (a : Attribute) (x : List Attribute) → are_good (a ∷ x) ≡ true →
     (is_good_attribute_name a.name ≡ true) × (is_escaped a.value ≡ true)
     × (list_any (λ later. bytes_eq a.name later.name) x ≡ false) × (are_good x ≡ true)
-good_attribute a x g =
-    let p = and_parts (is_good_attribute_name a.name) _ g in
-    let q = and_parts (is_escaped a.value) _ p.1 in
-    let s = and_parts (not (list_any (λ later. bytes_eq a.name later.name) x)) (are_good x) q.1 in
-    (p.0, q.0, not-true _ s.0, s.1)
+good_attribute a x g = grind arith
 
 abbrev rule_is_good : List ℕ × List (List ℕ) → Bool
 rule_is_good rule = is_good_name rule.0 && list_all is_good_attribute_name rule.1
@@ -54,12 +50,8 @@ attributes-good : (listed : List (List ℕ)) (attributes : List Attribute) →
     are_good attributes ≡ true
 attributes-good listed [] g e = refl
 attributes-good listed (a ∷ rest) g e =
-    let alone = not (list_any (λ later. bytes_eq a.name later.name) rest) in
-    let p = and_parts _ _ e in
-    let q = and_parts _ _ p.0 in
-    let r = and_parts _ _ q.0 in
-    and_from _ _ (one_of-passes is_good_attribute_name listed a.name g r.0) (and_from _ _ r.1
-    (and_from _ _ q.1 (attributes-good listed rest g p.1)))
+    let good = one_of-passes is_good_attribute_name listed a.name g in
+    grind (arith, good, attributes-good listed rest g)
 
 -- what holds of the name of each rule that allows some attributes holds of the name of a tag
 pub by_rule : (P : List ℕ → Type 0) (test : List ℕ × List (List ℕ) → Bool)

@@ -1,37 +1,33 @@
 -- Each id among the calls of a document is that of one call, and each among its footnotes of one.
-use Rattle.std.proofs.Common.{◌≡◌, ℕ, ◌+◌, ◌≤◌, ◌<◌, ◌^◌, suc, Bool, true, false, ◌||◌, cond, List}
-use Rattle.std.proofs.Common.{[], ◌∷◌, ◌++◌, length, refl, sym, ap, ◌∙◌, subst, arith, append_assoc}
-use Rattle.std.proofs.Common.{codes, bytes_eq}
+-- No two ids by number are equal: the heading's, those of footnotes and those of their calls.
+use Rattle.std.proofs.Common.{◌≡◌, ℕ, ◌+◌, ◌≤◌, ◌<◌, ◌^◌, suc, true, false, ◌||◌, List, [], ◌∷◌}
+use Rattle.std.proofs.Common.{◌++◌, length, refl, sym, ap, ◌∙◌, subst, arith, append_assoc, codes}
+use Rattle.std.proofs.Common.{bytes_eq, ◌⊎◌, cond, inl, inr}
 use Rattle.std.specs.Prelude.{map}
-use Rattle.std.proofs.lemmas.Bool.{or_parts, or_right}
+use Rattle.std.proofs.lemmas.Bool.{or_parts, or_right, cond_both, cond_both}
 use Rattle.std.proofs.lemmas.List.{length-append}
 use Rattle.md_base.proofs.Lies.{lie}
 use Rattle.md_text.specs.References.{read_back}
 use Rattle.md_text.proofs.HtmlIds.{occurs}
 use Rattle.md_text.specs.declared.options.CompileOptions.{CompileOptions}
-use Rattle.md_meaning.specs.Meaning.Footnotes.{distinct, place_among, id_of}
-use Rattle.md_meaning.proofs.Identifiers.{is_in, Apart, same, itself}
-use Rattle.md_safe.proofs.NumberedIds.{back_prefix, note_tail, note-back, same-note}
-use Rattle.md_safe.proofs.CallNumbers.{id_after, ids_after, ids-differ, is_in-middle, same-place}
-use Rattle.md_safe.proofs.CallNumbers.{number-bound}
+use Rattle.md_meaning.specs.Meaning.Footnotes.{distinct, place_among, id_of, count_of}
+use Rattle.md_meaning.proofs.Identifiers.{is_in, Apart, same, itself, same, distinct-apart}
+use Rattle.md_safe.proofs.NumberedIds.{back_prefix, note_tail, note-back, same-note, id_after}
+use Rattle.md_safe.proofs.NumberedIds.{ids_after, ids-differ, is_in-middle, same-place}
+use Rattle.md_safe.proofs.NumberedIds.{number-bound, call_tail, call-back, EndsInDigit}
+use Rattle.md_safe.proofs.NumberedIds.{label-no_digit, note-no_call, note-ends, call-ends}
+use Rattle.md_safe.proofs.Cases.{cases}
 
 -- another text before some
 pub occurs-other : (w x : List ℕ) (xs : List (List ℕ)) → (x ≡ w → ⊥) →
     occurs w (x ∷ xs) ≡ occurs w xs
-occurs-other w x xs differ = by (bytes_eq x w) refl
-  where
-    by : (is : Bool) → bytes_eq x w ≡ is → cond is (suc (occurs w xs)) (occurs w xs) ≡ occurs w xs
-    by true e = absurd (differ (same x w e))
-    by false e = refl
+occurs-other w x xs differ = grind (arith, differ, same x w)
 
 -- a text that none of the others is
 occurs-once : (w x : List ℕ) (xs : List (List ℕ)) → occurs x xs ≡ 0 → occurs w xs ≤ 1 →
     occurs w (x ∷ xs) ≤ 1
-occurs-once w x xs none few = by (bytes_eq x w) refl
-  where
-    by : (is : Bool) → bytes_eq x w ≡ is → cond is (suc (occurs w xs)) (occurs w xs) ≤ 1
-    by true e = omega (ap (λ w. occurs w xs) (same x w e), none, arith)
-    by false e = few
+occurs-once w x xs none few = cond_both (bytes_eq x w) (suc (occurs w xs)) (occurs w xs) (λ n. n ≤
+    1) (λ e. omega (ap (λ w. occurs w xs) (same x w e), none, arith)) (λ _. few)
 
 -- no later call has the id of an earlier one
 none-later : (options : CompileOptions) → options.gfm_footnote_number_ids ≡ true →
@@ -39,16 +35,13 @@ none-later : (options : CompileOptions) → options.gfm_footnote_number_ids ≡ 
     length all + 1 < 2 ^ 64 → length (before ++ x ∷ mid) + length calls + 1 < 2 ^ 64 →
     occurs (id_after options all before x) (ids_after options all (before ++ x ∷ mid) calls) ≡ 0
 none-later options on all before mid x [] among few small = refl
-none-later options on all before mid x (y ∷ calls) among few small = occurs-other _ _ _ (ids-differ
-    options on all before mid x y among few (omega (small, arith))) ∙ subst (λ b. occurs
-    (id_after options all before x) (ids_after options all b calls) ≡ 0)
-    (sym (append_assoc before (x ∷ mid) (y ∷ []))) (none-later options on all before (mid ++ y ∷ [])
-    x calls among few (omega (
-      ap length (append_assoc before (x ∷ mid) (y ∷ [])),
-      length-append (before ++ x ∷ mid) (y ∷ []),
-      small,
-      arith,
-    )))
+none-later options on all before mid x (y ∷ calls) among few small =
+    let same = append_assoc before (x ∷ mid) (y ∷ []) in
+    let longer = length-append (before ++ x ∷ mid) (y ∷ []) in
+    let later = none-later options on all before (mid ++ y ∷ []) x calls among few
+    (omega (ap length same, longer, small, arith)) in
+    occurs-other _ _ _ (ids-differ options on all before mid x y among few (omega (small, arith)))
+    ∙ (rw (← same) at later)
 
 -- each id is that of one call at most
 pub calls-once : (options : CompileOptions) → options.gfm_footnote_number_ids ≡ true →
@@ -115,3 +108,103 @@ in-more x (y ∷ ys) others h = (or_right (bytes_eq x y) _ h.0, in-more x ys oth
 pub in-itself : (xs : List (List ℕ)) → AreIn xs xs
 in-itself [] = tt
 in-itself (x ∷ xs) = (ap (λ b. b || is_in x xs) (itself x), in-more x xs xs (in-itself xs))
+
+-- of each of some ids something holds
+abbrev Each : (List ℕ → Type 0) → List (List ℕ) → Type 0
+Each holds [] = Unit {0}
+Each holds (x ∷ xs) = holds x × Each holds xs
+
+-- an id that is among some is as all of them are
+among-each : (holds : List ℕ → Type 0) (w : List ℕ) (xs : List (List ℕ)) → Each holds xs →
+    (occurs w xs ≡ 0) ⊎ holds w
+among-each holds w [] all = inl refl
+among-each holds w (x ∷ xs) all = cond_both (bytes_eq x w) (suc (occurs w xs)) (occurs w xs) (λ n.
+    (n ≡ 0) ⊎ holds w) (λ e. inr (subst holds (same x w e) all.0)) (λ _. among-each holds w xs
+    all.1)
+
+abbrev pub IsNote : CompileOptions → List ℕ → Type 0
+IsNote options w = (n : ℕ) × (w ≡ back_prefix options ++ note_tail n)
+
+abbrev pub IsCall : CompileOptions → List ℕ → Type 0
+IsCall options w = (n : ℕ) × (k : ℕ) × (w ≡ back_prefix options ++ call_tail n k)
+
+each-note : (options : CompileOptions) → options.gfm_footnote_number_ids ≡ true →
+    (all identifiers : List (List ℕ)) →
+    Each (IsNote options) (note_ids options all identifiers)
+each-note options on all [] = tt
+each-note options on all (x ∷ identifiers) = (
+  (place_among (distinct all) x, note-back options on x (place_among (distinct all) x)),
+  each-note options on all identifiers,
+)
+
+each-call : (options : CompileOptions) → options.gfm_footnote_number_ids ≡ true →
+    (all before calls : List (List ℕ)) →
+    Each (IsCall options) (ids_after options all before calls)
+each-call options on all before [] = tt
+each-call options on all before (x ∷ calls) = (
+  (
+    place_among (distinct all) x,
+    suc (count_of before x),
+    call-back options on x (place_among (distinct all) x) (suc (count_of before x)),
+  ),
+  each-call options on all (before ++ x ∷ []) calls,
+)
+
+-- the id of the heading
+abbrev pub label_id : List (List ℕ)
+label_id = codes "footnote-label" ∷ []
+
+label-alone : (options : CompileOptions) (w : List ℕ) → EndsInDigit w → occurs w label_id ≡ 0
+label-alone options w ends = occurs-other _ _ [] (λ e. label-no_digit w e ends)
+
+-- each id is that of the heading, of one footnote or of one call, and of no two
+pub document-once : (options : CompileOptions) → options.gfm_footnote_number_ids ≡ true →
+    (w : List ℕ) (calls : List (List ℕ)) → length calls + 2 < 2 ^ 64 →
+    occurs w label_id + occurs w (note_ids options calls (distinct calls))
+    + occurs w (ids_after options calls [] calls) ≤ 1
+document-once options on w calls small =
+    let few : length calls + 1 < 2 ^ 64 = omega (small, arith) in
+    let notes = notes-once options on w calls (distinct calls) few (distinct-apart calls)
+    (in-itself (distinct calls)) in
+    let called = calls-once options on w calls [] calls refl few (omega (small, arith)) in
+    by notes called (among-each (IsNote options) w (note_ids options calls (distinct calls))
+    (each-note options on calls (distinct calls)))
+    (among-each (IsCall options) w (ids_after options calls [] calls)
+    (each-call options on calls [] calls))
+  where
+    heading : occurs w label_id ≤ 1
+    heading = cond_both (bytes_eq (codes "footnote-label") w) 1 0 (λ n. n ≤ 1) (λ _. omega arith) (λ
+        _. omega arith)
+
+    by : occurs w (note_ids options calls (distinct calls)) ≤ 1 →
+        occurs w (ids_after options calls [] calls) ≤ 1
+        → (occurs w (note_ids options calls (distinct calls)) ≡ 0) ⊎ IsNote options w
+        → (occurs w (ids_after options calls [] calls) ≡ 0) ⊎ IsCall options w
+        → occurs w label_id + occurs w (note_ids options calls (distinct calls))
+        + occurs w (ids_after options calls [] calls) ≤ 1
+    by notes called (inl n) (inl c) = omega (heading, n, c, arith)
+    by notes called (inl n) (inr c) =
+        let alone = label-alone options w (rw c.2 (call-ends options c.0 c.1)) in
+        omega (alone, n, called, arith)
+    by notes called (inr n) (inl c) =
+        let alone = label-alone options w (rw n.1 (note-ends options n.0)) in
+        omega (alone, notes, c, arith)
+    by notes called (inr n) (inr c) = absurd (note-no_call options n.0 c.0 c.1 (sym n.1 ∙ c.2))
+
+-- an id that stands in a document is that of the heading, of a footnote or of a call
+pub document-known : (options : CompileOptions) →
+    options.gfm_footnote_number_ids ≡ true → (w : List ℕ) (calls : List (List ℕ)) →
+    1 ≤ occurs w label_id + occurs w (note_ids options calls (distinct calls))
+    + occurs w (ids_after options calls [] calls) →
+    (codes "footnote-label" ≡ w) ⊎ (IsNote options w ⊎ IsCall options w)
+document-known options on w calls some = cases (bytes_eq (codes "footnote-label") w)
+    (λ e. inl (same (codes "footnote-label") w e))
+    (λ e. elim (among-each (IsNote options) w (note_ids options calls (distinct calls)) (each-note
+    options on calls (distinct calls))) [
+      | inr n ↦ inr (inl n)
+      | inl n ↦ elim (among-each (IsCall options) w (ids_after options calls [] calls) (each-call
+          options on calls [] calls)) [
+            | inr c ↦ inr (inr c)
+            | inl c ↦ absurd (omega (arith, n, c, some, ap {B = ℕ} (λ is. cond is 1 0) e))
+          ]
+    ])

@@ -1,13 +1,13 @@
 -- The facts about the content of a node that follow from the node being allowed in some content:
 -- computed once for each content, for all names.
-use Rattle.std.proofs.Common.{◌≡◌, Bool, true, false, not, ◌&&◌, ◌||◌, refl}
-use Rattle.std.proofs.lemmas.Bool.{and_parts, not-true}
+use Rattle.std.proofs.Common.{◌≡◌, Bool, true, false, not, ◌&&◌, ◌||◌, refl, arith}
+use Rattle.std.proofs.lemmas.Bool.{and_parts}
 use Rattle.md_base.specs.declared.event.Name.{Name}
 use Rattle.md_base.specs.declared.event.Name.TheVariants.{Image}
 use Rattle.md_base.specs.Is.{is as named}
 use Rattle.md_base.specs.NameTests.{is_fence}
 use Rattle.md_content.specs.Built.{Content, Blocks, Spans, FirstFence, Chunks, InfoAndMeta, Sources}
-use Rattle.md_content.specs.Built.{is_source, may_stand, content_of}
+use Rattle.md_content.specs.Built.{is_source, may_stand, content_of, content_past}
 use Rattle.md_steps.proofs.Standing.{implies, follows}
 use Rattle.md_safe.proofs.Contents.{is_first}
 use Rattle.md_base.proofs.Lies.{lie}
@@ -51,10 +51,16 @@ tells c n i =
     && (implies (is_first i) (is_raw n)
     && (implies (is_first c) (is_fence n) && not (is_chunks i))))
 
+abbrev past_tells : Content → Content → Bool
+past_tells c after =
+    implies (asks_escaping after) (asks_escaping c) && (implies (asks_image after) (asks_image c)
+    && (implies (is_blocks after) (is_blocks c)
+    && (implies (is_blocks c) (is_blocks after) && not (is_first after))))
+
 abbrev facts : Content → Name → Bool
 facts c n =
     implies (is_blocks (content_of n c)) (is_blocks c)
-    && implies (may_stand c n) (tells c n (content_of n c))
+    && (implies (may_stand c n) (tells c n (content_of n c)) && past_tells c (content_past c n))
 
 all-facts : (c : Content) (n : Name) → facts c n ≡ true
 all-facts Blocks Image = refl
@@ -66,6 +72,26 @@ all-facts _ _ = refl
 pub of-blocks : (c : Content) (n : Name) → is_blocks (content_of n c) ≡ true → is_blocks c ≡ true
 of-blocks c n = follows _ _ (and_parts _ _ (all-facts c n)).0
 
+-- what is known of the content after a name
+pub record Past (c : Content) (n : Name) : Type 0 where
+  pub escaping : asks_escaping (content_past c n) ≡ true → asks_escaping c ≡ true
+  pub image : asks_image (content_past c n) ≡ true → asks_image c ≡ true
+  pub blocks : is_blocks (content_past c n) ≡ true → is_blocks c ≡ true
+  pub stays : is_blocks c ≡ true → is_blocks (content_past c n) ≡ true
+  pub later : is_first (content_past c n) ≡ false
+
+pub past_of : (c : Content) (n : Name) → Past c n
+past_of c n = grind (arith, all-facts c n)
+
+-- the surroundings in which a content may stand
+pub record Suits (escaping in_image : Bool) (content : Content) : Type 0 where
+  pub escaped : asks_escaping content ≡ true → escaping ≡ true
+  pub image : asks_image content ≡ true → in_image ≡ true
+  pub outside : is_blocks content ≡ true → in_image ≡ false
+
+pub blocks-suit : Suits true false Blocks
+blocks-suit = record { escaped = λ _. refl; image = λ h. lie h; outside = λ _. refl }
+
 -- what is known of a name that may stand in the content
 pub record Allowed (c : Content) (n : Name) : Type 0 where
   pub escaping : asks_escaping (content_of n c) ≡ true →
@@ -76,18 +102,4 @@ pub record Allowed (c : Content) (n : Name) : Type 0 where
   pub chunks : is_chunks (content_of n c) ≡ false
 
 pub allowed_inside : (c : Content) (n : Name) → may_stand c n ≡ true → Allowed c n
-allowed_inside c n stands =
-    let i : Content = content_of n c in
-    let p0 = and_parts _ _ (follows _ _ (and_parts _ _ (all-facts c n)).1 stands) in
-    let p1 = and_parts _ _ p0.1 in
-    let p2 = and_parts _ _ p1.1 in
-    let p3 = and_parts _ _ p2.1 in
-    record {
-      escaping = λ t.
-          let a = and_parts _ _ (follows _ _ p0.0 t) in
-          (a.0, not-true _ a.1);
-      image = λ t. follows _ _ p1.0 t;
-      first = λ t. follows _ _ p2.0 t;
-      fence = λ t. follows _ _ p3.0 t;
-      chunks = not-true _ p3.1;
-    }
+allowed_inside c n stands = grind (arith, stands, all-facts c n)

@@ -1,5 +1,5 @@
 -- Some steps, and then others.
-use Rattle.std.proofs.Common.{◌≡◌, ℕ, List, ◌++◌, refl, sym, ap, ap₂, ◌∙◌, subst, append_assoc}
+use Rattle.std.proofs.Common.{◌≡◌, ℕ, List, ◌++◌, refl, sym, ap, ◌∙◌, subst, append_assoc}
 use Rattle.std.proofs.Common.{Some, option_map, zero, suc}
 use Rattle.md_safe.specs.Token.{Token}
 use Rattle.md_safe.specs.TokenizerStates.{State, Data, Step, Goes, Stops, Stuck}
@@ -11,21 +11,13 @@ same_step : {a b : State} {x y : List ℕ} {s t : List Token} → Goes s a x ≡
     (a ≡ b) × (x ≡ y) × (s ≡ t)
 same_step e = (cc, cc, cc)
 
-no_stop : {out t : List Token} {b : State} {y : List ℕ} → Stops out ≡ Goes t b y → ⊥
-no_stop e = cc
-
-no_stuck : {t : List Token} {b : State} {y : List ℕ} → Stuck ≡ Goes t b y → ⊥
-no_stuck e = cc
-
 -- the rest and the emitted tokens after a first step
 went : (out : List Token) (s : Step) (t : List Token) (mid : List ℕ) →
     emitted_before out s ≡ Goes t Data mid →
     (later : List Token) × (s ≡ Goes later Data mid) × (out ++ later ≡ t)
-went out (Goes later state rest) t mid e =
-    let is = same_step e in
-    (later, ap₂ (λ a x. Goes later a x) is.0 is.1, is.2)
-went out (Stops later) t mid e = absurd (no_stop e)
-went out Stuck t mid e = absurd (no_stuck e)
+went out (Goes later state rest) t mid e = (later, cc, cc)
+went out (Stops later) t mid e = absurd (cc e)
+went out Stuck t mid e = absurd (cc e)
 
 -- a claim of a way that goes back over each step
 abbrev GoesBack : (State → List ℕ → List Token → Type 0) → Type 0
@@ -47,8 +39,8 @@ back-step P g mid u n go state input t (Goes out next rest) is e =
     subst (λ x. P state input (x ++ u)) w.2 (subst (λ x. P state input x)
     (sym (append_assoc out w.0 u)) (g state next input rest out (w.0 ++ u) is
     (go next rest w.0 w.1)))
-back-step P g mid u n go state input t (Stops out) is e = absurd (no_stop e)
-back-step P g mid u n go state input t Stuck is e = absurd (no_stuck e)
+back-step P g mid u n go state input t (Stops out) is e = absurd (cc e)
+back-step P g mid u n go state input t Stuck is e = absurd (cc e)
 
 back : (P : State → List ℕ → List Token → Type 0) → GoesBack P → (mid : List ℕ) (u : List Token) →
     P Data mid u → (n : ℕ) → Backs P mid u n
@@ -58,13 +50,13 @@ back P g mid u h zero state input t e =
     (subst (λ x. P Data x u) (sym is.1) h))
 back P g mid u h (suc n) state input t e = back-step P g _ u n (back P g _ u h n) _ _ t _ refl e
 
-leads-back : (left : List ℕ) → GoesBack (λ state input t. Tokenizes state input t left)
+pub leads-back : (left : List ℕ) → GoesBack (λ state input t. Tokenizes state input t left)
 leads-back left state next input rest out t e h = record {
   count = suc h.count;
   goes = ap (and_then (steps h.count)) e ∙ ap (emitted_before out) h.goes;
 }
 
-run-back : GoesBack IsRun
+pub run-back : GoesBack IsRun
 run-back state next input rest out t e h = record {
   steps = suc h.steps;
   emits = ap (after_step (run h.steps)) e ∙ ap (option_map (λ later. out ++ later)) h.emits;
@@ -86,10 +78,6 @@ runs-on state input mid t u h k = back _ run-back _ u k _ state input t h.goes
 abbrev Rest : List ℕ → List Token → List Token → Type 0
 Rest mid t all = (u : List Token) × IsRun Data mid u × (all ≡ t ++ u)
 
-runs_nothing : (state : State) (input : List ℕ) (all : List Token) →
-    run zero state input ≡ Some all → ⊥
-runs_nothing state input all e = cc
-
 -- of the steps after one, for `run-rest`
 abbrev Rests : List ℕ → ℕ → Type 0
 Rests mid n = (k : ℕ) (state : State) (input : List ℕ) (t all : List Token) →
@@ -105,16 +93,16 @@ rest-step mid n go k t all (Goes out next rest) e f =
       r.1,
       m.2 ∙ ap (λ x. out ++ x) r.2 ∙ sym (append_assoc out w.0 r.0) ∙ ap (λ x. x ++ r.0) w.2,
     )
-rest-step mid n go k t all (Stops out) e f = absurd (no_stop e)
-rest-step mid n go k t all Stuck e f = absurd (no_stuck e)
+rest-step mid n go k t all (Stops out) e f = absurd (cc e)
+rest-step mid n go k t all Stuck e f = absurd (cc e)
 
 run-rest : (mid : List ℕ) (n : ℕ) → Rests mid n
 run-rest mid zero k state input t all e f =
     let is = same_step e in
-    let emits : run k Data mid ≡ Some all =
-    subst (λ a. run k a mid ≡ Some all) is.0 (subst (λ x. run k state x ≡ Some all) is.1 f) in
+    let emits : run k Data mid ≡ Some all = subst (λ a. run k a mid ≡ Some all) is.0 (subst (λ x.
+    run k state x ≡ Some all) is.1 f) in
     (all, record { steps = k; emits = emits }, ap (λ x. x ++ all) is.2)
-run-rest mid (suc n) zero state input t all e f = absurd (runs_nothing state input all f)
+run-rest mid (suc n) zero state input t all e f = absurd (cc f)
 run-rest mid (suc n) (suc k) state input t all e f =
     rest-step mid n (run-rest mid n) k t all (step state input) e f
 

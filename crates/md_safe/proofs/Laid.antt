@@ -1,19 +1,12 @@
 -- What a list of pieces adds to a text: the claim on texts carried over to what is laid out.
-use Rattle.std.proofs.Common.{◌≡◌, ℕ, Bool, true, false, cond, List, [], ◌∷◌, ◌++◌, refl, sym, ap}
+use Rattle.std.proofs.Common.{◌≡◌, ℕ, Bool, true, false, List, [], ◌∷◌, ◌++◌, refl, sym, ap}
 use Rattle.std.proofs.Common.{◌∙◌, subst, append_assoc, append-nil}
-use Rattle.md_meaning.specs.Meaning.Layout.{Piece, Text, Needed, Forced, begins_line, laid_after}
-use Rattle.md_meaning.specs.Meaning.Layout.{layout, when}
+use Rattle.md_meaning.specs.Meaning.Layout.{Piece, Text, Needed, Forced, laid_after, layout, when}
 use Rattle.std.specs.List.{flat_map}
 use Rattle.md_text.proofs.EscapedLemmas.{escaped-append}
 use Rattle.md_safe.proofs.Texts.{Escaped}
-
-pub laid-append : (ending text : List ℕ) (xs ys : List Piece) →
-    laid_after ending text (xs ++ ys) ≡ laid_after ending (laid_after ending text xs) ys
-laid-append ending text [] ys = refl
-laid-append ending text (Text more ∷ xs) ys = laid-append ending (text ++ more) xs ys
-laid-append ending text (Needed ∷ xs) ys =
-    laid-append ending (cond (begins_line text) text (text ++ ending)) xs ys
-laid-append ending text (Forced ∷ xs) ys = laid-append ending (text ++ ending) xs ys
+pub use Rattle.md_steps.proofs.Laid.{laid-append}
+use Rattle.std.proofs.lemmas.Bool.{cond_both}
 
 -- a text followed by another one that fulfils a claim
 pub record Grows (holds : List ℕ → Type 0) (before after : List ℕ) : Type 0 where
@@ -42,7 +35,7 @@ adds-append {ending} {h = h} {xs} {ys} both a b = record {
   to = λ text.
       let r = a.to text in
       let s = b.to (laid_after ending text xs) in
-      subst (Grows h text) (sym (laid-append ending text xs ys)) (record {
+      rw (laid-append ending text xs ys) (record {
         added = r.added ++ s.added;
         grown = s.grown ∙ ap (λ t. t ++ s.added) r.grown ∙ append_assoc text r.added s.added;
         it_holds = both r.added s.added r.it_holds s.it_holds;
@@ -73,11 +66,13 @@ adds-forced {ending = ending} h =
 
 pub adds-needed : {W : List ℕ → Type 0} {ending : List ℕ} → IsBeside W → W ending →
     Adds ending W (Needed ∷ [])
-adds-needed {W} {ending} beside h = record { to = λ text. by text (begins_line text) }
-  where
-    by : (text : List ℕ) (starts : Bool) → Grows W text (cond starts text (text ++ ending))
-    by text true = nothing_added W text beside.none
-    by text false = record { added = ending; grown = refl; it_holds = h }
+adds-needed {W} {ending} beside h = record {
+  to = λ text. cond_both _ _ _ (Grows W text) (λ _. nothing_added W text beside.none) (λ _. record {
+    added = ending;
+    grown = refl;
+    it_holds = h;
+  });
+}
 
 -- pieces, where a test holds
 pub adds-when : {W : List ℕ → Type 0} {ending : List ℕ} {pieces : List Piece} → IsBeside W →

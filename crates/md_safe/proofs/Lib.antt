@@ -1,19 +1,15 @@
 -- The lemmas: of one reading, links, images and ids,
 pub mod Cases
 pub mod Texts
-pub mod Claim
 pub mod Laid
 pub mod Tags
 pub mod Media
 pub mod Calls
-pub mod Cells
 pub mod Elements
 pub mod RawElements
 pub mod Contents
 pub mod Insides
-pub mod Suiting
 pub mod Following
-pub mod LaterFences
 pub mod Spot
 pub mod StringNodes
 pub mod SpanSorts
@@ -21,7 +17,6 @@ pub mod SpanNodes
 pub mod FlowNodes
 pub mod BlockNodes
 pub mod Stands
-pub mod Wider
 pub mod Linking
 pub mod Claims
 pub mod SpanCases
@@ -31,17 +26,11 @@ pub mod FenceNodes
 pub mod Nodes
 pub mod Findings
 pub mod Forests
-pub mod FootnoteBodies
 pub mod Section
-pub mod Counted
 pub mod NumberedIds
-pub mod CallNumbers
 pub mod IdsOnce
-pub mod Distinct
-pub mod Prefixes
 pub mod Costs
 pub mod PlainCosts
-pub mod SpecialCosts
 pub mod CountedForest
 pub mod CountedSection
 pub mod Prepared
@@ -49,9 +38,6 @@ pub mod Whole
 pub mod WholeIds
 -- and of what stands in what.
 pub mod Placing
-pub mod ContainedLaid
-pub mod Paragraphs
-pub mod FlowFindings
 pub mod ContainedForests
 pub mod ContainedSection
 pub mod ContainedWhole
@@ -60,34 +46,25 @@ pub mod EscapedCases
 pub mod LineFeeds
 pub mod GoodNames
 pub mod Steps
-pub mod TagNames
 pub mod OneRun
 pub mod TokenTests
-pub mod NoProtocol
 pub mod Schemes
 pub mod SafeTokens
 pub mod PageRuns
 pub mod Tokenized
-pub mod Running
 -- of a text between two others,
 pub mod TextLeads
 pub mod TagLeads
-pub mod Seams
 pub mod ForestLeads
 pub mod Joining
 pub mod Between
-pub mod Cuts
 -- and of tree construction.
 pub mod Lists
 pub mod TreeSteps
 pub mod PhrasingNames
-pub mod FormattingElements
 pub mod PhrasingRules
 pub mod Phrasing
-pub mod TableTexts
-pub mod TableContents
 pub mod Tables
-pub mod FlowBlocks
 pub mod FlowRules
 pub mod Flow
 pub mod WholeTrees

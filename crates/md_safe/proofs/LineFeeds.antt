@@ -1,8 +1,7 @@
 -- What line feeds for line ends leave as it is.
 use Rattle.std.proofs.Common.{◌≡◌, ℕ, ◌==◌, Bool, true, false, not, cond, List, [], ◌∷◌, ◌++◌, refl}
-use Rattle.std.proofs.Common.{ap, ap₂, ◌∙◌}
+use Rattle.std.proofs.Common.{ap₂, ◌∙◌, arith}
 use Rattle.std.specs.List.{list_all}
-use Rattle.std.proofs.lemmas.Bool.{and_parts, and_from, cond_both, not-true}
 use Rattle.md_text.specs.References.{is_escaped}
 use Rattle.md_safe.specs.Input.{begins_with_line_feed, with_line_feeds}
 use Rattle.md_safe.proofs.EscapedCases.{plain-escaped, by_escaped}
@@ -16,13 +15,7 @@ abbrev pub one : ℕ → Bool → List ℕ → List ℕ
 one b feed later = cond (b == 13) (cond feed later (10 ∷ later)) (b ∷ later)
 
 pub one-append : (b : ℕ) (feed : Bool) (x r : List ℕ) → one b feed (x ++ r) ≡ one b feed x ++ r
-one-append b feed x r = by (b == 13) feed
-  where
-    by : (return feed : Bool) → cond return (cond feed (x ++ r) (10 ∷ (x ++ r))) (b ∷ (x ++ r))
-        ≡ cond return (cond feed x (10 ∷ x)) (b ∷ x) ++ r
-    by true true = refl
-    by true false = refl
-    by false feed = refl
+one-append b feed x r = grind arith
 
 begins-append : (x r : List ℕ) → begins_with_line_feed r ≡ false →
     begins_with_line_feed (x ++ r) ≡ begins_with_line_feed x
@@ -40,18 +33,10 @@ line_feeds-append (b ∷ x) r h = ap₂ (one b) (begins-append x r h) (line_feed
 pub line_feeds-name : (name r : List ℕ) → list_all no_return name ≡ true →
     with_line_feeds (name ++ r) ≡ name ++ with_line_feeds r
 line_feeds-name [] r h = refl
-line_feeds-name (b ∷ name) r h =
-    let p = and_parts (no_return b) (list_all no_return name) h in
-    ap (λ c. cond c (cond (begins_with_line_feed (name ++ r)) (with_line_feeds (name ++ r))
-    (10 ∷ with_line_feeds (name ++ r))) (b ∷ with_line_feeds (name ++ r))) (not-true (b == 13) p.0)
-    ∙ ap (λ x. b ∷ x) (line_feeds-name name r p.1)
+line_feeds-name (b ∷ name) r h = grind (arith, line_feeds-name name r)
 
 -- an escaped text stays escaped
 pub line_feeds-escaped : (x : List ℕ) → is_escaped x ≡ true → is_escaped (with_line_feeds x) ≡ true
-line_feeds-escaped x h = by_escaped (λ x. is_escaped (with_line_feeds x) ≡ true) refl
-    (λ b rest plain later. cond_both (b == 13) (cond (begins_with_line_feed rest)
-    (with_line_feeds rest) (10 ∷ with_line_feeds rest)) (b ∷ with_line_feeds rest)
-    (λ v. is_escaped v ≡ true) (λ _. cond_both (begins_with_line_feed rest) (with_line_feeds rest)
-    (10 ∷ with_line_feeds rest) (λ v. is_escaped v ≡ true) (λ _. later) (λ _. later)) (λ _. and_from
-    _ _ (plain-escaped b (with_line_feeds rest) plain) later)) (λ rest later. later)
+line_feeds-escaped x h = by_escaped (λ x. is_escaped (with_line_feeds x) ≡ true) refl (λ b rest
+    plain later. grind (arith, plain-escaped b (with_line_feeds rest) plain)) (λ rest later. later)
     (λ rest later. later) (λ rest later. later) (λ rest later. later) x h

@@ -1,8 +1,8 @@
 -- What stands in a link, where links may stand in links and where not; and none does where a
 -- document has no link in a link.
 use Rattle.std.proofs.Common.{◌≡◌, ◌⊎◌, inl, inr, Bool, true, false, not, ◌&&◌, ◌||◌, cond, refl}
-use Rattle.std.proofs.Common.{sym, ap, ◌∙◌}
-use Rattle.std.proofs.lemmas.Bool.{or_parts, or_left, or_right}
+use Rattle.std.proofs.Common.{sym, ap, ◌∙◌, arith}
+use Rattle.std.proofs.lemmas.Bool.{or_parts, or_left, or_right, cond_both}
 use Rattle.md_base.proofs.Lies.{lie}
 use Rattle.md_base.specs.declared.event.Name.{Name}
 use Rattle.md_base.specs.declared.event.Name.TheVariants.{Image, Link}
@@ -18,6 +18,7 @@ use Rattle.md_safe.proofs.Insides.{is_blocks}
 use Rattle.md_safe.specs.Contents.{Content, Phrasing, Linked}
 use Rattle.md_safe.specs.Links.{prints_link, has_nested_link}
 use Rattle.md_safe.specs.Placed.{place_of, place_inside}
+use Rattle.md_safe.proofs.Cases.{cases}
 
 -- spans without links
 abbrev pub is_linked : Content → Bool
@@ -56,9 +57,7 @@ place-other nested content Link other = lie (sym other)
 place-other nested content _ other = refl
 
 with-without : (content : Content) → with_links (without_links content) ≡ with_links content
-with-without Phrasing = refl
-with-without Linked = refl
-with-without _ = refl
+with-without content = grind arith
 
 -- no place is without links by its name
 place-with : (name : Name) → with_links (place_of name) ≡ place_of name
@@ -67,27 +66,15 @@ place-with _ = refl
 
 pub place-in-with : (nested : Bool) (content : Content) (name : Name) →
     with_links (place_in nested content name) ≡ place_of name
-place-in-with nested content Link = by (is_linked content) nested
-  where
-    by : (linked nested : Bool) → with_links (cond linked Linked (in_link nested)) ≡ Phrasing
-    by true nested = refl
-    by false true = refl
-    by false false = refl
-place-in-with nested content name = by name (is_linked content)
-  where
-    by : (name : Name) (linked : Bool) → with_links (cond linked (without_links (place_of name))
-        (place_of name)) ≡ place_of name
-    by name true = with-without (place_of name) ∙ place-with name
-    by name false = place-with name
+place-in-with nested content Link = grind arith
+place-in-with nested content name = cond_both (is_linked content) (without_links (place_of name))
+    (place_of name) (λ c. with_links c ≡ place_of name) (λ _. with-without (place_of name) ∙
+    place-with name) (λ _. place-with name)
 
 pub inner-place-with : (nested : Bool) (content : Content) (name : Name) →
     with_links (inner_place nested content name) ≡ place_inside (with_links content) name
-inner-place-with nested content name = by (is_transparent name)
-  where
-    by : (through : Bool) → with_links (cond through content (place_in nested content name))
-        ≡ cond through (with_links content) (place_of name)
-    by true = refl
-    by false = place-in-with nested content name
+inner-place-with nested content name = cases (is_transparent name) (λ e. rw e refl)
+    (λ e. rw e (place-in-with nested content name))
 
 -- spans without links stand only in a link, where links don't nest
 abbrev pub IsLinked : Bool → Content → Surroundings → Type 0
@@ -107,82 +94,40 @@ never-linked _ = refl
 linked-place : (nested : Bool) (content : Content) (name : Name) →
     is_linked (place_in nested content name) ≡ true →
     (is_linked content ≡ true) ⊎ ((named Link name ≡ true) × (nested ≡ false))
-linked-place nested content name h = by (named Link name) refl
+linked-place nested content Link h = cases (is_linked content) (λ e. inl e)
+    (λ e. inr (refl, by nested (rw e at h)))
   where
-    own : (linked : Bool) → is_linked content ≡ linked →
-        is_linked (cond linked (without_links (place_of name)) (place_of name)) ≡ true →
-        is_linked content ≡ true
-    own true e h = e
-    own false e h = lie (sym (never-linked name) ∙ h)
-
-    by : (is : Bool) → named Link name ≡ is →
-        (is_linked content ≡ true) ⊎ ((named Link name ≡ true) × (nested ≡ false))
-    by true e = of_link name e h
-      where
-        of_link : (name : Name) → named Link name ≡ true →
-            is_linked (place_in nested content name) ≡ true →
-            (is_linked content ≡ true) ⊎ ((named Link name ≡ true) × (nested ≡ false))
-        of_link Link e h = link (is_linked content) nested refl refl h
-          where
-            link : (linked nested' : Bool) → is_linked content ≡ linked → nested ≡ nested' →
-                is_linked (cond linked Linked (in_link nested')) ≡ true →
-                (is_linked content ≡ true) ⊎ ((named Link Link ≡ true) × (nested ≡ false))
-            link true n e f h = inl e
-            link false true e f h = lie h
-            link false false e f h = inr (refl, f)
-        of_link _ e h = lie e
-    by false e = inl (own (is_linked content) refl
-        (ap is_linked (sym (place-other nested content name e)) ∙ h))
+    by : (nested : Bool) → is_linked (in_link nested) ≡ true → nested ≡ false
+    by nested h = grind (arith, h)
+linked-place nested content name h = cases (is_linked content) (λ e. inl e)
+    (λ e. lie (sym (never-linked name) ∙ (rw e at h)))
 
 pub linked-inside : (nested : Bool) (options : CompileOptions) (loose : Bool) (content : Content)
     (name : Name) (around : Surroundings) → IsLinked nested content around →
     IsLinked nested (inner_place nested content name) (inside options loose name around)
-linked-inside nested options loose content name around linked = by (is_transparent name)
-  where
-    kept : around.in_link ≡ true → (inside options loose name around).in_link ≡ true
-    kept e = inside-link options loose name around ∙ or_right (named Link name) around.in_link e
-
-    by : (through : Bool) → is_linked (cond through content (place_in nested content name)) ≡ true →
-        (nested ≡ false) × ((inside options loose name around).in_link ≡ true)
-    by true h = ((linked h).0, kept (linked h).1)
-    by false h = elim (linked-place nested content name h) [
+linked-inside nested options loose content name around linked h = cases (is_transparent name) (λ e.
+    let l = linked (rw e at h) in (l.0, kept l.1)) (λ e. elim (linked-place nested content name (rw
+    e at h)) [
       | inl e ↦ ((linked e).0, kept (linked e).1)
       | inr e ↦ (
         e.1,
         inside-link options loose name around ∙ or_left (named Link name) around.in_link e.0,
       )
-    ]
+    ])
+  where
+    kept : around.in_link ≡ true → (inside options loose name around).in_link ≡ true
+    kept e = inside-link options loose name around ∙ or_right (named Link name) around.in_link e
 
 -- the parts of a node without a link in a link
 parts : (a b c d : Bool) → (a && b || c && d) ≡ false →
     (c ≡ true → d ≡ false) × (a ≡ true → b ≡ false)
-parts true b c d h = (λ e. second-part b c d e h, λ _. first-part b (c && d) h)
-  where
-    first-part : (b x : Bool) → (b || x) ≡ false → b ≡ false
-    first-part true x h = lie (sym h)
-    first-part false x h = refl
+parts a b c d h = (λ e. grind (arith, h, e), λ e. grind (arith, h, e))
 
-    second-part : (b c d : Bool) → c ≡ true → (b || c && d) ≡ false → d ≡ false
-    second-part true c d e h = lie (sym h)
-    second-part false true d e h = h
-    second-part false false d e h = lie e
-parts false b c d h = (λ e. by c d e h, λ e. lie e)
-  where
-    by : (c d : Bool) → c ≡ true → (c && d) ≡ false → d ≡ false
-    by true d e h = h
-    by false d e h = lie e
-
-unnested-parts : (name : Name) (in_link : Bool) (start end : Point) (children rest : Forest) →
+pub unnested-parts : (name : Name) (in_link : Bool) (start end : Point) (children rest : Forest) →
     has_nested_link in_link (Node name start end children rest) ≡ false → ((in_link && prints_link
     name || not (named Image name) && has_nested_link (named Link name || in_link) children)
     ≡ false) × (has_nested_link in_link rest ≡ false)
 unnested-parts name in_link start end children rest h = or_parts _ _ h
-
-pub unnested-after : (name : Name) (in_link : Bool) (start end : Point) (children rest : Forest) →
-    has_nested_link in_link (Node name start end children rest) ≡ false →
-    has_nested_link in_link rest ≡ false
-unnested-after name in_link start end children rest h =
-    (unnested-parts name in_link start end children rest h).1
 
 no_image : (name : Name) → is_blocks (content_inside Blocks name) ≡ true →
     not (named Image name) ≡ true

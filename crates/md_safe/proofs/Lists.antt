@@ -1,14 +1,13 @@
 -- The list of active formatting elements while phrasing content is built: entries are taken
 -- away from it alone.
-use Rattle.std.proofs.Common.{◌≡◌, ◌⊎◌, inl, inr, ℕ, ◌≤◌, ◌==◌, nat_lt, Bool, true, false, ◌&&◌}
-use Rattle.std.proofs.Common.{◌||◌, cond, List, [], ◌∷◌, refl, sym, ap, ◌∙◌, subst, arith, ne_eqb}
-use Rattle.std.specs.Prelude.{Some, None, bytes_eq}
-use Rattle.std.proofs.lemmas.Bool.{or_right}
+use Rattle.std.proofs.Common.{◌≡◌, ◌⊎◌, inl, inr, ℕ, ◌≤◌, nat_lt, false}
+use Rattle.std.proofs.Common.{cond, List, [], ◌∷◌, refl, sym, subst, arith}
+use Rattle.std.specs.Prelude.{None}
+use Rattle.std.proofs.lemmas.Bool.{or_right, cond_both}
 use Rattle.md_safe.specs.Token.{TokenAttribute}
 use Rattle.md_safe.specs.Node.{Open, Entry, Marker, Formatting}
 use Rattle.md_safe.specs.Stack.{has_identity}
-use Rattle.md_safe.specs.Formatting.{is_open, is_active, are_same, count_same, without_earliest}
-use Rattle.md_safe.specs.Formatting.{last_active}
+use Rattle.md_safe.specs.Formatting.{is_open, is_active, count_same, without_earliest, last_active}
 use Rattle.md_safe.specs.Built.{AreCreated, AreOpen}
 
 -- some formatting elements after the last marker were taken away
@@ -40,14 +39,8 @@ keeps-earliest : (name : List ℕ) (attributes : List TokenAttribute) (xs : List
 keeps-earliest name attributes [] = refl
 keeps-earliest name attributes (Marker ∷ xs) = refl
 keeps-earliest name attributes (Formatting identity other those ∷ xs) =
-    by (bytes_eq other name && are_same those attributes && count_same name attributes xs == 0)
-    (keeps-earliest name attributes xs)
-  where
-    by : (is : Bool) → Keeps xs (without_earliest name attributes xs) →
-        Keeps (Formatting identity other those ∷ xs)
-        (cond is xs (Formatting identity other those ∷ without_earliest name attributes xs))
-    by true later = inl (keeps-all xs)
-    by false later = inr (without_earliest name attributes xs, refl, later)
+    cond_both _ _ _ (Keeps (Formatting identity other those ∷ xs)) (λ _. inl (keeps-all xs))
+    (λ _. inr (without_earliest name attributes xs, refl, keeps-earliest name attributes xs))
 
 -- the rest of the list when an element is pushed
 abbrev pub room : List ℕ → List TokenAttribute → List Entry → List Entry
@@ -56,29 +49,31 @@ room name attributes xs =
 
 pub keeps-room : (name : List ℕ) (attributes : List TokenAttribute) (xs : List Entry) →
     Keeps xs (room name attributes xs)
-keeps-room name attributes xs = by (nat_lt 2 (count_same name attributes xs))
-  where
-    by : (full : Bool) → Keeps xs (cond full (without_earliest name attributes xs) xs)
-    by true = keeps-earliest name attributes xs
-    by false = keeps-all xs
+keeps-room name attributes xs =
+    cond_both _ _ _ (Keeps xs) (λ _. keeps-earliest name attributes xs) (λ _. keeps-all xs)
+
+-- what holds of a list and of what follows its first entry, and of that entry before any list of
+-- which it holds, holds when entries are taken away
+keeps-each : (P : List Entry → Type 0) → ((identity : ℕ) (name : List ℕ)
+    (attributes : List TokenAttribute) (xs ys : List Entry) →
+    P (Formatting identity name attributes ∷ xs) →
+    P xs × (P ys → P (Formatting identity name attributes ∷ ys))) →
+    (xs ys : List Entry) → P xs → Keeps xs ys → P ys
+keeps-each P step [] ys o a = subst P (sym a) o
+keeps-each P step (Marker ∷ xs) ys o a = subst P (sym a) o
+keeps-each P step (Formatting identity name attributes ∷ xs) ys o (inl a) =
+    keeps-each P step xs ys (step identity name attributes xs ys o).0 a
+keeps-each P step (Formatting identity name attributes ∷ xs) ys o (inr a) =
+    let parts = step identity name attributes xs a.0 o in
+    subst P (sym a.1) (parts.1 (keeps-each P step xs a.0 parts.0 a.2))
 
 pub keeps-open : (stack : List Open) (xs ys : List Entry) → AreOpen stack xs →
     Keeps xs ys → AreOpen stack ys
-keeps-open stack [] ys o a = subst (AreOpen stack) (sym a) tt
-keeps-open stack (Marker ∷ xs) ys o a = subst (AreOpen stack) (sym a) tt
-keeps-open stack (Formatting identity name attributes ∷ xs) ys o (inl a) =
-    keeps-open stack xs ys o.1 a
-keeps-open stack (Formatting identity name attributes ∷ xs) ys o (inr a) =
-    subst (AreOpen stack) (sym a.1) (o.0, keeps-open stack xs a.0 o.1 a.2)
+keeps-open stack = keeps-each (AreOpen stack) (λ i n t xs ys o. (o.1, λ h. (o.0, h)))
 
 pub keeps-created : (created : ℕ) (xs ys : List Entry) → AreCreated created xs → Keeps xs ys →
     AreCreated created ys
-keeps-created created [] ys o a = subst (AreCreated created) (sym a) tt
-keeps-created created (Marker ∷ xs) ys o a = subst (AreCreated created) (sym a) o
-keeps-created created (Formatting identity name attributes ∷ xs) ys o (inl a) =
-    keeps-created created xs ys o.1 a
-keeps-created created (Formatting identity name attributes ∷ xs) ys o (inr a) =
-    subst (AreCreated created) (sym a.1) (o.0, keeps-created created xs a.0 o.1 a.2)
+keeps-created created = keeps-each (AreCreated created) (λ i n t xs ys o. (o.1, λ h. (o.0, h)))
 
 pub later-created : (created more : ℕ) (xs : List Entry) → created ≤ more →
     AreCreated created xs → AreCreated more xs
@@ -93,8 +88,7 @@ pub not-active : (created : ℕ) (xs : List Entry) → AreCreated created xs →
 not-active created [] o = refl
 not-active created (Marker ∷ xs) o = not-active created xs o
 not-active created (Formatting identity name attributes ∷ xs) o =
-    ap (λ b. b || is_active created xs) (ne_eqb created identity (λ e. omega
-    (e, o.0, arith))) ∙ not-active created xs o.1
+    grind (arith, o.0, not-active created xs o.1)
 
 -- what is open stays open under another element
 pub open-under : (node : Open) (stack : List Open) (xs : List Entry) → AreOpen stack xs →
@@ -109,20 +103,5 @@ open-under node stack (Formatting identity name attributes ∷ xs) o = (
 -- where no element of a name is active, none is when entries are taken away
 pub keeps-none : (name : List ℕ) (xs ys : List Entry) → last_active name xs ≡ None → Keeps xs ys →
     last_active name ys ≡ None
-keeps-none name [] ys n a = ap (last_active name) a
-keeps-none name (Marker ∷ xs) ys n a = ap (last_active name) a
-keeps-none name (Formatting identity other attributes ∷ xs) ys n (inl a) =
-    keeps-none name xs ys (by (bytes_eq other name) n) a
-  where
-    by : (is : Bool) → cond is (Some identity) (last_active name xs) ≡ None →
-        last_active name xs ≡ None
-    by true e = cc
-    by false e = e
-keeps-none name (Formatting identity other attributes ∷ xs) ys n (inr a) =
-    ap (last_active name) a.1 ∙ by (bytes_eq other name) n (λ e. keeps-none name xs a.0 e a.2)
-  where
-    by : (is : Bool) → cond is (Some identity) (last_active name xs) ≡ None →
-        (last_active name xs ≡ None → last_active name a.0 ≡ None) →
-        cond is (Some identity) (last_active name a.0) ≡ None
-    by true e later = cc
-    by false e later = later e
+keeps-none name = keeps-each (λ xs. last_active name xs ≡ None)
+    (λ i other t xs ys n. (grind (arith, n), λ h. grind (arith, n, h)))

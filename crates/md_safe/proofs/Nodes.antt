@@ -1,8 +1,7 @@
 -- A node of any content, before what is printed after it: the step of the induction
 -- in `Forests.antt`.
-use Rattle.std.proofs.Common.{◌≡◌, ℕ, Bool, true, false, not, ◌&&◌, ◌||◌, cond, List, [], ◌++◌}
-use Rattle.std.proofs.Common.{refl, sym, ap, ◌∙◌, subst, inl, inr, append-nil, codes}
-use Rattle.std.proofs.lemmas.Bool.{and_from}
+use Rattle.std.proofs.Common.{◌≡◌, ℕ, Bool, true, false, not, ◌||◌, cond, List, [], ◌++◌}
+use Rattle.std.proofs.Common.{refl, ap, inl, inr, append-nil, codes}
 use Rattle.md_base.proofs.Lies.{lie}
 use Rattle.md_base.specs.declared.event.Name.{Name}
 use Rattle.md_base.specs.declared.event.Name.TheVariants as name_variants
@@ -19,15 +18,13 @@ use Rattle.md_content.specs.Built.{Content, Blocks, Spans, Strings, FirstFence, 
 use Rattle.md_content.specs.Built.{Chunks, InfoAndMeta, MetaAlone, Done, Nothing, Sources, is_part}
 use Rattle.md_content.specs.Built.{is_source, is_autolink, may_stand, content_of, content_past}
 use Rattle.md_content.specs.Built.{content_after, IsBuilt}
-use Rattle.md_steps.proofs.Standing.{picked}
-use Rattle.md_safe.proofs.Cases.{either}
+use Rattle.md_safe.proofs.Cases.{either, cases}
 use Rattle.md_safe.proofs.Texts.{Escaped}
 use Rattle.md_safe.proofs.Laid.{adds-append, adds-text, adds-nothing, adds-weaker, adds-any}
 use Rattle.md_safe.proofs.Elements.{IsDone}
-use Rattle.md_safe.proofs.Contents.{Holds, Suits, Follows, holds-nothing}
-use Rattle.md_safe.proofs.Insides.{is_blocks}
-use Rattle.md_safe.proofs.Following.{second}
-use Rattle.md_safe.proofs.LaterFences.{later-inside}
+use Rattle.md_safe.proofs.Contents.{Holds, Follows, holds-nothing}
+use Rattle.md_safe.proofs.Insides.{is_blocks, Suits}
+use Rattle.md_safe.proofs.Following.{second, later-inside}
 use Rattle.md_safe.proofs.Spot.{IsWhole, Setting, IsFitAt, IsGoodTarget, Here, Prints, Inside}
 use Rattle.md_safe.proofs.StringNodes.{string-node, is_text, text-node}
 use Rattle.md_safe.proofs.SpanNodes.{is_shown, shown-in_image, autolink-in_image}
@@ -44,26 +41,25 @@ span-sorts SpaceOrTab = refl
 span-sorts _ = refl
 
 -- in the latter spans stand
-silent-spans : (name : Name) →
-    cond (is_silent name && may_stand Spans name) (content_of name Spans) Spans ≡ Spans
-silent-spans SpaceOrTab = refl
-silent-spans _ = refl
+silent-spans : (name : Name) → is_silent name ≡ true → may_stand Spans name ≡ true →
+    content_of name Spans ≡ Spans
+silent-spans SpaceOrTab is stands = lie stands
+silent-spans _ is stands = cc
 
 span-any : (s : Setting) (t : At) (name : Name) → Suits t.around.is_escaping t.around.in_image
     Spans → may_stand Spans name ≡ true → IsFitAt s t name → (inner : List Piece) →
     Inside s t Spans name inner → Prints s Escaped (prints s.context t name inner)
 span-any s t name suits stands fit inner a =
-    let sorts = subst (λ b. not b || (is_hidden name || (is_silent name || (is_text name
-    || (is_shown name || (is_leaf name || is_autolink name))))) ≡ true) stands (span-sorts name) in
-    either _ _ sorts (λ is. subst (Prints s Escaped) (sym (hidden-prints s.context t name is inner))
-    (adds-nothing refl)) (λ c. either _ _ c (λ is. subst (Prints s Escaped)
-    (sym (silent-prints s.context t name is inner)) (inside-is s t Spans Spans name inner (picked
-    (is_silent name && may_stand Spans name) (content_of name Spans) Spans (silent-spans name)
-    (and_from _ _ is stands)) a)) (λ c. either _ _ c (λ is. text-node s t Escaped name
-    (λ x h. h suits.0) is fit inner) (λ c. either _ _ c
-    (λ is. shown-in_image s t name suits.0 suits.1 is inner a) (λ c. either _ _ c
-    (λ is. leaf-escaped s t name suits.0 is fit inner)
-    (λ is. autolink-in_image s t name suits.1 is inner)))))
+    let e = suits.escaped refl in
+    let image = suits.image refl in
+    either _ _ (rw stands at (span-sorts name))
+    (λ is. rw (hidden-prints s.context t name is inner) (adds-nothing refl)) (λ c. either _ _ c
+    (λ is. rw (silent-prints s.context t name is inner)
+    (inside-is s t Spans Spans name inner (silent-spans name is stands) a)) (λ c. either _ _ c
+    (λ is. text-node s t Escaped name (λ x h. h e) is fit inner) (λ c. either _ _ c
+    (λ is. shown-in_image s t name e image is inner a) (λ c. either _ _ c
+    (λ is. leaf-escaped s t name e is fit inner)
+    (λ is. autolink-in_image s t name image is inner)))))
 
 -- the info string
 info-node : (s : Setting) (escaping : Bool) {inner rest : List Piece} → escaping ≡ true →
@@ -71,10 +67,13 @@ info-node : (s : Setting) (escaping : Bool) {inner rest : List Piece} → escapi
     (IsInfo code_tag) ((said (codes " class=\"language-") ++ (inner ++ said (codes "\""))) ++ rest)
 info-node s escaping e a b = adds-append
     {f = λ w. (v : List ℕ) × (w ≡ codes " class=\"language-" ++ (v ++ codes "\"")) × Escaped v}
-    (λ x y f g. subst (IsInfo code_tag) (sym (ap (λ y. x ++ y) g ∙ append-nil x ∙ f.1))
-    (inr (f.0, refl, f.2, refl))) (adds-append {f = λ x. x ≡ codes " class=\"language-"}
-    {g = λ w. (v : List ℕ) × (w ≡ v ++ codes "\"") × Escaped v} (λ x w f g.
-    (g.0, ap (λ x. x ++ w) f ∙ ap (λ w. codes " class=\"language-" ++ w) g.1, g.2)) (adds-text refl)
+    {g = IsNil} (λ x y f g. rw (g, append-nil, f.1) (inr (f.0, refl, f.2, refl))) (adds-append {f =
+    λ x. x ≡ codes " class=\"language-"}
+    {g = λ w. (v : List ℕ) × (w ≡ v ++ codes "\"") × Escaped v} (λ x w f g. (
+      g.0,
+      rw (f, g.1) refl,
+      g.2,
+    )) (adds-text refl)
     (adds-append (λ v y f g. (v, ap (λ y. v ++ y) g, f e)) a
     (adds-text {f = λ x. x ≡ codes "\""} refl))) b
 
@@ -101,8 +100,8 @@ meta-node s t _ is inner rest b = lie is
 -- the mark of a task that is done
 checked : (s : Setting) (in_image : Bool) {rest : List Piece} → Prints s IsNil rest →
     Prints s (IsDone in_image) (when (not in_image) (said (codes "checked=\"\" ")) ++ rest)
-checked s in_image b = adds-append (λ x y f g. subst (IsDone in_image)
-    (sym (ap (λ y. x ++ y) g ∙ append-nil x)) f) (by in_image) b
+checked s in_image b =
+    adds-append {f = IsDone in_image} {g = IsNil} (λ x y f g. rw (g, append-nil) f) (by in_image) b
   where
     by : (in_image : Bool) → Prints s
         (IsDone in_image) (when (not in_image) (said (codes "checked=\"\" ")))
@@ -138,8 +137,8 @@ pub solid-node : (s : Setting) (t : At) (content : Content) (name : Name) →
     (Here s t content) (prints s.context t name inner ++ rest)
 solid-node s t Blocks name solid stands k inner rest a b = adds-append (k.whole refl).both
     (block-node s t name solid (not_part (is_part name || is_source name) stands) inner (record {
-      escaping = k.suits.0;
-      outside = k.suits.1;
+      escaping = k.suits.escaped refl;
+      outside = k.suits.outside refl;
       fit = k.fit;
       resource = k.resource;
       ids = λ _. (k.whole refl).ids;
@@ -157,8 +156,8 @@ solid-node s t FirstMathFence name solid stands k inner rest a b = math_fence-no
     k.follows stands inner rest a b
 solid-node s t Chunks name solid stands k inner rest a b = adds-append escaped-append
     (line-node s t name k.follows stands k.fit inner a) b
-solid-node s t InfoAndMeta name solid stands k inner rest a b = info_or_meta-node s t name k.suits
-    stands inner rest a b
+solid-node s t InfoAndMeta name solid stands k inner rest a b = info_or_meta-node s t name
+    (k.suits.escaped refl) stands inner rest a b
 solid-node s t MetaAlone name solid stands k inner rest a b = meta-node s t name stands inner rest b
 solid-node s t Done name solid stands k inner rest a b = done-node s t name stands inner rest b
 solid-node s t Nothing name solid stands k inner rest a b = lie stands
@@ -191,14 +190,9 @@ pub inside-alone : (s : Setting) (t : At) (content : Content) (name : Name) →
     (content_of name content) t.children → (inner : List Piece) →
     Before s t (content_of name content) name inner → Inside s t content name inner
 inside-alone s t content name stands fit built inner a =
-    let around = inside s.context.options (is_loose t.children) name t.around in
-    let here = Holds s.p around.is_escaping around.in_image (content_of name content) in
-    let after = Holds s.p around.is_escaping around.in_image
-    (content_after (content_of name content) t.children) in
-    subst (Prints s here) (append-nil inner) (a [] (adds-nothing (holds-nothing s.p
-    around.is_escaping around.in_image (content_after (content_of name content) t.children)
-    (later-inside s.context.bytes content name t.place.start t.place.end t.children stands fit
-    built))))
+    let later = later-inside s.context.bytes content name t.place.start t.place.end t.children
+    stands fit built in
+    rw (append-nil inner) at (a [] (adds-nothing (holds-nothing s.p _ _ _ later)))
 
 -- a node, and what is printed after it
 pub any-node : (s : Setting) (t : At) (content : Content) (name : Name) →
@@ -208,14 +202,8 @@ pub any-node : (s : Setting) (t : At) (content : Content) (name : Name) →
     (content_of name content)) name inner → Prints s (Here s t (cond (is_transparent name)
     (content_after content t.children) (content_past content name))) rest →
     Prints s (Here s t content) (prints s.context t name inner ++ rest)
-any-node s t content name stands k inner rest = by (is_transparent name) refl
-  where
-    by : (through : Bool) → is_transparent name ≡ through → IsBuilt s.context.bytes
-        (cond through content (content_of name content)) t.children →
-        Before s t (cond through content (content_of name content)) name inner → Prints s (Here s t
-        (cond through (content_after content t.children) (content_past content name))) rest →
-        Prints s (Here s t content) (prints s.context t name inner ++ rest)
-    by true e built a b = through-node s t _ _ e _ _ a b
-    by false e built a b =
-        let may : may_stand content name ≡ true = second _ _ e stands in
-        solid-node s t _ _ e may k _ _ (inside-alone s t _ _ may k.fit built _ a) b
+any-node s t content name stands k inner rest built a b = cases (is_transparent name)
+    (λ e. through-node s t content name e inner rest (rw e at a) (rw e at b)) (λ e.
+    let may : may_stand content name ≡ true = second _ _ e stands in
+    solid-node s t content name e may k inner rest (inside-alone s t content name may k.fit (rw e at
+    built) inner (rw e at a)) (rw e at b))

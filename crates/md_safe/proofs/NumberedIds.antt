@@ -1,14 +1,15 @@
--- Ids by number: which number each has is read back of it.
+-- Ids by number: which number each has is read back of it. The numbers of calls and their
+-- occurrences determine them, and so do their ids.
 use Rattle.std.proofs.Common.{◌≡◌, ℕ, ◌<◌, ◌^◌, ◌==◌, ◌/◌, ◌%◌, zero, suc, true, false, not, ◌&&◌}
-use Rattle.std.proofs.Common.{cond, List, [], ◌∷◌, ◌++◌, refl, sym, ap, ◌∙◌, subst, arith}
-use Rattle.std.proofs.Common.{append_assoc, codes}
-use Rattle.std.specs.Prelude.{Option, Some, None}
+use Rattle.std.proofs.Common.{cond, List, [], ◌∷◌, ◌++◌, refl, sym, ap, ◌∙◌, arith, append_assoc}
+use Rattle.std.proofs.Common.{codes, ◌+◌, ◌≤◌, Bool, ◌||◌, length, append-nil, bytes_eq}
+use Rattle.std.specs.Prelude.{Option, Some, None, filter}
 use Rattle.std.specs.Option.{option_map_or}
 use Rattle.std.specs.List.{list_all}
 use Rattle.std.specs.Fmt.{decimal, digits, digits_onto, digit_glyph}
-use Rattle.std.proofs.lemmas.Bool.{and_parts, and_from, cond_both}
+use Rattle.std.proofs.lemmas.Bool.{and_parts, and_from, cond_both, cond_both, or_right}
 use Rattle.std.proofs.lemmas.Fmt.{decimal_injective}
-use Rattle.std.proofs.lemmas.List.{append_cancel_left}
+use Rattle.std.proofs.lemmas.List.{append_cancel_left, length-append}
 use Rattle.std.proofs.lemmas.List.Folds.{list_all-append}
 use Rattle.md_base.proofs.Lies.{lie}
 use Rattle.md_text.specs.Encode.{encoded}
@@ -17,13 +18,14 @@ use Rattle.md_text.proofs.EncodeLaws.{read_back-before, read_back-other}
 use Rattle.md_text.proofs.HtmlSplit.{split}
 use Rattle.md_text.specs.declared.options.CompileOptions.{CompileOptions}
 use Rattle.md_text.specs.Url.{sanitized}
-use Rattle.md_meaning.specs.Meaning.Footnotes.{id_of, call_id}
+use Rattle.md_meaning.specs.Meaning.Footnotes.{id_of, call_id, distinct, place_among, count_of}
 use Rattle.md_content.specs.Built.{is_digit}
 use Rattle.md_safe.proofs.Cases.{all-weaker}
 use Rattle.md_safe.specs.Apart.{prefix_of}
 use Rattle.md_safe.proofs.Calls.{prefix_given, id_prefix}
 use Rattle.md_safe.proofs.Texts.{digit-plain, glyph-digit, decimal-digits}
 use Rattle.md_text.proofs.ProtocolLemmas.{no_and}
+use Rattle.md_meaning.proofs.Identifiers.{is_in, same, itself, is_in-distinct}
 
 -- ---- what decimal writes
 
@@ -61,23 +63,13 @@ last-append (b ∷ []) (c ∷ y) h = h
 last-append (b ∷ c ∷ x) y h = last-append (c ∷ x) y h
 
 -- ---- what is read back
-digit-no_and : (b : ℕ) → is_digit b ≡ true → no_and b ≡ true
-digit-no_and b h = (and_parts _ _ (digit-plain b h)).1
-
 digits-no_and : (x : List ℕ) → list_all is_digit x ≡ true → list_all no_and x ≡ true
-digits-no_and x h = all-weaker is_digit no_and digit-no_and x h
+digits-no_and = all-weaker is_digit no_and (λ b h. (and_parts _ _ (digit-plain b h)).1)
 
 -- a text without `&` is read back as it is
 plain-back : (x : List ℕ) → list_all no_and x ≡ true → read_back x ≡ x
 plain-back [] h = refl
-plain-back (b ∷ x) h =
-    let parts = and_parts (not (b == 38)) (list_all no_and x) h in
-    read_back-other b x (λ e. lie (subst (λ b. not (b == 38) ≡ true) e parts.0))
-    ∙ ap (λ y. b ∷ y) (plain-back x parts.1)
-
-no_and-append : (x y : List ℕ) → list_all no_and x ≡ true → list_all no_and y ≡ true →
-    list_all no_and (x ++ y) ≡ true
-no_and-append x y h g = list_all-append no_and x y ∙ and_from _ _ h g
+plain-back (b ∷ x) h = grind (arith, read_back-other b x, plain-back x)
 
 -- the prefix, read back
 abbrev pub back_prefix : CompileOptions → List ℕ
@@ -127,8 +119,9 @@ call-back options on identifier number occurrence =
     (append_assoc prefix (codes "fnref-" ++ decimal number) (45 ∷ decimal occurrence))
     ∙ prefix-back options (call_tail number occurrence)
     ∙ ap (λ x. back_prefix options ++ x) (plain-back (call_tail number occurrence)
-    (no_and-append (decimal number) (45 ∷ decimal occurrence) (digits-no_and (decimal number)
-    (decimal-digits number)) (digits-no_and (decimal occurrence) (decimal-digits occurrence))))
+    (list_all-append no_and (decimal number) (45 ∷ decimal occurrence)
+    ∙ and_from _ _ (digits-no_and (decimal number) (decimal-digits number))
+    (digits-no_and (decimal occurrence) (decimal-digits occurrence))))
 
 -- equal ids have equal numbers
 pub same-note : (options : CompileOptions) (n m : ℕ) → n < 2 ^ 64 → m < 2 ^ 64 →
@@ -159,7 +152,7 @@ note-no_call options n m k e =
     cc tails
 
 pub label-no_digit : (x : List ℕ) → codes "footnote-label" ≡ x → EndsInDigit x → ⊥
-label-no_digit x e ends = lie (subst EndsInDigit (sym e) ends)
+label-no_digit x e ends = lie (rw (sym e) at ends)
 
 pub note-ends : (options : CompileOptions) (n : ℕ) →
     EndsInDigit (back_prefix options ++ note_tail n)
@@ -172,3 +165,102 @@ call-ends options n k =
     last-append (back_prefix options) (call_tail n k)
     (last-append (codes "fnref-") (decimal n ++ (45 ∷ decimal k))
     (last-append (decimal n) (45 ∷ decimal k) (last-append (45 ∷ []) (decimal k) (decimal-ends k))))
+
+place-first : (xs : List (List ℕ)) (x : List ℕ) → 1 ≤ place_among xs x
+place-first [] x = omega arith
+place-first (y ∷ ys) x = grind arith
+
+-- positions determine identifiers
+pub same-place : (xs : List (List ℕ)) (x y : List ℕ) → is_in x xs ≡ true →
+    place_among xs x ≡ place_among xs y → x ≡ y
+same-place [] x y h e = lie h
+same-place (z ∷ zs) x y h e =
+    grind (arith, same z x, same z y, place-first zs x, place-first zs y, same-place zs x y)
+
+pub is_in-middle : (xs ys : List (List ℕ)) (x : List ℕ) → is_in x (xs ++ x ∷ ys) ≡ true
+is_in-middle [] ys x = ap (λ b. b || is_in x ys) (itself x)
+is_in-middle (z ∷ zs) ys x = or_right (bytes_eq z x) _ (is_in-middle zs ys x)
+
+count-append : (xs ys : List (List ℕ)) (x : List ℕ) → count_of (xs ++ ys) x ≡ count_of xs x
+    + count_of ys x
+count-append [] ys x = omega arith
+count-append (z ∷ zs) ys x = omega (count-append zs ys x, arith)
+
+count-middle : (xs ys : List (List ℕ)) (x : List ℕ) → suc (count_of xs x) ≤ count_of
+    (xs ++ x ∷ ys) x
+count-middle xs ys x = grind (arith, itself x, count-append xs (x ∷ ys) x)
+
+-- two calls have another number, or another occurrence
+calls-differ : (all before mid : List (List ℕ)) (x y : List ℕ) → is_in x all ≡ true →
+    place_among (distinct all) x ≡ place_among (distinct all) y →
+    suc (count_of before x) ≡ suc (count_of (before ++ x ∷ mid) y) → ⊥
+calls-differ all before mid x y among numbers occurrences =
+    let one : x ≡ y = same-place (distinct all) x y (is_in-distinct all x ∙ among) numbers in
+    let counted : count_of before x ≡ count_of (before ++ x ∷ mid) x =
+    omega (occurrences, arith) ∙ ap (λ z. count_of (before ++ x ∷ mid) z) (sym one) in
+    omega (counted, count-middle before mid x, arith)
+
+-- numbers and occurrences are no greater than the calls are many, and one
+place-last : (xs : List (List ℕ)) (x : List ℕ) → place_among xs x ≤ suc (length xs)
+place-last [] x = omega arith
+place-last (y ∷ ys) x = grind (arith, place-last ys x)
+
+count-last : (xs : List (List ℕ)) (x : List ℕ) → count_of xs x ≤ length xs
+count-last [] x = omega arith
+count-last (y ∷ ys) x = grind (arith, count-last ys x)
+
+filter-fewer : (p : List ℕ → Bool) (xs : List (List ℕ)) → length (filter p xs) ≤ length xs
+filter-fewer p [] = omega arith
+filter-fewer p (x ∷ xs) = grind (arith, filter-fewer p xs)
+
+pub distinct-fewer : (calls : List (List ℕ)) → length (distinct calls) ≤ length calls
+distinct-fewer [] = omega arith
+distinct-fewer (call ∷ calls) =
+    let fewer = filter-fewer (λ other. not (bytes_eq other call)) (distinct calls) in
+    omega (fewer, distinct-fewer calls, arith)
+
+pub number-bound : (all : List (List ℕ)) (x : List ℕ) →
+    place_among (distinct all) x ≤ suc (length all)
+number-bound all x = omega (place-last (distinct all) x, distinct-fewer all, arith)
+
+-- the id of a call after others, its references read back; `all` are all calls
+abbrev pub id_after : CompileOptions → List (List ℕ) → List (List ℕ) → List ℕ → List ℕ
+id_after options all before identifier = read_back (call_id options identifier
+    (place_among (distinct all) identifier) (suc (count_of before identifier)))
+
+-- the ids of some calls after others
+abbrev pub ids_after : CompileOptions → List (List ℕ) → List (List ℕ) →
+    List (List ℕ) → List (List ℕ)
+ids_after options all before [] = []
+ids_after options all before (identifier ∷ calls) =
+    id_after options all before identifier
+    ∷ ids_after options all (before ++ (identifier ∷ [])) calls
+
+pub ids-append : (options : CompileOptions) (all before xs ys : List (List ℕ)) →
+    ids_after options all before (xs ++ ys)
+    ≡ ids_after options all before xs ++ ids_after options all (before ++ xs) ys
+ids-append options all before [] ys = ap (λ b. ids_after options all b ys) (sym (append-nil before))
+ids-append options all before (x ∷ xs) ys =
+    ap (λ ids. id_after options all before x ∷ ids)
+    (ids-append options all (before ++ (x ∷ [])) xs ys
+    ∙ ap (λ b. ids_after options all (before ++ (x ∷ [])) xs ++ ids_after options all b ys)
+    (append_assoc before (x ∷ []) xs))
+
+-- a later call has another id
+pub ids-differ : (options : CompileOptions) → options.gfm_footnote_number_ids ≡ true →
+    (all before mid : List (List ℕ)) (x y : List ℕ) → is_in x all ≡ true → length all + 1 < 2 ^ 64 →
+    length (before ++ x ∷ mid) + 1 < 2 ^ 64 → id_after options all (before ++ x ∷ mid) y ≡ id_after
+    options all before x → ⊥
+ids-differ options on all before mid x y among few small e =
+    let n : ℕ = place_among (distinct all) x in
+    let k : ℕ = suc (count_of before x) in
+    let m : ℕ = place_among (distinct all) y in
+    let l : ℕ = suc (count_of (before ++ x ∷ mid) y) in
+    let fewer : length before ≤ length (before ++ x ∷ mid) = omega
+    (length-append before (x ∷ mid), arith) in
+    let tails : back_prefix options ++ call_tail n k ≡ back_prefix options ++ call_tail m l = sym
+    (call-back options on x n k) ∙ sym e ∙ call-back options on y m l in
+    let parts = same-call options _ _ _ _ (omega (number-bound all x, few, arith))
+    (omega (number-bound all y, few, arith)) (omega (count-last before x, fewer, small, arith))
+    (omega (count-last (before ++ x ∷ mid) y, small, arith)) tails in
+    calls-differ all before mid x y among parts.0 parts.1

@@ -5,16 +5,10 @@ use Rattle.md_safe.specs.Token.{Token}
 use Rattle.md_safe.specs.TokenizerStates.{State, Step, Goes, Stops, Stuck}
 use Rattle.md_safe.specs.Tokenizer.{run, after_step, IsRun}
 
-pub map_none : (out x : List Token) → option_map (λ later. out ++ later) None ≡ Some x → ⊥
-map_none out x e = cc
-
 pub map_some : (out : List Token) (o : Option (List Token)) (x : List Token) →
     option_map (λ later. out ++ later) o ≡ Some x → (y : List Token) × (o ≡ Some y) × (x ≡ out ++ y)
-map_some out None x e = absurd (map_none out x e)
-map_some out (Some y) x e = (y, refl, part (out ++ y) x e)
-  where
-    part : (y x : List Token) → Some y ≡ Some x → x ≡ y
-    part y x e = cc
+map_some out None x e = absurd (cc e)
+map_some out (Some y) x e = (y, refl, cc)
 
 same_after : (n m : ℕ) → ((state : State) (input : List ℕ) (x y : List Token) → run n state input
     ≡ Some x → run m state input ≡ Some y → x ≡ y) → (s : Step) (x y : List Token) →

@@ -1,10 +1,10 @@
 -- A page's document: its fixed parts by computing, its title character by character, and its
 -- body as it is built.
-use Rattle.std.proofs.Common.{◌≡◌, ℕ, ◌==◌, Bool, true, false, not, cond, List, [], ◌∷◌, ◌++◌, refl}
+use Rattle.std.proofs.Common.{◌≡◌, ℕ, ◌==◌, true, false, List, [], ◌∷◌, ◌++◌, refl}
 use Rattle.std.proofs.Common.{ap, ◌∙◌, map, codes}
 use Rattle.std.specs.Prelude.{Option, Some, None, is_some, option_and_then}
 use Rattle.std.specs.List.{list_all}
-use Rattle.std.proofs.lemmas.Bool.{and_parts}
+use Rattle.std.proofs.lemmas.Bool.{and_parts, not-true}
 use Rattle.md_base.proofs.Lies.{lie}
 use Rattle.md_text.specs.Html.{Forest, is_forest}
 use Rattle.md_safe.specs.Token.{Token, Doctype, Character, StartTag, EndTag, EndOfFile}
@@ -18,41 +18,33 @@ use Rattle.md_safe.specs.Built.{at, open_at, put, with_characters, IsPlace, Buil
 use Rattle.md_safe.specs.Page.{constructed, document_of, page_document}
 use Rattle.md_safe.proofs.TreeSteps.{after-one, is_character}
 use Rattle.md_safe.proofs.WholeTrees.{forest-built, reading-texts}
+use Rattle.md_safe.proofs.Steps.{past}
 
--- tokens that lead from one parser to another are no doctype and no end of file
-constructed-runs : (doctype : Option (List ℕ)) (p q : Parser) (xs ys : List Token) →
+pub constructed-after : (doctype : Option (List ℕ)) (p q : Parser) (xs ys : List Token) →
     run p xs ≡ Some q →
-    constructed doctype p (xs ++ ys)
-    ≡ option_and_then (λ next. constructed doctype next ys) (run p xs)
-constructed-runs doctype p q [] ys e = refl
-constructed-runs doctype p q (x ∷ xs) ys e =
-    by x (λ next e. constructed-runs doctype next q xs ys e) e
+    constructed doctype p (xs ++ ys) ≡ constructed doctype q ys
+constructed-after doctype p q [] ys e =
+    ap (λ r. option_and_then (λ next. constructed doctype next ys) r) e
+constructed-after doctype p q (x ∷ xs) ys e =
+    by x (λ next e. constructed-after doctype next q xs ys e) e
   where
     Later : Type 0
-    Later = (next : Parser) → run next xs ≡ Some q → constructed doctype next (xs ++ ys)
-        ≡ option_and_then (λ next. constructed doctype next ys) (run next xs)
+    Later = (next : Parser) → run next xs ≡ Some q →
+        constructed doctype next (xs ++ ys) ≡ constructed doctype q ys
 
     go : (next : Option Parser) → Later → option_and_then (λ next. run next xs) next ≡ Some q →
-        option_and_then (λ next. constructed doctype next (xs ++ ys)) next
-        ≡ option_and_then (λ next. constructed doctype next ys)
-        (option_and_then (λ next. run next xs) next)
-    go None later e = refl
+        option_and_then (λ next. constructed doctype next (xs ++ ys)) next ≡ constructed doctype q
+        ys
+    go None later e = absurd (cc e)
     go (Some next) later e = later next e
 
-    by : (x : Token) → Later → run p (x ∷ xs) ≡ Some q → constructed doctype p (x ∷ (xs ++ ys))
-        ≡ option_and_then (λ next. constructed doctype next ys) (run p (x ∷ xs))
+    by : (x : Token) → Later → run p (x ∷ xs) ≡ Some q →
+        constructed doctype p (x ∷ (xs ++ ys)) ≡ constructed doctype q ys
     by (Doctype name) later e = lie (ap is_some e)
     by EndOfFile later e = lie (ap is_some e)
     by (Character byte) later e = go (step p (Character byte)) later e
     by (StartTag name attributes flag) later e = go (step p (StartTag name attributes flag)) later e
     by (EndTag name) later e = go (step p (EndTag name)) later e
-
-pub constructed-after : (doctype : Option (List ℕ)) (p q : Parser) (xs ys : List Token) →
-    run p xs ≡ Some q →
-    constructed doctype p (xs ++ ys) ≡ constructed doctype q ys
-constructed-after doctype p q xs ys e =
-    constructed-runs doctype p q xs ys e
-    ∙ ap (λ r. option_and_then (λ next. constructed doctype next ys) r) e
 
 -- characters in "text"
 text-says : (mode : Mode) (bytes : List ℕ) (node : Open) (others : List Open) (active : List Entry)
@@ -65,15 +57,8 @@ text-says mode (byte ∷ bytes) node others active created h =
     let next : Open = record node { children = with_character node.children byte } in
     after-one (at (InText mode) (node ∷ others) active created)
     (at (InText mode) (next ∷ others) active created) (Character byte) (map Character bytes)
-    (by (byte == 0) parts.0) ∙ text-says mode bytes next others active created parts.1
-  where
-    by : (nul : Bool) → not nul ≡ true → cond nul None (Some (at (InText mode) (record node {
-      children = with_character node.children byte;
-    } ∷ others) active created)) ≡ Some (at (InText mode) (record node {
-      children = with_character node.children byte;
-    } ∷ others) active created)
-    by true h = lie h
-    by false h = refl
+    (past _ (not-true (byte == 0) parts.0) refl)
+    ∙ text-says mode bytes next others active created parts.1
 
 -- the body and its ancestors, after a title of these characters
 abbrev pub root_at : List ℕ → Open
@@ -86,15 +71,7 @@ abbrev pub body_at : Nodes → Open
 body_at nodes = open_at 4 (codes "body") nodes
 
 pub body-place : (title : List ℕ) → IsPlace InBody (body_at NoNode) (root_at title ∷ []) [] 5
-body-place title = record {
-  body = refl;
-  none_active = refl;
-  made = tt;
-  no_paragraph = refl;
-  no_heading = refl;
-  leads_back = refl;
-  none_apart = refl;
-}
+body-place title = search
 
 pub page-built : (title : List ℕ) (body : Forest) → list_all is_character title ≡ true →
     Builds InBody (body_at NoNode) (root_at title ∷ []) [] 5 body →

@@ -10,16 +10,15 @@ use Rattle.md_safe.specs.Tokens.{seen, seen_attributes, tokens}
 use Rattle.md_safe.specs.Contents.{Content, elements_in, is_contained}
 use Rattle.md_safe.specs.Node.{Nodes, Entry, with_element, Empty as NoNode}
 use Rattle.md_safe.specs.Formatting.{push}
-use Rattle.md_safe.specs.Construction.{step}
+use Rattle.md_safe.specs.Construction.{step, run}
 use Rattle.md_safe.specs.Built.{has_whole_texts, with_characters, put}
 use Rattle.md_safe.proofs.Lists.{Keeps, keeps-all, keeps-twice, keeps-open, keeps-created}
 use Rattle.md_safe.proofs.Lists.{later-created, keeps-none}
 use Rattle.md_safe.proofs.TreeSteps.{Position, parser_of, with_children, within, after, after-one}
 use Rattle.md_safe.proofs.TreeSteps.{characters-run, same-open, seen-characters}
 use Rattle.md_safe.proofs.PhrasingNames.{Here, Done, void-step, Passed, is_free, found}
-use Rattle.md_safe.proofs.FormattingElements.{ordinary-passes, formatting-passes}
-use Rattle.md_safe.proofs.PhrasingRules.{Rule, here-formatting, here-within, is_inline, rules}
-use Rattle.md_safe.proofs.PhrasingRules.{void-in}
+use Rattle.md_safe.proofs.PhrasingRules.{ordinary-passes, formatting-passes, Rule, here-formatting}
+use Rattle.md_safe.proofs.PhrasingRules.{here-within, is_inline, rules, void-in}
 
 -- after what was inserted
 pub here-after : {x : Position} {children : Nodes} {left : List Entry} {more : ℕ} {free : Bool} →
@@ -44,21 +43,29 @@ none-done x = record {
   later = omega arith;
 }
 
+-- tokens that lead to another place, and what is done from there
+onward : {x : Position} {next : Nodes} {left : List Entry} {more : ℕ} {forest rest : Forest} →
+    put x.node.children forest ≡ put next rest → run (parser_of x) (tokens forest)
+    ≡ run (parser_of (with_children x next left more)) (tokens rest) → Keeps x.active left →
+    x.created ≤ more → Done (with_children x next left more) rest → Done x forest
+onward {x} {left = left} same leads keeps more later = record {
+  left = later.left;
+  more = later.more;
+  runs = leads ∙ rw same later.runs;
+  keeps = keeps-twice x.active left later.left keeps later.keeps;
+  later = omega (more, later.later, arith);
+}
+
 -- a text, and what comes after it
 pub text-done : {x : Position} {free : Bool} {bytes : List ℕ} {rest : Forest} →
     is_escaped bytes ≡ true → Here x free → Done (with_children x
     (with_characters x.node.children (seen bytes)) x.active x.created) rest →
     Done x (Text bytes rest)
-text-done {x = x} {bytes = bytes} {rest = rest} escaped here later = record {
-  left = later.left;
-  more = later.more;
-  runs = after (parser_of x) (parser_of (with_children x
-      (with_characters x.node.children (seen bytes)) x.active x.created))
-      (map Character (seen bytes)) (tokens rest) (characters-run (seen bytes) x here.body
-      (seen-characters bytes escaped) here.opened) ∙ later.runs;
-  keeps = later.keeps;
-  later = later.later;
-}
+text-done {x} {bytes = bytes} escaped here later =
+    let says = characters-run (seen bytes) x here.body (seen-characters bytes escaped) here.opened
+    in
+    onward refl (after _ _ (map Character (seen bytes)) _ says) (keeps-all x.active) (omega arith)
+    later
 
 -- a void tag, and what comes after it
 pub void-done : {x : Position} {name : List ℕ} {attributes : List Attribute} {rest : Forest} → step
@@ -67,28 +74,18 @@ pub void-done : {x : Position} {name : List ℕ} {attributes : List Attribute} {
     (suc x.created))) → Done (with_children x (with_element x.node.children name
     (seen_attributes attributes) NoNode) x.active (suc x.created)) rest →
     Done x (Void name attributes rest)
-void-done {x = x} {name = name} {attributes = attributes} {rest = rest} inserts later = record {
-  left = later.left;
-  more = later.more;
-  runs = after-one (parser_of x) (parser_of (with_children x (with_element x.node.children name
-      (seen_attributes attributes) NoNode) x.active (suc x.created)))
-      (StartTag name (seen_attributes attributes) true) (tokens rest) inserts ∙ later.runs;
-  keeps = later.keeps;
-  later = omega (later.later, arith);
-}
+void-done {x} {name} {attributes} {rest} inserts later =
+    let tag = StartTag name (seen_attributes attributes) true in
+    onward refl (after-one (parser_of x) _ tag (tokens rest) inserts) (keeps-all x.active)
+    (omega arith) later
 
 -- an element, and what comes after it
 pub element-done : {x : Position} {name : List ℕ} {attributes : List Attribute}
     {inner rest : Forest} (passed : Passed x name attributes inner) → Done (with_children x
     (with_element x.node.children name (seen_attributes attributes) (put NoNode inner)) passed.left
     passed.more) rest → Done x (Element name attributes inner rest)
-element-done {x = x} {rest = rest} passed later = record {
-  left = later.left;
-  more = later.more;
-  runs = passed.runs (tokens rest) ∙ later.runs;
-  keeps = keeps-twice x.active passed.left later.left passed.keeps later.keeps;
-  later = omega (passed.later, later.later, arith);
-}
+element-done {rest = rest} passed later =
+    onward refl (passed.runs (tokens rest)) passed.keeps passed.later later
 
 -- the parts of a text in a forest
 pub text-escaped : (bytes : List ℕ) (rest : Forest) → has_whole_texts (Text bytes rest) ≡ true →

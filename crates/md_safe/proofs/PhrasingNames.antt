@@ -1,7 +1,7 @@
 -- Where phrasing content may be inserted, what builds an element there, and which elements there
 -- are.
 use Rattle.std.proofs.Common.{◌≡◌, ℕ, ◌≤◌, suc, Bool, true, false, cond, List, [], ◌∷◌, ◌++◌, refl}
-use Rattle.std.proofs.Common.{sym, ap, ◌∙◌, subst, codes, arith, not, ◌&&◌}
+use Rattle.std.proofs.Common.{ap, ◌∙◌, subst, codes, arith, not, ◌&&◌}
 use Rattle.std.specs.Prelude.{Some, None, find, option_map, is_some, bytes_eq}
 use Rattle.std.specs.Option.{option_map_or}
 use Rattle.std.proofs.lemmas.Slice.Eq.{bytes_eq-Decides}
@@ -23,7 +23,7 @@ use Rattle.md_safe.specs.Built.{put, at, is_body, AreCreated, AreOpen}
 use Rattle.md_safe.proofs.Lists.{Keeps}
 use Rattle.md_safe.proofs.TreeSteps.{Position, parser_of, with_children, element_of, within, after}
 use Rattle.md_safe.proofs.TreeSteps.{after-one, start-in-body, end-in-body, reconstructs}
-use Rattle.std.proofs.lemmas.Bool.{and_parts, not-true}
+use Rattle.std.proofs.lemmas.Bool.{cond_both}
 
 -- where phrasing content may be inserted
 pub record Here (x : Position) (free : Bool) : Type 0 where
@@ -73,22 +73,16 @@ pub found : (P : List ℕ → Content → Type 0) (those : List (List ℕ × Con
     ≡ true →
     (held : Content) × P name held × (is_contained false held inner ≡ true)
 found P [] name inner each h = lie h
-found P (element ∷ others) name inner each h =
-    by (bytes_eq element.0 name) refl h (λ h. found P others name inner each.1 h)
-  where
-    by : (is : Bool) → bytes_eq element.0 name ≡ is →
-        option_map_or (λ held. is_contained false held inner) (option_map (λ element. element.1)
-        (cond is (Some element) (find (λ element. bytes_eq element.0 name) others))) false ≡ true →
-        (option_map_or (λ held. is_contained false held inner) (option_map (λ element. element.1)
-        (find (λ element. bytes_eq element.0 name) others)) false ≡ true →
-        (held : Content) × P name held × (is_contained false held inner ≡ true)) →
-        (held : Content) × P name held × (is_contained false held inner ≡ true)
-    by true e h later = (
+found P (element ∷ others) name inner each h = cond_both (bytes_eq element.0 name) (Some element)
+    (find (λ element. bytes_eq element.0 name) others) (λ o. option_map_or (λ held. is_contained
+    false held inner) (option_map (λ element. element.1) o) false ≡ true → (held : Content) × P name
+    held × (is_contained false held inner ≡ true)) (λ e h. (
       element.1,
-      subst (λ name. P name element.1) ((bytes_eq-Decides element.0 name).0 e) each.0,
+      subst (λ name. P name
+          element.1) ((bytes_eq-Decides element.0 name).0 e) each.0,
       h,
-    )
-    by false e h later = later h
+    )) (λ _ h. found P others name inner
+    each.1 h) h
 
 -- ---- names
 
@@ -129,16 +123,7 @@ is_outer name = not (is_one_of parts name) && (not (is_one_of cells name) && (no
     (is_one_of (codes "table" ∷ codes "tr" ∷ sections) name) && bytes_eq name name))
 
 pub outside : {name : List ℕ} → is_outer name ≡ true → IsOuter name
-outside {name} h =
-    let p = and_parts (not (is_one_of parts name)) _ h in
-    let q = and_parts (not (is_one_of cells name)) _ p.1 in
-    let r = and_parts _ (bytes_eq name name) q.1 in
-    record {
-      outer = not-true _ p.0;
-      no_cell = not-true _ q.0;
-      no_table = not-true _ r.0;
-      self = r.1;
-    }
+outside {name} h = grind arith
 
 pub a-formats : IsFormatting (codes "a")
 a-formats = record {
@@ -151,15 +136,11 @@ a-formats = record {
 
 pub void-named : (name : List ℕ) → is_one_of (codes "br" ∷ codes "img" ∷ codes "input" ∷ []) name
     ≡ true → IsVoid name
-void-named name h = either _ _ h (λ e. void (codes "br") e refl (λ attributes p. refl)) (λ c. either
-    _ _ c (λ e. void (codes "img") e refl (λ attributes p. refl)) (λ c. either _ _ c
-    (λ e. void (codes "input") e refl (λ attributes p. refl)) (λ none. lie none)))
-  where
-    void : (one : List ℕ) → bytes_eq name one ≡ true → is_one_of parts one ≡ false → ((attributes :
-        List TokenAttribute) (p : Parser) → start_in_body one attributes p ≡ reconstructed p
-        (insert_void one attributes)) → IsVoid name
-    void one e outer starts = subst IsVoid (sym ((bytes_eq-Decides name one).0 e))
-        (record { outer = outer; starts = starts })
+void-named name h =
+    let same = λ (one : List ℕ) (e : bytes_eq name one ≡ true). (bytes_eq-Decides name one).0 e in
+    either _ _ h (λ e. rw (same (codes "br") e) search) (λ c. either _ _ c
+    (λ e. rw (same (codes "img") e) search) (λ c. either _ _ c
+    (λ e. rw (same (codes "input") e) search) (λ none. lie none)))
 
 -- ---- what is built
 

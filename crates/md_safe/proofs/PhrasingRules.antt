@@ -1,25 +1,96 @@
--- What is known of each element of phrasing content, and where its children are inserted.
-use Rattle.std.proofs.Common.{◌≡◌, ◌⊎◌, inl, inr, ℕ, suc, Bool, true, false, List, ◌∷◌, refl, sym}
-use Rattle.std.proofs.Common.{◌∙◌, codes, arith}
-use Rattle.std.specs.Prelude.{bytes_eq}
+-- Ordinary and formatting elements are built as they are read, by what their children do; what is
+-- known of each element of phrasing content, and where its children are inserted.
+use Rattle.std.proofs.Common.{◌≡◌, inl, inr, ℕ, ◌==◌, true, false, List, ◌∷◌, refl, sym, ◌∙◌, subst}
+use Rattle.std.proofs.Common.{codes, eq-eqb, ◌⊎◌, suc, Bool, arith}
+use Rattle.std.specs.Prelude.{Some, None, bytes_eq, bytes_eq}
+use Rattle.md_text.specs.Bytes.{is_one_of}
+use Rattle.md_text.specs.Html.{Attribute, Forest}
+use Rattle.md_safe.specs.Token.{TokenAttribute}
+use Rattle.md_safe.specs.Tokens.{seen_attributes}
+use Rattle.md_safe.specs.Node.{Nodes, Open, Entry, Formatting, Mode, Empty as NoNode, Entry, Parser}
+use Rattle.md_safe.specs.Elements.{special}
+use Rattle.md_safe.specs.Stack.{insert, popped, insert}
+use Rattle.md_safe.specs.Formatting.{push, last_active, adopt, end_formatting, end_other}
+use Rattle.md_safe.specs.InBody.{insert_formatting, reconstructed, start_in_body, end_in_body}
+use Rattle.md_safe.specs.Built.{put, at, is_body, AreCreated, AreOpen}
+use Rattle.md_safe.proofs.Lists.{Keeps, keeps-twice, room, keeps-room, keeps-created, not-active}
+use Rattle.md_safe.proofs.Lists.{keeps-open, later-created, open-under, keeps-none}
+use Rattle.md_safe.proofs.Steps.{here, past}
+use Rattle.md_safe.proofs.TreeSteps.{Position, parser_of, element_of, within, reconstructs}
+use Rattle.md_safe.proofs.PhrasingNames.{Done, Passed, IsOrdinary, IsFormatting, full, passes}
+use Rattle.md_safe.proofs.PhrasingNames.{is_free, Each, a-formats, outside, IsOuter, also, IsVoid}
+use Rattle.md_safe.proofs.PhrasingNames.{void-named, Here}
 use Rattle.std.proofs.lemmas.Bool.{or_left}
 use Rattle.md_base.proofs.Lies.{lie}
-use Rattle.md_text.specs.Bytes.{is_one_of}
-use Rattle.md_safe.specs.Token.{TokenAttribute}
 use Rattle.md_safe.specs.Contents.{Content, Phrasing, Linked, Characters, span_elements, spans_of}
 use Rattle.md_safe.specs.Contents.{elements_in, voids_in}
-use Rattle.md_safe.specs.Node.{Entry, Parser}
-use Rattle.md_safe.specs.Elements.{special}
-use Rattle.md_safe.specs.Stack.{insert}
-use Rattle.md_safe.specs.InBody.{reconstructed, insert_formatting, start_in_body, end_in_body}
-use Rattle.md_safe.specs.Formatting.{push, end_other, end_formatting}
-use Rattle.md_safe.proofs.Lists.{Keeps, room, keeps-room, keeps-open, keeps-created, later-created}
-use Rattle.md_safe.proofs.Lists.{open-under, keeps-none}
-use Rattle.md_safe.proofs.Steps.{past}
-use Rattle.md_safe.proofs.TreeSteps.{Position, within}
-use Rattle.md_safe.proofs.PhrasingNames.{is_free, IsFormatting, IsOrdinary, Each, a-formats}
-use Rattle.md_safe.proofs.PhrasingNames.{outside, IsOuter, also, IsVoid, void-named, Here}
-use Rattle.md_safe.proofs.FormattingElements.{self_same}
+
+-- an ordinary element
+pub ordinary-passes : {x : Position} {name : List ℕ} {attributes : List Attribute}
+    {inner : Forest} → is_body x.mode ≡ true → AreOpen (x.node ∷ x.others) x.active →
+    IsOrdinary name → Done (within x name (seen_attributes attributes) x.active) inner →
+    Passed x name attributes inner
+ordinary-passes {x = x} {name = name} {attributes = attributes} {inner = inner} body opened k d =
+    passes x.active d.left (parser_of (within x name (seen_attributes attributes) x.active)) body
+    k.names (k.starts (seen_attributes attributes) (parser_of x) ∙ reconstructs x
+    (insert name (seen_attributes attributes)) opened) (λ ys. refl) d (k.ends
+    (at x.mode (full x name attributes inner) d.left d.more) ∙ here _ k.names.self refl) d.keeps
+
+-- ---- a formatting element
+pub self_same : (n : ℕ) → (n == n) ≡ true
+self_same n = eq-eqb n n refl
+
+-- the end of one that is the last in the list
+adopted : (mode : Mode) (node : Open) (others : List Open) (kept : List Entry) (more identity : ℕ)
+    (name : List ℕ) (attributes : List TokenAttribute) (children : Nodes) →
+    bytes_eq name name ≡ true → is_one_of special name ≡ false →
+    end_formatting name (at mode (element_of identity name attributes children ∷ node ∷ others)
+    (Formatting identity name attributes ∷ kept) more) ≡ Some (at mode
+    (popped (element_of identity name attributes children ∷ node ∷ others)) kept more)
+adopted mode node others kept more identity name attributes children self plain =
+    rw (self_same identity, self, adopt, self_same identity, plain) refl
+
+formatting-ends : (mode : Mode) (node : Open) (others : List Open) (active left : List Entry)
+    (more identity : ℕ) (name : List ℕ) (attributes : List TokenAttribute) (children : Nodes) →
+    is_one_of special name ≡ false → bytes_eq name name ≡ true → AreCreated identity active →
+    Keeps (Formatting identity name attributes ∷ active) left → (kept : List Entry)
+    × (end_formatting name (at mode (element_of identity name attributes children ∷ node ∷ others)
+    left more) ≡ Some (at mode (popped (element_of identity name attributes children ∷ node
+    ∷ others)) kept more)) × Keeps active kept
+formatting-ends mode node others active left more identity name attributes children plain self made
+    (inl k) = (
+      left,
+      rw (self, not-active _ _ (keeps-created _ _ _ made k)) refl,
+      k,
+    )
+formatting-ends mode node others active left more identity name attributes children plain self made
+    (inr k) = (
+      k.0,
+      subst (λ left. end_formatting name (at mode (element_of identity name attributes children
+          ∷ node ∷ others) left more) ≡ Some (at mode (popped (element_of identity name attributes
+          children ∷ node ∷ others)) k.0 more)) (sym k.1) (adopted _ _ _ _ _ _ _ _ _ self plain),
+      k.2,
+    )
+
+-- a formatting element, with what it holds
+pub formatting-passes : {x : Position} {name : List ℕ} {attributes : List Attribute}
+    {inner : Forest} → is_body x.mode ≡ true → AreOpen (x.node ∷ x.others) x.active →
+    AreCreated x.created x.active → IsFormatting name → (bytes_eq name (codes "a") ≡ true →
+    last_active (codes "a") x.active ≡ None) → Done (within x name (seen_attributes attributes)
+    (push x.created name (seen_attributes attributes) x.active)) inner →
+    Passed x name attributes inner
+formatting-passes {x = x} {name = name} {attributes = attributes} {inner = inner} body opened made k
+    free d =
+    let those : List TokenAttribute = seen_attributes attributes in
+    let pushed : List Entry = push x.created name those x.active in
+    let kept = keeps-room name those x.active in
+    let ends = formatting-ends x.mode x.node x.others (room name those x.active) d.left d.more
+    x.created name those (put NoNode inner) k.plain k.names.self (keeps-created x.created x.active
+    (room name those x.active) made kept) d.keeps in
+    passes pushed ends.0 (parser_of (within x name those pushed)) body k.names (k.starts those
+    (parser_of x) free ∙ reconstructs x (insert_formatting name those) opened) (λ ys. refl) d
+    (k.ends (at x.mode (full x name attributes inner) d.left d.more) ∙ ends.1) (keeps-twice x.active
+    (room name those x.active) ends.0 kept ends.2)
 
 -- phrasing content, also in a link or in code
 abbrev pub is_inline : Content → Bool
@@ -77,10 +148,7 @@ code-rule content = formatting (outside refl) refl (λ t p. refl) (λ p. refl) r
 -- the elements that aren't links and hold this content
 spans : (content held : Content) → is_inline held ≡ true →
     (is_free held ≡ true → is_free content ≡ true) → Each (Rule content) (spans_of held)
-spans content held i f = also (code-rule content) (also (formatting (outside refl) refl
-    (λ t p. refl) (λ p. refl) i f refl refl) (also (formatting (outside refl) refl (λ t p. refl)
-    (λ p. refl) i f refl refl) (also (ordinary (outside refl) (λ t p. refl) (λ p. refl) i f refl
-    refl) (also (ordinary (outside refl) (λ t p. refl) (λ p. refl) i f refl refl) tt))))
+spans content held i f = search (code-rule, formatting, ordinary, outside) depth 8 fits 4000
 
 pub span-rules : (content : Content) → is_free content ≡ true →
     Each (Rule content) (span_elements false)

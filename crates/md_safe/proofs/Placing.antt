@@ -1,6 +1,6 @@
 -- Each document of the grammar is placed: the content of a node's children allows them.
-use Rattle.std.proofs.Common.{◌≡◌, inl, inr, true, ◌||◌, false, Bool, Option, Some, None, List}
-use Rattle.std.proofs.Common.{◌++◌, refl, sym, ap, ◌∙◌, subst, if◌then◌else◌}
+use Rattle.std.proofs.Common.{◌≡◌, inl, inr, true, ◌||◌, false, Bool, Option, None, List}
+use Rattle.std.proofs.Common.{◌++◌, refl, sym, ◌∙◌, arith}
 use Rattle.std.specs.List.{list_all}
 use Rattle.std.proofs.lemmas.Bool.{and_parts}
 use Rattle.std.proofs.lemmas.List.Folds.{list_all-append}
@@ -88,19 +88,15 @@ may_show content seen = may_stand content (sort_for seen)
 
 -- ---- what may stand after a symbol of a group may stand there
 
-reference-shows : (tail : List Symbol) → IsTail symbol.ReferenceMarker tail →
-    list_all (may_show Phrasing) tail ≡ true
-reference-shows tail is = elim is [
-  | inl e ↦ subst (λ t. list_all (may_show Phrasing) t ≡ true) (sym e) refl
-  | inr (inl e) ↦ subst (λ t. list_all (may_show Phrasing) t ≡ true) (sym e) refl
-  | inr (inr e) ↦ subst (λ t. list_all (may_show Phrasing) t ≡ true) (sym e) refl
-]
-
 phrasing-shows : (first : Symbol) (tail : List Symbol) → may_show Phrasing first ≡ true →
     IsTail first tail → list_all (may_show Phrasing) tail ≡ true
-phrasing-shows symbol.ReferenceMarker tail h is = reference-shows _ is
+phrasing-shows symbol.ReferenceMarker tail h is = elim is [
+  | inl e ↦ rw e refl
+  | inr (inl e) ↦ rw e refl
+  | inr (inr e) ↦ rw e refl
+]
 phrasing-shows symbol.SetextText tail h is = lie h
-phrasing-shows first tail h is = subst (λ t. list_all (may_show Phrasing) t ≡ true) (sym is) refl
+phrasing-shows first tail h is = rw is refl
 
 -- where neither a reference nor a heading begins
 alone-shows : (content : Content) → may_show content symbol.ReferenceMarker ≡ false →
@@ -108,8 +104,7 @@ alone-shows : (content : Content) → may_show content symbol.ReferenceMarker �
     may_show content first ≡ true → IsTail first tail → list_all (may_show content) tail ≡ true
 alone-shows content a b symbol.ReferenceMarker tail h is = lie (sym a ∙ h)
 alone-shows content a b symbol.SetextText tail h is = lie (sym b ∙ h)
-alone-shows content a b first tail h is =
-    subst (λ t. list_all (may_show content) t ≡ true) (sym is) refl
+alone-shows content a b first tail h is = rw is refl
 
 tail-shows : (content : Content) (first : Symbol) (tail : List Symbol) →
     may_show content first ≡ true →
@@ -130,33 +125,13 @@ all-show usual symbols match =
     grouped-all (may_show (place_for usual)) (tail-shows (place_for usual)) match.0 symbols match.1
     (fits-all (may_show (place_for usual)) (pattern_of usual) match.0 match.2 (letters-show usual))
 
--- the role that a name has in its place is of the place of its usual one
-item-place : (around : Role) (before : Option Symbol) →
-    place_for (role_for around before role.Item) ≡ Flow
-item-place role.OrderedList None = refl
-item-place role.OrderedList (Some s) = refl
-item-place _ before = refl
-
-prefix-place : (around : Role) (before : Option Symbol) →
-    place_for (role_for around before role.Prefix) ≡ Phrasing
-prefix-place role.FirstOrderedItem before = refl
-prefix-place role.OrderedItem before = refl
-prefix-place _ before = refl
-
-label-place : (around : Role) (before : Option Symbol) →
-    place_for (role_for around before role.Label) ≡ Phrasing
-label-place role.FootnoteCall before = refl
-label-place _ before = refl
-
 role-place : (around : Role) (before : Option Symbol) (usual : Role) →
     place_for (role_for around before usual) ≡ place_for usual
-role-place around before role.Item = item-place around before
-role-place around before role.Prefix = prefix-place around before
-role-place around before role.Label = label-place around before
-role-place around None role.CodeFence = refl
-role-place around (Some s) role.CodeFence = refl
-role-place around None role.MathFence = refl
-role-place around (Some s) role.MathFence = refl
+role-place around before role.Item = grind arith
+role-place around before role.Prefix = grind arith
+role-place around before role.Label = grind arith
+role-place around before role.CodeFence = grind arith
+role-place around before role.MathFence = grind arith
 role-place around before usual = refl
 
 -- ---- a node may stand there, its children in it, and others after it
@@ -173,26 +148,15 @@ spot : (standing : Standing) (name : Name) (children : Forest) (around : Role)
     (shown standing (spine children) ++ others) ≡ true → Spot standing name children content others
 spot Through name children around before content others says stands h =
     let whole = and_parts _ _ (sym (list_all-append _ (spine children) others) ∙ h) in
-    record {
-      stands = ap (λ t. t || may_stand content (sort_of name)) says;
-      inside = ap (λ t. list_all (may_show (if t then content else place_of name)) (spine children))
-          says ∙ whole.0;
-      after = whole.1;
-    }
-spot Space name children around before content others says stands h = record {
-  stands = ap (λ t. t || may_stand content (sort_of name)) says;
-  inside = ap (λ f. list_all (may_show (place_inside content name)) (spine f)) stands;
-  after = h;
-}
+    record { stands = rw says refl; inside = rw says whole.0; after = whole.1 }
+spot Space name children around before content others says stands h =
+    record { stands = rw says refl; inside = rw stands refl; after = h }
 spot (Solid seen usual reading) name children around before content others says stands h =
     let parts = and_parts _ _ h in
+    let shows = all-show (role_for around before usual) (spine children) stands in
     record {
-      stands = ap (λ t. t || may_stand content (sort_of name)) says.0
-          ∙ (ap (λ sort. may_stand content sort) says.1 ∙ parts.0);
-      inside = ap (λ t. list_all (may_show (if t then content else place_of name)) (spine children))
-          says.0 ∙ (ap (λ c. list_all (may_show c) (spine children))
-          (says.2 ∙ sym (role-place around before usual)) ∙ all-show (role_for around before usual)
-          (spine children) stands);
+      stands = rw (says.0, says.1) parts.0;
+      inside = rw (says.0, says.2, ← (role-place around before usual)) shows;
       after = parts.1;
     }
 spot Mdx name children around before content others says stands h = absurd stands

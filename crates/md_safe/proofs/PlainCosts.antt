@@ -1,7 +1,6 @@
 -- What nodes cost whose names have no rule of their own.
-use Rattle.std.proofs.Common.{◌≡◌, ℕ, Bool, true, false, ◌||◌, List, [], ◌∷◌, ◌++◌, refl, sym, ap}
-use Rattle.std.proofs.Common.{◌∙◌, subst, arith}
-use Rattle.std.specs.Prelude.{None, unwrap_or}
+use Rattle.std.proofs.Common.{◌≡◌, ℕ, Bool, true, false, ◌||◌, List, [], refl, sym, ◌∙◌, arith}
+use Rattle.std.specs.Prelude.{None}
 use Rattle.md_base.proofs.Lies.{lie}
 use Rattle.md_base.specs.declared.event.Name.{Name}
 use Rattle.md_base.specs.declared.event.Name.TheVariants as name_variants
@@ -11,24 +10,23 @@ use Rattle.md_base.specs.Is.{is as named}
 use Rattle.md_base.specs.Tree.{Forest, Empty, Node}
 use Rattle.md_base.specs.NameTests.{is_transparent, is_call}
 use Rattle.md_meaning.specs.declared.surroundings.Surroundings.{Surroundings}
-use Rattle.md_meaning.specs.Meaning.At.{Footnote, Before, At, identifier_of}
-use Rattle.md_meaning.specs.Meaning.Layout.{layout, when}
-use Rattle.md_meaning.specs.Meaning.Nodes.{Outcome, found_at, before_next, outcome}
+use Rattle.md_meaning.specs.Meaning.At.{Before, At}
+use Rattle.md_meaning.specs.Meaning.Layout.{layout}
+use Rattle.md_meaning.specs.Meaning.Nodes.{found_at, before_next, outcome}
 use Rattle.md_content.specs.Underlined.{is_underline, waits_past}
 use Rattle.md_content.specs.Built.{Content, Blocks, is_part, is_source, may_stand, content_of}
 use Rattle.md_content.specs.Built.{content_inside, content_after_node, IsBuilt, IsFit}
-use Rattle.md_safe.proofs.Contents.{Holds}
 use Rattle.md_safe.proofs.Insides.{is_blocks, is_blocks-same}
 use Rattle.md_safe.proofs.Following.{inside-blocks, asked-after-node}
-use Rattle.md_safe.proofs.Spot.{Setting, Inside}
+use Rattle.md_safe.proofs.Spot.{Inside}
 use Rattle.md_safe.proofs.Forests.{Ready, Means, means, inside-means}
-use Rattle.md_safe.proofs.Counted.{Waiting, TextsCount}
-use Rattle.md_safe.proofs.Costs.{Document, read_in, Place, inner_around, inner_before, inner_of}
-use Rattle.md_safe.proofs.Costs.{counted_in, Costs, at_of, here_of, Below, cost-least, no-footnote}
-use Rattle.md_safe.proofs.Costs.{place_at}
+use Rattle.md_safe.proofs.Costs.{Waiting, Document, read_in, Place, inner_around, inner_before}
+use Rattle.md_safe.proofs.Costs.{inner_of, counted_in, Costs, at_of, here_of, Below, cost-least}
+use Rattle.md_safe.proofs.Costs.{no-footnote, place_at}
 use Rattle.md_safe.proofs.Laid.{Adds}
 use Rattle.md_text.proofs.HtmlIds.{Counts}
 use Rattle.md_safe.proofs.ReadingNodes.{block-node}
+use Rattle.std.proofs.lemmas.Bool.{false_from_ne_true}
 
 -- the facts about a node that isn't transparent
 pub record Stands (d : Document) (p : Place) (name : Name) : Type 0 where
@@ -94,8 +92,8 @@ plain-prints : {d : Document} {w : List ℕ} {p : Place} {name : Name} {n : ℕ}
     (inner_of d p name).pieces → Adds d.context.ending (Counts w n) (here_of d p name).pieces
 plain-prints {d = d} {w = w} {p = p} {name = name} {n = n} k plain within = block-node
     (counted_in d w n) (at_of d p name) name k.solid k.whole (inner_of d p name).pieces (record {
-      escaping = k.ready.suits.0;
-      outside = k.ready.suits.1;
+      escaping = k.ready.suits.escaped refl;
+      outside = k.ready.suits.outside refl;
       fit = k.fit;
       resource = k.known.found.resource;
       ids = λ call. lie (sym plain.call ∙ call);
@@ -107,25 +105,15 @@ plain-prints {d = d} {w = w} {p = p} {name = name} {n = n} k plain within = bloc
 pub around-blocks : {d : Document} {w : List ℕ} {p : Place} {name : Name} {m : ℕ} (waits : Bool) →
     Stands d p name → IsPlain name → is_blocks (content_of name Blocks) ≡ true →
     Below d w p name false 0 → Costs d w p.before m (waits_past waits name) (here_of d p name)
-around-blocks {d = d} {w = w} {p = p} {name = name} waits k plain blocks b = record {
+around-blocks {d} {w} {p} {name} waits k plain blocks b = record {
   body = b.body;
   left = 0;
   notes = b.notes;
-  prints = plain-prints k plain (subst (λ c. Adds d.context.ending (Holds (counted_in d w b.body).p
-      (inner_around d p name).is_escaping (inner_around d p name).in_image c)
-      (inner_of d p name).pieces) (sym (is_blocks-same (content_of name Blocks) blocks)) b.prints);
-  heading = subst (λ b. Waiting w b 0 (unwrap_or (here_of d p name).found.heading p.before.heading))
-      (sym (no_wait name plain.setext blocks waits)) tt;
+  prints = plain-prints k plain (rw (is_blocks-same (content_of name Blocks) blocks) b.prints);
+  heading = rw (no_wait name plain.setext blocks waits) tt;
   texts = no-footnote d w b.notes p name plain.footnote b.texts;
   few = omega (b.few, cost-least d w p name, arith);
 }
-
-differ : {b : Bool} → b ≡ false → b ≡ true → false ≡ true
-differ other same = sym other ∙ same
-
-isn't : (b : Bool) → (b ≡ true → false ≡ true) → b ≡ false
-isn't true h = sym (h refl)
-isn't false h = refl
 
 no_definition : (content : Content) → may_stand content GfmFootnoteDefinition ≡ true →
     is_blocks content ≡ true
@@ -134,7 +122,7 @@ no_definition _ h = lie h
 
 none_here : (content : Content) (name : Name) → (is_transparent name || may_stand content name)
     ≡ true → is_blocks content ≡ false → named GfmFootnoteDefinition name ≡ false
-none_here content GfmFootnoteDefinition stands other = lie (differ other (no_definition _ stands))
+none_here content GfmFootnoteDefinition stands other = lie (sym other ∙ no_definition _ stands)
 none_here content _ stands other = refl
 
 -- no footnote is defined but among blocks
@@ -144,34 +132,23 @@ pub no_footnotes : (d : Document) (content : Content) (forest : Forest) (around 
 no_footnotes d content Empty around before other built = refl
 no_footnotes d content (Node name start end children rest) around before other built =
     let p : Place = place_at around before start end children rest in
-    let here : Outcome = here_of d p name in
-    let next : Before = before_next (at_of d p name) name here in
-    let own : Footnote = record {
-      identifier = identifier_of d.context.bytes children;
-      text = layout d.context.ending (inner_of d p name).pieces;
-    } in
-    ap (λ fs. (fs ++ when (named GfmFootnoteDefinition name) (own ∷ []))
-    ++ (outcome d.context around next rest).footnotes) (no_footnotes d (content_inside content name)
-    children (inner_around d p name) (inner_before p name) (isn't
-    (is_blocks (content_inside content name)) (λ h. differ other (inside-blocks content name h)))
-    built.2) ∙ ap (λ b. when b (own ∷ []) ++ (outcome d.context around next rest).footnotes)
-    (none_here content name built.0 other) ∙ no_footnotes d
-    (content_after_node content name children) rest around next (isn't
-    (is_blocks (content_after_node content name children)) (asked-after-node (false ≡ true) content
-    name children (λ h. differ other h))) built.3
+    let next : Before = before_next (at_of d p name) name (here_of d p name) in
+    let none : is_blocks content ≡ true → ⊥ = λ h. lie (sym other ∙ h) in
+    let inner = no_footnotes d (content_inside content name) children (inner_around d p name)
+    (inner_before p name) (false_from_ne_true _ (λ h. none (inside-blocks content name h))) built.2
+    in
+    let later = no_footnotes d (content_after_node content name children) rest around next
+    (false_from_ne_true _ (asked-after-node ⊥ content name children none)) built.3 in
+    rw (inner, later, none_here content name built.0 other) refl
 
 -- a node in which something else stands
 pub around-others : {d : Document} {w : List ℕ} {p : Place} {name : Name} {m : ℕ} (waits : Bool) →
     Stands d p name → IsPlain name → is_blocks (content_inside Blocks name) ≡ false →
     Waiting w waits m p.before.heading → Costs d w p.before m
     (waits_past waits name) (here_of d p name)
-around-others {d = d} {w = w} {p = p} {name = name} {m = m} waits k plain blocks h =
-    let s : Setting = counted_in d w 0 in
-    let t : At = at_of d p name in
-    let inner : Outcome = inner_of d p name in
-    let counted : Means s (inner_around d p name) (content_inside Blocks name) p.children inner =
-    means s p.children (inner_around d p name) (inner_before p name) (content_inside Blocks name)
-    k.built (record {
+around-others {d} {w} {p} {name} {m} waits k plain blocks h =
+    let counted = means (counted_in d w 0) p.children (inner_around d p name) (inner_before p name)
+    (content_inside Blocks name) k.built (record {
       suits = k.within.suits;
       follows = k.within.follows;
       whole = λ is. lie (sym blocks ∙ is);
@@ -181,14 +158,12 @@ around-others {d = d} {w = w} {p = p} {name = name} {m = m} waits k plain blocks
       body = 0;
       left = m;
       notes = 0;
-      prints = plain-prints k plain (inside-means t Blocks name k.solid k.stands k.fit k.built
-          counted);
-      heading = subst (λ found. Waiting w (waits_past waits name) m
-          (unwrap_or found p.before.heading)) (sym (no_heading t name
-          (layout d.context.ending inner.pieces) k.solid plain.setext))
-          (keeps_wait w m name plain.setext waits p.before.heading h);
-      texts = no-footnote d w 0 p name plain.footnote (subst (TextsCount w 0) (sym (no_footnotes d
-          (content_inside Blocks name) p.children (inner_around d p name) (inner_before p name)
-          blocks k.built)) tt);
+      prints = plain-prints k plain (inside-means (at_of d p name) Blocks name k.solid k.stands
+          k.fit k.built counted);
+      heading = rw (no_heading (at_of d p name) name (layout d.context.ending (inner_of d p
+          name).pieces) k.solid plain.setext) (keeps_wait w m name plain.setext waits
+          p.before.heading h);
+      texts = no-footnote d w 0 p name plain.footnote (rw (no_footnotes d (content_inside Blocks
+          name) p.children (inner_around d p name) (inner_before p name) blocks k.built) tt);
       few = omega arith;
     }

@@ -1,5 +1,5 @@
 -- What the inductions need is known at the beginning of a document.
-use Rattle.std.proofs.Common.{◌≡◌, ℕ, Bool, true, cond, List, [], refl, ap}
+use Rattle.std.proofs.Common.{◌≡◌, ℕ, Bool, true, cond, List, [], refl}
 use Rattle.std.specs.Prelude.{Option, Some, None}
 use Rattle.std.specs.Option.{option_map_or}
 use Rattle.md_base.specs.declared.event.Name.{Name}
@@ -25,16 +25,16 @@ use Rattle.md_meaning.specs.Meaning.Before.{nothing_before}
 use Rattle.md_meaning.specs.Meaning.Finds.{first_ending}
 use Rattle.md_meaning.specs.Meaning.Nodes.{outcome}
 use Rattle.md_content.specs.Built.{Content, Blocks, content_inside, content_after_node}
-use Rattle.md_content.specs.Built.{content_past, content_after, IsBuilt, IsFit}
+use Rattle.md_content.specs.Built.{IsBuilt, IsFit}
 use Rattle.md_safe.proofs.Stands.{IsWhite, line_ends-white}
 use Rattle.md_safe.proofs.Costs.{Document, read_in}
 use Rattle.md_safe.specs.Options.{KeepsGrammar}
 use Rattle.md_safe.proofs.Texts.{Escaped}
-use Rattle.md_safe.proofs.Claim.{reading}
-use Rattle.md_safe.proofs.Contents.{stays-after}
+use Rattle.md_safe.proofs.Tags.{reading}
 use Rattle.md_safe.proofs.Spot.{PassesIds, IsWhole, Setting}
 use Rattle.md_safe.proofs.BlockNodes.{holds-none}
 use Rattle.md_safe.proofs.Forests.{Ready, means}
+use Rattle.md_safe.proofs.Insides.{blocks-suit}
 
 -- a place, where there is one, has the text of line endings
 abbrev pub IsEnding : List ℕ → Option Position → Type 0
@@ -75,15 +75,10 @@ pub ending-white : (options : CompileOptions) (bytes : List ℕ) (place : Option
 ending-white options bytes None h = default-white _
 ending-white options bytes (Some place) h = line_ends-white (text_in bytes place) h
 
--- blocks stand after blocks
-pub blocks-stay : (forest : Forest) → content_after Blocks forest ≡ Blocks
-blocks-stay forest = stays-after (λ content. content ≡ Blocks)
-    (λ content name e. ap (λ content. content_past content name) e) Blocks forest refl
-
 -- what is known at the document's beginning
 pub outermost-ready : (s : Setting) → IsWhole s.p → Ready s outermost nothing_before Blocks
 outermost-ready s whole = record {
-  suits = (refl, refl);
+  suits = blocks-suit;
   follows = tt;
   whole = λ _. whole;
   heading = λ _. holds-none s;

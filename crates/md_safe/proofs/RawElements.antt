@@ -1,12 +1,12 @@
 -- The tags of fenced code and of math, around what is said of it and what it holds.
-use Rattle.std.proofs.Common.{◌≡◌, ◌⊎◌, ℕ, Bool, true, List, [], ◌∷◌, ◌++◌, refl, sym, ap, subst}
+use Rattle.std.proofs.Common.{◌≡◌, ◌⊎◌, ℕ, List, [], ◌∷◌, ◌++◌, refl, ap}
 use Rattle.std.proofs.Common.{append_assoc, append-nil, codes}
 use Rattle.std.specs.List.{list_any}
-use Rattle.md_text.specs.Html.{opening_tag, is_tag, elements}
+use Rattle.md_text.specs.Html.{opening_tag}
 use Rattle.md_base.specs.Children.{spine_names}
 use Rattle.md_base.specs.NameTests.{is_chunk}
 use Rattle.md_meaning.specs.Meaning.At.{At}
-use Rattle.md_meaning.specs.Meaning.Layout.{Piece, Text, Needed, Forced, said, when}
+use Rattle.md_meaning.specs.Meaning.Layout.{Piece, Text, Needed, Forced, when}
 use Rattle.md_meaning.specs.Meaning.Blocks.{code_end, is_unclosed, runs_out}
 use Rattle.md_safe.proofs.Texts.{Escaped}
 use Rattle.md_safe.proofs.Laid.{Adds, adds-append, adds-needed, adds-forced, adds-when, IsBeside}
@@ -35,11 +35,6 @@ pub record IsRaw (tag x : List ℕ) : Type 0 where
   pub whole : x ≡ attributes ++ (62 ∷ body)
   pub escaped : Escaped body
 
-raw_regrouped : (e tag w y g c h : List ℕ) →
-    e ++ (((tag ++ (w ++ (62 ∷ []))) ++ ((y ++ g) ++ c)) ++ h) ≡ (e ++ tag)
-    ++ ((w ++ (62 ∷ y)) ++ (g ++ (c ++ h)))
-raw_regrouped e tag w y g c h = simp append_assoc
-
 -- a text and a tag's beginning
 abbrev IsBegun : (List ℕ → Type 0) → List ℕ → List ℕ → Type 0
 IsBegun W tag x = (e : List ℕ) × (x ≡ e ++ tag) × W e
@@ -55,14 +50,10 @@ pub record IsOpened (Q R : List ℕ → Type 0) (tag x : List ℕ) : Type 0 wher
 raw-enclosed : {W Q R : List ℕ → Type 0} {tag x y z : List ℕ} → Takes W R →
     ((x w : List ℕ) → Escaped x → W w → Q (x ++ w)) → IsBegun W tag x → IsOpened Q R tag y →
     IsFramed W code_closing z → R (x ++ (y ++ z))
-raw-enclosed {R = R} {tag} {x} {y} {z} stays says a r c =
-    let parts : R ((a.0 ++ tag) ++ ((r.attributes ++ (62 ∷ r.body))
-    ++ (c.before ++ (code_closing ++ c.after)))) = subst R (raw_regrouped _ _ _ _ _ _ _) (stays.take
-    a.0 ((tag ++ (r.attributes ++ (62 ∷ []))) ++ ((r.body ++ c.before) ++ code_closing)) c.after a.2
-    (r.turns.turn (r.body ++ c.before) (says r.body c.before r.escaped c.is_before)) c.is_after) in
-    subst (λ x. R (x ++ (y ++ z))) (sym a.1) (subst (λ y. R ((a.0 ++ tag) ++ (y ++ z)))
-    (sym r.whole) (subst (λ z. R ((a.0 ++ tag) ++ ((r.attributes ++ (62 ∷ r.body)) ++ z)))
-    (sym c.whole) parts))
+raw-enclosed stays says a r c =
+    let inside = says r.body c.before r.escaped c.is_before in
+    rw (a.1, r.whole, c.whole) (simp append_assoc (simp append_assoc at
+    (stays.take a.0 _ c.after a.2 (r.turns.turn _ inside) c.is_after)))
 
 -- fenced code or math
 pub adds-raw : {W Q R : List ℕ → Type 0} {ending : List ℕ} {tag : List ℕ} {inner end : List Piece} →
@@ -71,7 +62,7 @@ pub adds-raw : {W Q R : List ℕ → Type 0} {ending : List ℕ} {tag : List ℕ
     Adds ending R ((Needed ∷ Text tag ∷ []) ++ (inner ++ end))
 adds-raw {W} {Q} {R} {tag = tag} beside stays says h a b = adds-append {f = IsBegun W tag} {g = λ w.
     (y : List ℕ) × (z : List ℕ) × (w ≡ y ++ z) × IsOpened Q R tag y × IsFramed W code_closing z}
-    (λ x w f g. subst (λ w. R (x ++ w)) (sym g.2) (raw-enclosed stays says f g.3 g.4)) (adds-append
+    (λ x w f g. rw g.2 (raw-enclosed stays says f g.3 g.4)) (adds-append
     (λ x y f g. (x, ap (λ y. x ++ y) g, f)) (adds-needed beside h) (adds-flat {f = λ y. y ≡ tag}
     {pieces = Text tag ∷ []} refl (append-nil tag)))
     (adds-append (λ y z f g. (y, z, refl, f, g)) a b)
@@ -85,19 +76,12 @@ pub fenced-end : {W : List ℕ → Type 0} {ending : List ℕ} → IsBeside W �
     ending (IsFramed W code_closing) (when (runs_out t)
     (Forced ∷ []) ++ (code_end t ++ when (is_unclosed t) (Needed ∷ [])))
 fenced-end {W} {ending} beside h t =
-    let chunks : Bool = list_any is_chunk (spine_names t.children) in
-    let out : List Piece = when (runs_out t) (Forced ∷ []) in
-    let line : List Piece = when chunks (Needed ∷ []) in
-    let last : List Piece = when (is_unclosed t) (Needed ∷ []) in
-    subst (λ x. Adds ending (IsFramed W code_closing) (out ++ x))
-    (sym (append_assoc line (said code_closing) last)) (subst
-    (Adds ending (IsFramed W code_closing)) (append_assoc out line (Text code_closing ∷ last))
-    (adds-framed (adds-append beside.both (adds-when beside _ (adds-forced h))
-    (adds-when beside _ (adds-needed beside h))) (adds-when beside _ (adds-needed beside h))))
-
-pub code_class : (v : List ℕ) → Escaped v → is_tag elements (codes "code")
-    (attribute (codes "class") (codes "language-" ++ v) ∷ []) ≡ true
-code_class v h = rw h refl
+    let out = adds-when beside (runs_out t) (adds-forced h) in
+    let line = adds-when beside (list_any is_chunk (spine_names t.children)) (adds-needed beside h)
+    in
+    let last = adds-when beside (is_unclosed t) (adds-needed beside h) in
+    simp append_assoc (simp append_assoc at (adds-framed {c = code_closing} (adds-append beside.both
+    out line) last))
 
 pub info_regrouped : (v : List ℕ) → codes "<pre>" ++ opening_tag (codes "code")
     (attribute (codes "class") (codes "language-" ++ v) ∷ []) ≡ code_tag

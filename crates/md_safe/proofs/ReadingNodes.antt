@@ -1,28 +1,23 @@
 -- The nodes of blocks print texts with readings, whatever else is claimed about texts: what is
 -- claimed of each content is the same.
-use Rattle.std.proofs.Common.{List, codes, false, refl, subst, sym, true, ◌++◌, ◌||◌, ◌∙◌, ◌≡◌}
+use Rattle.std.proofs.Common.{List, codes, false, refl, sym, true, ◌++◌, ◌||◌, ◌∙◌, ◌≡◌}
 use Rattle.md_base.proofs.Lies.{lie}
 use Rattle.md_base.specs.NameTests.{is_transparent}
 use Rattle.md_base.specs.declared.event.Name.{Name}
 use Rattle.md_content.specs.Built.{Blocks, content_of, is_part, is_source}
 use Rattle.md_meaning.specs.Meaning.At.{At}
-use Rattle.md_meaning.specs.Meaning.Inherited.{inside}
 use Rattle.md_meaning.specs.Meaning.Layout.{Piece}
 use Rattle.md_meaning.specs.Meaning.Means.{prints}
-use Rattle.md_meaning.specs.declared.surroundings.Surroundings.{Surroundings}
-use Rattle.md_pattern.specs.Looseness.{is_loose}
 use Rattle.md_text.proofs.EscapedLemmas.{escaped-append}
 use Rattle.md_text.proofs.HtmlJoin.{join, nothing, text}
-use Rattle.md_safe.proofs.Cells.{adds-empty_cells}
-use Rattle.md_safe.proofs.Claim.{plain_of}
+use Rattle.md_safe.proofs.Elements.{adds-empty_cells}
+use Rattle.md_safe.proofs.Tags.{plain_of, adds-after, adds-before, adds-escaped, bracket-tag}
+use Rattle.md_safe.proofs.Tags.{element-read, takes-escaped, void-read}
 use Rattle.md_safe.proofs.Claims.{Claims, Known}
-use Rattle.md_safe.proofs.Contents.{Holds}
 use Rattle.md_safe.proofs.FlowCases.{solid-node}
 use Rattle.md_safe.proofs.Laid.{Adds, adds-needed, escaped_beside}
 use Rattle.md_safe.proofs.Linking.{is_spans, with_links}
 use Rattle.md_safe.proofs.Spot.{Setting}
-use Rattle.md_safe.proofs.Tags.{adds-after, adds-before, adds-escaped, bracket-tag, element-read}
-use Rattle.md_safe.proofs.Tags.{takes-escaped, void-read}
 use Rattle.md_safe.proofs.Texts.{Escaped, line_ends-escaped}
 use Rattle.md_safe.specs.Contents.{Cells, Content, Flow, Items, Parts, Rows}
 use Rattle.md_safe.specs.Placed.{Cell, Item, Part, Row, Sort, may_stand, sort_of}
@@ -69,10 +64,6 @@ pub block-node : (s : Setting) (t : At) (name : Name) → is_transparent name �
     (is_part name || is_source name) ≡ false → (inner : List Piece) → Known (reads s) t name inner →
     Adds s.context.ending s.p.holds (prints s.context t name inner)
 block-node s t name solid whole inner k = solid-node (reads s) t (place_for (sort_of name)) name
-    solid whole (stands-there (sort_of name)) inner k (λ is. subst (λ c. Adds s.context.ending
-    (Holds s.p around.is_escaping around.in_image c) inner)
-    (is_blocks-same (content_of name Blocks) is) k.within)
+    solid whole (stands-there (sort_of name)) inner k
+    (λ is. rw (is_blocks-same (content_of name Blocks) is) at k.within)
     (λ is. lie (sym (no-spans (sort_of name)) ∙ is))
-  where
-    around : Surroundings
-    around = inside s.context.options (is_loose t.children) name t.around

@@ -1,8 +1,7 @@
 -- A safe attribute is one of a safe token.
 use Rattle.std.specs.Str.{bytes_eq}
-use Rattle.std.proofs.Common.{◌≡◌, ℕ, Bool, true, false, cond, List, [], ◌∷◌, refl, codes}
+use Rattle.std.proofs.Common.{◌≡◌, ℕ, Bool, true, cond, List, [], ◌∷◌, refl, codes, arith}
 use Rattle.std.specs.List.{list_all}
-use Rattle.std.proofs.lemmas.Bool.{and_parts, and_from}
 use Rattle.md_text.specs.References.{is_escaped}
 use Rattle.md_text.specs.Html.{Attribute, HasOneReadingWith}
 use Rattle.md_text.specs.Safe.{is_safe_link, is_safe_image, is_safe_value}
@@ -24,21 +23,13 @@ abbrev Permits : List (List ℕ) → Type 0
 Permits schemes = (value : List ℕ) → is_escaped value ≡ true → is_safe_value schemes value ≡ true →
     has_permitted_scheme schemes (seen value) ≡ true
 
-attribute-permitted : (named before after : Bool) → (before ≡ true → after ≡ true) →
-    cond named before true ≡ true →
-    cond named after true ≡ true
-attribute-permitted true before after f h = f h
-attribute-permitted false before after f h = refl
-
 attributes-permitted : (name : List ℕ) (schemes : List (List ℕ)) → Permits schemes →
     (x : List Attribute) → are_good x ≡ true → list_all (is_safe name schemes) x ≡ true →
     list_all (is_permitted name schemes) (seen_attributes x) ≡ true
 attributes-permitted name schemes f [] g h = refl
 attributes-permitted name schemes f (a ∷ x) g h =
     let p = good_attribute a x g in
-    let k = and_parts _ _ h in
-    and_from _ _ (attribute-permitted _ _ _ (f a.value p.1) k.0)
-    (attributes-permitted _ _ f x p.3 k.1)
+    grind (arith, f a.value p.1, attributes-permitted name schemes f x p.3)
 
 -- such a test accepts all tags of the tables
 passes : (name : List ℕ) (schemes : List (List ℕ)) → Permits schemes →

@@ -1,32 +1,89 @@
 -- A value without a protocol has no scheme, and one with a permitted protocol has that scheme: no
 -- byte that is removed or changed on the way belongs to a scheme.
-use Rattle.std.proofs.Common.{◌≡◌, ℕ, ◌==◌, Bool, true, false, not, ◌&&◌, cond, List, [], ◌∷◌, ◌++◌}
-use Rattle.std.proofs.Common.{refl, sym, ap, ap₂, ◌∙◌, subst, inl, inr, Option, Some, None}
-use Rattle.std.proofs.Common.{append-nil, append_assoc, eqb-true, leb, ltb, arith}
+use Rattle.std.proofs.Common.{◌≡◌, ℕ, ◌==◌, Bool, true, false, List, [], ◌∷◌, ◌++◌, refl, None}
+use Rattle.std.proofs.Common.{arith, ◌||◌, not, ◌&&◌, sym, ap, ap₂, ◌∙◌, Option}
+use Rattle.std.proofs.Common.{Some, append-nil, append_assoc, eqb-true}
 use Rattle.std.specs.List.{list_all}
-use Rattle.std.specs.Option.{option_map_or}
-use Rattle.std.proofs.lemmas.Bool.{and_parts, and_from, and_left, or_cases, or_from, or_left}
-use Rattle.std.proofs.lemmas.Bool.{cases_Bool, eqb-false, leb-true, ltb-true, lt-leb}
-use Rattle.md_base.proofs.Lies.{lie}
-use Rattle.md_base.specs.Identifier.{is_nonempty}
-use Rattle.md_text.specs.Bytes.{is_between, is_letter, lower, lowered, is_one_of}
-use Rattle.md_text.specs.References.{is_escaped, read_back}
-use Rattle.md_text.specs.Url.{protocol_of, link_protocols, image_protocols}
-use Rattle.md_text.specs.Safe.{is_safe_value}
-use Rattle.md_text.proofs.EncodeLaws.{read_back-other}
-use Rattle.md_text.proofs.ProtocolLemmas.{ends_protocol, none_some, map_some}
+use Rattle.std.proofs.lemmas.Bool.{cond_both, or_parts, and_parts, or_left, eqb-false}
+use Rattle.md_text.specs.Bytes.{is_letter, lower, is_letter, lower, lowered, is_one_of}
+use Rattle.md_text.specs.Url.{protocol_of, protocol_of, link_protocols, image_protocols}
+use Rattle.md_text.proofs.ProtocolLemmas.{map_none, ends_protocol, none_some, map_some}
+use Rattle.md_text.proofs.ProtocolLemmas.{protocol_of-goes_on, protocol_of-colon, protocol_of-end}
 use Rattle.md_text.proofs.HtmlRead.{passes_not}
-use Rattle.md_safe.proofs.Cases.{one_of-passes, all-weaker}
-use Rattle.md_safe.specs.Input.{with_line_feeds, begins_with_line_feed}
-use Rattle.md_safe.specs.Tokens.{seen}
+use Rattle.md_safe.specs.Input.{with_line_feeds, with_line_feeds, begins_with_line_feed}
 use Rattle.md_safe.specs.Scheme.{is_control_or_space, without_leading, without_trailing}
 use Rattle.md_safe.specs.Scheme.{is_tab_or_newline, without_newlines, is_scheme_byte, in_scheme}
 use Rattle.md_safe.specs.Scheme.{in_scheme_start, scheme_of, has_permitted_scheme}
+use Rattle.std.specs.Option.{option_map_or}
+use Rattle.md_base.proofs.Lies.{lie}
+use Rattle.md_base.specs.Identifier.{is_nonempty}
+use Rattle.md_text.specs.References.{is_escaped, read_back}
+use Rattle.md_text.specs.Safe.{is_safe_value}
+use Rattle.md_text.proofs.EncodeLaws.{read_back-other}
+use Rattle.md_safe.proofs.Cases.{one_of-passes, all-weaker, cases}
+use Rattle.md_safe.specs.Tokens.{seen}
 use Rattle.md_safe.proofs.EscapedCases.{IsPlain, by_escaped}
 use Rattle.md_safe.proofs.LineFeeds.{no_return, line_feeds-name, one}
-use Rattle.md_safe.proofs.Steps.{past, here}
-use Rattle.md_safe.proofs.NoProtocol.{goes_on, protocol_of-goes_on, protocol_of-colon}
-use Rattle.md_safe.proofs.NoProtocol.{protocol_of-end, scheme_of-none}
+use Rattle.md_safe.proofs.Steps.{here}
+use Rattle.md_text.specs.Kept.{goes_on}
+
+abbrev pub HasNone : List ℕ → Type 0
+HasNone x = protocol_of x ≡ None
+
+-- another text may follow that has none
+none-keep : (b : ℕ) (x y : List ℕ) → (HasNone x → HasNone y) → HasNone (b ∷ x) → HasNone (b ∷ y)
+none-keep b x y f h = grind (arith, f, map_none b (protocol_of x))
+
+-- after a byte that doesn't end a protocol the rest has none
+none-drop : (t : ℕ → Bool) (b : ℕ) (rest : List ℕ) → (t 58 || (t 63 || (t 35 || t 47))) ≡ false →
+    HasNone (b ∷ rest) → t b ≡ true → HasNone rest
+none-drop t b rest other h e =
+    let p = or_parts (t 58) (t 63 || (t 35 || t 47)) other in
+    let q = or_parts (t 63) (t 35 || t 47) p.1 in
+    let r = or_parts (t 35) (t 47) q.1 in
+    let past = λ (n : ℕ) (other : t n ≡ false). passes_not t b n other e in
+    let none = map_none b (protocol_of rest) in
+    grind (arith, h, past 58 p.0, past 63 q.0, past 35 r.0, past 47 r.1, none)
+
+line_feeds-none : (x : List ℕ) → HasNone x → HasNone (with_line_feeds x)
+line_feeds-none [] h = refl
+line_feeds-none (b ∷ rest) h =
+    let drop = none-drop (λ b. b == 13) b rest refl h in
+    grind (arith, line_feeds-none rest, drop, none-keep b rest (with_line_feeds rest))
+
+leading-none : (x : List ℕ) → HasNone x → HasNone (without_leading x)
+leading-none [] h = refl
+leading-none (b ∷ rest) h =
+    grind (arith, leading-none rest, none-drop is_control_or_space b rest refl h)
+
+trailing-none : (x : List ℕ) → HasNone x → HasNone (without_trailing x)
+trailing-none [] h = refl
+trailing-none (b ∷ rest) h = cond_both (list_all is_control_or_space (b ∷ rest)) [] (b ∷
+    without_trailing rest) HasNone (λ _. refl) (λ _. none-keep b rest (without_trailing rest)
+    (trailing-none rest) h)
+
+newlines-none : (x : List ℕ) → HasNone x → HasNone (without_newlines x)
+newlines-none [] h = refl
+newlines-none (b ∷ rest) h = cond_both _ _ _ HasNone (λ e. newlines-none rest (none-drop
+    is_tab_or_newline b rest refl h e)) (λ _. none-keep b rest (without_newlines rest)
+    (newlines-none rest) h)
+
+in_scheme-none : (buffer x : List ℕ) → HasNone x → in_scheme buffer x ≡ None
+in_scheme-none buffer [] h = refl
+in_scheme-none buffer (b ∷ rest) h = cond_both _ _ _ (λ v. v ≡ None) (λ e. in_scheme-none (buffer ++
+    (lower b ∷ [])) rest (none-drop is_scheme_byte b rest refl h e)) (λ _. grind (arith, h))
+
+in_scheme_start-none : (x : List ℕ) → HasNone x → in_scheme_start x ≡ None
+in_scheme_start-none [] h = refl
+in_scheme_start-none (b ∷ rest) h = cond_both _ _ _ (λ v. v ≡ None) (λ e. in_scheme-none (lower b ∷
+    []) rest (none-drop is_letter b rest refl h e)) (λ _. refl)
+
+pub scheme_of-none : (x : List ℕ) → HasNone x → scheme_of (with_line_feeds x) ≡ None
+scheme_of-none x h =
+    let lines = with_line_feeds x in
+    in_scheme_start-none (without_newlines (without_trailing (without_leading lines)))
+    (newlines-none (without_trailing (without_leading lines))
+    (trailing-none (without_leading lines) (leading-none lines (line_feeds-none x h))))
 
 -- ---- line feeds and references
 
@@ -37,16 +94,7 @@ ReadsAlike x = (read_back (with_line_feeds x) ≡ with_line_feeds (read_back x))
 
 one-read : (b : ℕ) (feed : Bool) (later : List ℕ) → IsPlain b →
     read_back (one b feed later) ≡ one b feed (read_back later)
-one-read b feed later p = elim (cases_Bool (b == 13)) [
-  | inl is ↦ ap read_back (here _ is refl) ∙ by feed later ∙ sym (here _ is refl)
-  | inr not ↦ ap read_back (past _ not refl) ∙ read_back-other b later (eqb-false b 38 p.no_and)
-      ∙ sym (past _ not refl)
-]
-  where
-    by : (feed : Bool) (later : List ℕ) → read_back (cond feed later (10 ∷ later))
-        ≡ cond feed (read_back later) (10 ∷ read_back later)
-    by true later = refl
-    by false later = refl
+one-read b feed later p = grind (arith, read_back-other b later (eqb-false b 38 p.no_and))
 
 plain-alike : (b : ℕ) (rest : List ℕ) → IsPlain b → ReadsAlike rest → ReadsAlike (b ∷ rest)
 plain-alike b rest p h =
@@ -65,77 +113,50 @@ seen-is x e =
 -- ---- a protocol of letters
 protocol-split : (x q : List ℕ) → protocol_of x ≡ Some q → (r : List ℕ) × (x ≡ q ++ (58 ∷ r))
 protocol-split [] q e = absurd (none_some q e)
-protocol-split (b ∷ rest) q e = elim (cases_Bool (b == 58)) [
-  | inl colon ↦ (rest, first (eqb-true b 58 colon) (sym (protocol_of-colon b rest colon) ∙ e))
-  | inr on ↦ elim (cases_Bool (ends_protocol b)) [
-    | inl ends ↦ absurd (none_some q (sym (protocol_of-end b rest on ends) ∙ e))
-    | inr goes ↦ (let g : goes_on b ≡ true = ap₂ (λ s t. not s && not t) on goes in
-        let p = map_some b (protocol_of rest) q (sym (protocol_of-goes_on b rest g) ∙ e) in
-        let later = protocol-split rest p.0 p.1 in
-        (later.0, ap (λ y. b ∷ y) later.1 ∙ ap (λ q. q ++ (58 ∷ later.0)) (sym p.2)))
-  ]
-]
-  where
-    empty : (q : List ℕ) → Some [] ≡ Some q → [] ≡ q
-    empty q e = cc
-
-    first : b ≡ 58 → Some [] ≡ Some q → b ∷ rest ≡ q ++ (58 ∷ rest)
-    first is e = ap (λ b. b ∷ rest) is ∙ ap (λ q. q ++ (58 ∷ rest)) (empty q e)
+protocol-split (b ∷ rest) q e = cases (b == 58) (λ colon.
+    let none : Some [] ≡ Some q = sym (protocol_of-colon b rest colon) ∙ e in
+    (rest, cc (eqb-true b 58 colon, none))) (λ on. cases (ends_protocol b)
+    (λ ends. absurd (none_some q (sym (protocol_of-end b rest on ends) ∙ e))) (λ goes.
+    let g : goes_on b ≡ true = ap₂ (λ s t. not s && not t) on goes in
+    let p = map_some b (protocol_of rest) q (sym (protocol_of-goes_on b rest g) ∙ e) in
+    let later = protocol-split rest p.0 p.1 in
+    (later.0, ap (λ y. b ∷ y) later.1 ∙ ap (λ q. q ++ (58 ∷ later.0)) (sym p.2))))
 
 abbrev pub is_word : List ℕ → Bool
 is_word name = is_nonempty name && list_all is_letter name
 
 lower-letter : (b : ℕ) → is_letter (lower b) ≡ true → is_letter b ≡ true
-lower-letter b h = elim (cases_Bool (is_between 65 90 b)) [
-  | inl upper ↦ or_left (is_between 65 90 b) (is_between 97 122 b) upper
-  | inr not ↦ subst (λ c. is_letter c ≡ true) (past _ not refl) h
-]
+lower-letter b h = grind arith
 
 lowered-letters : (q : List ℕ) → list_all is_letter (lowered q) ≡ true → list_all is_letter q ≡ true
 lowered-letters [] h = refl
-lowered-letters (b ∷ q) h =
-    let p = and_parts (is_letter (lower b)) (list_all is_letter (lowered q)) h in
-    and_from (is_letter b) (list_all is_letter q) (lower-letter b p.0) (lowered-letters q p.1)
+lowered-letters (b ∷ q) h = grind (arith, lower-letter b, lowered-letters q)
 
 letters-no_return : (q : List ℕ) → list_all is_letter q ≡ true → list_all no_return q ≡ true
 letters-no_return q h = all-weaker _ _ (λ b h. ap not (passes_not is_letter b 13 refl h)) q h
 
 letter-control : (b : ℕ) → is_letter b ≡ true → is_control_or_space b ≡ false
-letter-control b h = elim (or_cases (is_between 65 90 b) (is_between 97 122 b) h) [
-  | inl upper ↦ below 65 b refl (and_parts (leb 65 b) (leb b 90) upper).0
-  | inr small ↦ below 97 b refl (and_parts (leb 97 b) (leb b 122) small).0
-]
-  where
-    below : (n b : ℕ) → ltb 32 n ≡ true → leb n b ≡ true → leb b 32 ≡ false
-    below n b e h =
-        let less = ltb-true 32 n e in
-        let at_most = leb-true n b h in
-        lt-leb b 32 (omega arith)
+letter-control b h = grind arith
 
 letter-newline : (b : ℕ) → is_letter b ≡ true → is_tab_or_newline b ≡ false
-letter-newline b h = or_from _ _ (or_from _ _ (passes_not is_letter b 9 refl h)
-    (passes_not is_letter b 10 refl h)) (passes_not is_letter b 13 refl h)
+letter-newline b h = grind arith
 
 letter-scheme : (b : ℕ) → is_letter b ≡ true → is_scheme_byte b ≡ true
 letter-scheme b h = or_left _ _ (or_left _ _ (or_left _ _ (or_left _ _ h)))
 
 leading-word : (q y : List ℕ) → is_word q ≡ true → without_leading (q ++ y) ≡ q ++ y
 leading-word [] y h = lie h
-leading-word (b ∷ q) y h = past _ (letter-control b (and_parts _ _ h).0) refl
+leading-word (b ∷ q) y h = grind (arith, letter-control b)
 
 trailing-word : (q r : List ℕ) → list_all is_letter q ≡ true →
     without_trailing (q ++ (58 ∷ r)) ≡ q ++ (58 ∷ without_trailing r)
 trailing-word [] r h = refl
-trailing-word (b ∷ q) r h =
-    let p = and_parts _ _ h in
-    past _ (and_left _ _ (letter-control b p.0)) (ap (λ y. b ∷ y) (trailing-word q r p.1))
+trailing-word (b ∷ q) r h = grind (arith, letter-control b, trailing-word q r)
 
 newlines-word : (q r : List ℕ) → list_all is_letter q ≡ true →
     without_newlines (q ++ (58 ∷ r)) ≡ q ++ (58 ∷ without_newlines r)
 newlines-word [] r h = refl
-newlines-word (b ∷ q) r h =
-    let p = and_parts (is_letter b) (list_all is_letter q) h in
-    past _ (letter-newline b p.0) (ap (λ y. b ∷ y) (newlines-word q r p.1))
+newlines-word (b ∷ q) r h = grind (arith, letter-newline b, newlines-word q r)
 
 in_scheme-word : (buffer q r : List ℕ) → list_all is_letter q ≡ true →
     in_scheme buffer (q ++ (58 ∷ r)) ≡ Some (buffer ++ lowered q)

@@ -1,46 +1,97 @@
--- The section of footnotes has a reading: its heading, its items and their ways back.
-use Rattle.std.proofs.Common.{◌≡◌, ℕ, Bool, true, false, cond, List, [], ◌∷◌, ◌++◌, refl, sym, ap}
-use Rattle.std.proofs.Common.{subst, append_assoc, codes}
-use Rattle.std.specs.Prelude.{Some, None, option_map, find, bytes_eq, string_bytes}
-use Rattle.std.specs.Option.{option_map_or}
-use Rattle.std.specs.List.{flat_map}
-use Rattle.std.proofs.lemmas.Bool.{cond_both}
-use Rattle.md_text.specs.Html.{Attribute, HasReadingWith, is_tag, elements}
-use Rattle.md_text.proofs.HtmlJoin.{text, nothing}
-use Rattle.md_text.specs.declared.options.CompileOptions.{CompileOptions}
-use Rattle.md_meaning.specs.Meaning.At.{Footnote, Context}
-use Rattle.md_meaning.specs.Meaning.Layout.{Piece, Text, Needed, Forced}
-use Rattle.md_meaning.specs.Meaning.Footnotes.{option_or, id_of, backreferences, body, item}
-use Rattle.md_meaning.specs.Meaning.Footnotes.{section, distinct, place_among, count_of}
-use Rattle.md_meaning.specs.FootnoteHeading.{tag_of, attributes_of}
-use Rattle.md_safe.proofs.Texts.{Escaped}
-use Rattle.md_safe.proofs.Claim.{Claim, plain_of}
-use Rattle.md_safe.proofs.Laid.{Adds, adds-all, adds-nothing, adds-needed, adds-forced, IsBeside}
-use Rattle.md_safe.proofs.Laid.{escaped_beside}
+-- The section of footnotes has a reading: its heading, its items and their ways back, which are
+-- before the end of a footnote's last paragraph.
+use Rattle.std.proofs.Common.{◌≡◌, ℕ, suc, ◌≤◌, ◌-◌, ◌==◌, Bool, true, ◌&&◌, ◌||◌, List, [], ◌∷◌}
+use Rattle.std.proofs.Common.{◌++◌, length, take, drop, refl, sym, ap, ◌∙◌, subst, arith}
+use Rattle.std.proofs.Common.{append_assoc, append-nil, codes, eqb-true, length-drop}
+use Rattle.std.specs.Prelude.{bytes_eq, Some, None, option_map, find, bytes_eq, string_bytes}
+use Rattle.std.proofs.lemmas.Bool.{cond_both, and_parts, and_from, cond_both}
+use Rattle.std.proofs.lemmas.List.{take-append-drop, drop-append-le}
+use Rattle.std.proofs.lemmas.Slice.Eq.{bytes_eq-Decides}
+use Rattle.md_text.specs.Html.{HasReadingWith, Attribute, is_tag, elements}
+use Rattle.md_text.specs.Laws.{is_line_ends}
+use Rattle.md_text.proofs.HtmlJoin.{text, join, text, nothing}
+use Rattle.md_meaning.specs.Meaning.Layout.{Piece, Text, Needed, Piece, Text, Needed, Forced}
+use Rattle.md_meaning.specs.Meaning.Footnotes.{unended_length, body, option_or, id_of}
+use Rattle.md_meaning.specs.Meaning.Footnotes.{backreferences, item, section, distinct, place_among}
+use Rattle.md_meaning.specs.Meaning.Footnotes.{count_of}
+use Rattle.md_safe.proofs.Tags.{plain_of, Claim, adds-flat, adds-before, adds-after, adds-escaped}
 use Rattle.md_safe.proofs.Tags.{attribute, Turns, TurnsTag, Takes, Bracket, adds-turned}
 use Rattle.md_safe.proofs.Tags.{bracket-tag, element-read, adds-framed, adds-framed_flat}
 use Rattle.md_safe.proofs.Tags.{framed-around, framed-needed, framed-forced, takes-escaped}
-use Rattle.md_safe.proofs.Tags.{adds-flat}
-use Rattle.md_safe.proofs.Calls.{label-escaped, id-escaped, backreferences-read, reads-text}
-use Rattle.md_safe.proofs.Elements.{bracket-plain}
-use Rattle.md_safe.proofs.Spot.{PassesIds, IsWhole, Setting, Prints}
+use Rattle.md_safe.proofs.Laid.{Adds, adds-text, adds-needed, escaped_beside, adds-all}
+use Rattle.md_safe.proofs.Laid.{adds-nothing, adds-forced, IsBeside}
+use Rattle.md_safe.proofs.Spot.{Setting, Prints, PassesIds, IsWhole, Setting, Prints}
 use Rattle.md_safe.proofs.FlowNodes.{Reads}
+use Rattle.std.specs.Option.{option_map_or}
+use Rattle.std.specs.List.{flat_map}
+use Rattle.md_text.specs.declared.options.CompileOptions.{CompileOptions}
+use Rattle.md_meaning.specs.Meaning.At.{Footnote, Context}
+use Rattle.md_meaning.specs.FootnoteHeading.{tag_of, attributes_of}
+use Rattle.md_safe.proofs.Texts.{Escaped}
+use Rattle.md_safe.proofs.Calls.{label-escaped, id-escaped, backreferences-read, reads-text}
 use Rattle.md_safe.proofs.BlockNodes.{holds-none}
 use Rattle.md_safe.proofs.Findings.{AreTexts, AreRead}
-use Rattle.md_safe.proofs.FootnoteBodies.{body-prints}
+
+-- at the end of a text there are only CR and LF
+pub rest-ends : (text : List ℕ) → is_line_ends (drop (unended_length text) text) ≡ true
+rest-ends [] = refl
+rest-ends (byte ∷ bytes) =
+    let ending : Bool = (byte == 13) || (byte == 10) in
+    let none : Bool = unended_length bytes == 0 in
+    cond_both (ending && none) 0 (suc (unended_length bytes))
+    (λ n. is_line_ends (drop n (byte ∷ bytes)) ≡ true) (λ h.
+    let parts = and_parts _ _ h in
+    and_from _ _ parts.0 (subst (λ n. is_line_ends (drop n bytes) ≡ true) (eqb-true _ _ parts.1)
+    (rest-ends bytes))) (λ _. rest-ends bytes)
+
+-- the last paragraph of a text takes a space and something else before its end
+abbrev pub TakesBack : (List ℕ → Type 0) → (List ℕ → Type 0) → Type 0
+TakesBack Q B =
+    (before endings back : List ℕ) → is_line_ends endings ≡ true →
+    Q (before ++ codes "</p>" ++ endings) → B back →
+    Q (before ++ (32 ∷ back) ++ codes "</p>" ++ endings)
+
+-- where a paragraph ends a text, the ways back stand before its end
+in_paragraph : (Q B : List ℕ → Type 0) → TakesBack Q B → (x back : List ℕ) → Q x → B back →
+    bytes_eq (drop (unended_length x - 4) (take (unended_length x) x)) (codes "</p>") ≡ true →
+    Q (take (unended_length x - 4) x ++ ((32 ∷ back) ++ drop (unended_length x - 4) x))
+in_paragraph Q B takes x back r rb h =
+    let m : ℕ = unended_length x in
+    let n : ℕ = m - 4 in
+    let endings : List ℕ = drop m x in
+    let tag : drop n (take m x) ≡ codes "</p>" =
+    (bytes_eq-Decides (drop n (take m x)) (codes "</p>")).0 h in
+    let fits : n ≤ length (take m x) = omega (arith, length-drop n (take m x), ap length tag) in
+    let last : drop n x ≡ codes "</p>" ++ endings = ap (λ y. drop n y) (sym (take-append-drop m x))
+    ∙ drop-append-le n (take m x) endings fits ∙ ap (λ y. y ++ endings) tag in
+    let cut : x ≡ take n x ++ codes "</p>" ++ endings =
+    sym (take-append-drop n x) ∙ ap (λ y. take n x ++ y) last
+    ∙ sym (append_assoc (take n x) (codes "</p>") endings) in
+    rw last (simp append_assoc at (takes (take n x) endings back (rest-ends x) (subst Q cut r) rb))
+
+-- the ways back, there or on a line of their own
+pub adds-body : (Q B : List ℕ → Type 0) {ending : List ℕ} → TakesBack Q B → (x back : List ℕ) →
+    Q x → B back → Adds ending Q (Text x ∷ Needed ∷ Text back ∷ []) → Adds ending Q (body x back)
+adds-body Q B {ending} takes x back r rb after =
+    let n : ℕ = unended_length x - 4 in
+    let split : List Piece = Text (take n x) ∷ Text (codes " ") ∷ Text back ∷ Text (drop n x) ∷ []
+    in
+    cond_both _ _ _ (Adds ending Q) (λ is. adds-flat refl (subst Q (ap
+    (λ y. take n x ++ (32 ∷ (back ++ y))) (sym (append-nil (drop n x))))
+    (in_paragraph Q B takes x back r rb is))) (λ _. after)
+
+pub body-prints : (s : Setting) (x back : List ℕ) → Reads s x → HasReadingWith s.p.test back →
+    Prints s (Reads s) (body x back)
+body-prints s x back r rb = adds-body (Reads s) (HasReadingWith s.p.test)
+    (λ before endings back h q rb. s.p.takes before endings (32 ∷ back) h q (join s.p.test (32 ∷ [])
+    back (text s.p.test (32 ∷ []) refl) rb)) x back r rb (adds-after s.p (adds-text r) (adds-before
+    (plain_of s.p) (adds-escaped s.p (adds-needed escaped_beside s.ending)) (adds-text rb)))
 
 -- an element before the content of brackets
 pub turn-after : {Q R S : List ℕ → Type 0} {o c : List ℕ} (h : List ℕ) → Turns R S o c →
     ((x : List ℕ) → Q x → R (h ++ x)) → Turns Q S (o ++ h) c
-turn-after {S = S} {o} {c} h bracket grows =
-    record { turn = λ x rx. subst S (by o h x c) (bracket.turn (h ++ x) (grows x rx)) }
-  where
-    by : (o h x c : List ℕ) → o ++ ((h ++ x) ++ c) ≡ (o ++ h) ++ (x ++ c)
-    by o h x c = simp append_assoc
-
-bracket-after : (p : Claim) (o c h : List ℕ) → Bracket p o c → HasReadingWith p.test h →
-    Bracket p (o ++ h) c
-bracket-after p o c h bracket r = turn-after h bracket (λ x rx. p.before h x r rx)
+turn-after h bracket grows =
+    record { turn = λ x r. simp append_assoc (simp append_assoc at (bracket.turn _ (grows x r))) }
 
 abbrev pub heading_label_of : CompileOptions → List ℕ
 heading_label_of options =
@@ -55,35 +106,18 @@ heading_text tag attributes label =
 
 heading-bracket : (s : Setting) (label : List ℕ) → PassesIds s.p.test → Escaped label →
     Bracket s.p (heading_text (codes "h2") (codes "class=\"sr-only\"") label) (codes "</section>")
-heading-bracket s label ids h = bracket-after s.p
-    (codes "<section data-footnotes=\"\" class=\"footnotes\">") (codes "</section>") (codes
-    "<h2 id=\"footnote-label\" class=\"sr-only\">" ++ (label ++ codes "</h2>")) ((bracket-tag s.p
-    (codes "section")).tag (attribute (codes "data-footnotes") [] ∷ attribute (codes "class")
-    (codes "footnotes") ∷ []) refl (rw (
-      s.test.other (codes "data-footnotes") [] refl,
-      s.test.other (codes "class") (codes "footnotes") refl,
-    )
-    refl)) ((element-read (plain_of s.p) (codes "h2")).tag (attribute (codes "id")
-    (codes "footnote-label") ∷ attribute (codes "class") (codes "sr-only") ∷ []) label refl (rw (
-      ids (codes "footnote-label"),
-      s.test.other (codes "class") (codes "sr-only") refl,
-    ) refl)
-    (text s.p.test label h))
-
--- the same as the options write it
-section-turn : {Q R : List ℕ → Type 0} (options : CompileOptions) → Turns Q R (heading_text
-    (codes "h2") (codes "class=\"sr-only\"") (heading_label_of options)) (codes "</section>") →
-    options.gfm_footnote_label_tag_name ≡ None → options.gfm_footnote_label_attributes ≡ None →
-    Turns Q R (heading_text (tag_of options) (attributes_of options)
-    (heading_label_of options)) (codes "</section>")
-section-turn {Q = Q} {R = R} options turn no_tag no_attributes =
-    let tag : tag_of options ≡ codes "h2" = ap
-    (λ o. option_or (option_map string_bytes o) (codes "h2")) no_tag in
-    let attributes : attributes_of options ≡ codes "class=\"sr-only\"" = ap (λ o. option_map_or
-    string_bytes o (codes "class=\"sr-only\"")) no_attributes in
-    subst (λ tag. Turns Q R (heading_text tag (attributes_of options) (heading_label_of options))
-    (codes "</section>")) (sym tag) (subst (λ attributes. Turns Q R (heading_text (codes "h2")
-    attributes (heading_label_of options)) (codes "</section>")) (sym attributes) turn)
+heading-bracket s label ids h =
+    let class : List ℕ → Attribute = attribute (codes "class") in
+    let notes = s.test.other (codes "data-footnotes") [] refl in
+    let footnotes = s.test.other (codes "class") (codes "footnotes") refl in
+    let id = ids (codes "footnote-label") in
+    let only = s.test.other (codes "class") (codes "sr-only") refl in
+    let heading = (element-read (plain_of s.p) (codes "h2")).tag (attribute (codes "id") (codes
+    "footnote-label") ∷ class (codes "sr-only") ∷ []) label refl (rw (id, only) refl) (text s.p.test
+    label h) in
+    turn-after _ ((bracket-tag s.p (codes "section")).tag (attribute (codes "data-footnotes") [] ∷
+    class (codes "footnotes") ∷ []) refl (rw (notes, footnotes) refl)) (λ x r. s.p.before _ x
+    heading r)
 
 -- an item
 pub li_id : (v : List ℕ) → Escaped v →
@@ -96,9 +130,8 @@ item_tag v = codes "<li id=\"" ++ (v ++ (codes "\">" ++ []))
 pub item-turns : {test : Attribute → Bool} {Q R : List ℕ → Type 0} →
     TurnsTag test Q R (codes "li") → (v : List ℕ) → test (attribute (codes "id") v) ≡ true →
     Escaped v → Turns Q R (item_tag v) (codes "</li>")
-item-turns {Q = Q} {R} turns v passes h = subst (λ o. Turns Q R o (codes "</li>")) (ap
-    (λ x. codes "<li id=\"" ++ x) (append_assoc v (34 ∷ []) (62 ∷ []))) (turns.tag
-    (attribute (codes "id") v ∷ []) (li_id v h) (cc passes))
+item-turns turns v passes h = simp append_assoc at
+    (turns.tag (attribute (codes "id") v ∷ []) (li_id v h) (cc passes))
 
 -- the text of a footnote
 abbrev pub text_among : List Footnote → List ℕ → List ℕ
@@ -109,14 +142,10 @@ text_among footnotes identifier =
 pub texts-among : (Q : List ℕ → Type 0) → Q [] → (footnotes : List Footnote)
     (identifier : List ℕ) → AreTexts Q footnotes → Q (text_among footnotes identifier)
 texts-among Q none [] identifier h = none
-texts-among Q none (footnote ∷ others) identifier h =
-    by (bytes_eq footnote.identifier identifier) (texts-among Q none others identifier h.1)
-  where
-    by : (is : Bool) → Q (text_among others identifier) →
-        Q (option_map_or (λ footnote. footnote.text) (cond is (Some footnote)
-        (find (λ footnote. bytes_eq footnote.identifier identifier) others)) [])
-    by true later = h.0
-    by false later = later
+texts-among Q none (footnote ∷ others) identifier h = cond_both (bytes_eq footnote.identifier
+    identifier) (Some footnote) (find (λ footnote. bytes_eq footnote.identifier identifier) others)
+    (λ found. Q (option_map_or (λ (footnote : Footnote). footnote.text) found [])) (λ _. h.0) (λ _.
+    texts-among Q none others identifier h.1)
 
 -- the id of a footnote, and the ways back from it
 abbrev pub note_id : Context → List ℕ → List ℕ
@@ -166,16 +195,19 @@ pub adds-section : {W I Q R : List ℕ → Type 0} → IsBeside W → Takes W I 
     context.options.gfm_footnote_label_attributes ≡ None → R [] → (footnotes : List Footnote) →
     Adds context.ending I (flat_map (item context footnotes) (distinct context.calls)) →
     Adds context.ending R (section context footnotes)
-adds-section {R = R} beside takes stays ends context h list turn no_tag no_attributes none footnotes
+adds-section {Q =
+    Q} {R = R} beside takes stays ends context h list turn no_tag no_attributes none footnotes
     a =
     let items : List Piece = flat_map (item context footnotes) (distinct context.calls) in
     let ol : List Piece = Forced ∷ Text (codes "<ol>") ∷ [] in
     let end : List Piece = Forced ∷ Text (codes "</ol>") ∷ [] in
     let last : List Piece = Forced ∷ Text (codes "</section>") ∷ Forced ∷ [] in
     let heads : List Piece = head_texts context.options in
+    let turns : Turns Q R (heading_text (tag_of context.options) (attributes_of context.options)
+    (heading_label_of context.options)) (codes "</section>") = rw (no_tag, no_attributes) turn in
     cond_both _ _ _ (Adds context.ending R) (λ _. subst
     (λ x. Adds context.ending R ((Needed ∷ heads) ++ (ol ++ x))) (append_assoc items end last)
-    (adds-turned stays ends (section-turn context.options turn no_tag no_attributes)
+    (adds-turned stays ends turns
     (adds-framed_flat beside heads refl (adds-needed beside h)) (adds-turned takes stays list
     (framed-forced beside h) a (framed-forced beside h))
     (adds-framed (adds-forced h) (adds-forced h)))) (λ _. adds-nothing none)
@@ -189,7 +221,8 @@ pub section-around : (s : Setting) (q : Claim) → Turns s.p.holds q.holds (head
     Prints s q.holds (section s.context footnotes)
 section-around s q turn no_tag no_attributes footnotes a = adds-section escaped_beside
     (takes-escaped s.p) (takes-escaped s.p) (takes-escaped q) s.context s.ending
-    (bracket-plain s.p (codes "ol") refl) turn no_tag no_attributes (q.plain [] (nothing q.test))
+    ((bracket-tag s.p (codes "ol")).tag [] refl refl) turn no_tag no_attributes (q.plain []
+    (nothing q.test))
     footnotes a
 
 pub section-prints : (s : Setting) → IsWhole s.p → s.context.options.gfm_footnote_label_tag_name

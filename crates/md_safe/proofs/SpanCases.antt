@@ -2,7 +2,7 @@
 -- content.
 use Rattle.std.proofs.Common.{Bool, List, ap, codes, false, refl, suc, sym, true, ℕ, ◌&&◌, ◌++◌}
 use Rattle.std.proofs.Common.{◌||◌, ◌∙◌, ◌∷◌, ◌≡◌, subst, [], not, cond}
-use Rattle.std.proofs.lemmas.Bool.{and_from, and_parts, cond_both, not-true, or_parts}
+use Rattle.std.proofs.lemmas.Bool.{and_parts, cond_both, not-true, or_parts}
 use Rattle.std.specs.Prelude.{None}
 use Rattle.md_base.specs.declared.event.Name.TheVariants as name_variants
 use name_variants.{AutolinkEmail, AutolinkProtocol, GfmAutolinkLiteralEmail}
@@ -14,18 +14,17 @@ use Rattle.md_base.specs.Is.{is as named}
 use Rattle.md_base.specs.declared.event.Name.{Name}
 use Rattle.md_content.specs.Built.{Blocks, content_of, is_autolink}
 use Rattle.md_meaning.specs.Meaning.At.{At, Target, identifier_of, text_in}
-use Rattle.md_meaning.specs.Meaning.Footnotes.{call, call_id, count_of, distinct, place_among}
+use Rattle.md_meaning.specs.Meaning.Footnotes.{call_id, count_of, distinct, place_among}
 use Rattle.md_meaning.specs.Meaning.Layout.{Piece, Text, layout, said, when}
 use Rattle.md_meaning.specs.Meaning.Means.{prints}
-use Rattle.md_meaning.specs.Meaning.Media.{anchor, autolink, leads_to, literal, picture}
+use Rattle.md_meaning.specs.Meaning.Media.{anchor, autolink, leads_to, literal}
 use Rattle.md_meaning.specs.Meaning.Spans.{task_start}
-use Rattle.md_steps.proofs.Standing.{picked}
 use Rattle.md_text.proofs.EncodeLaws.{is_escaped-encoded}
 use Rattle.md_text.specs.Encode.{encoded}
 use Rattle.md_safe.proofs.BlockNodes.{hidden-prints, is_hidden, is_silent, silent-block}
 use Rattle.md_safe.proofs.BlockNodes.{silent-prints}
-use Rattle.md_safe.proofs.Calls.{adds-call, call_tags}
-use Rattle.md_safe.proofs.Cases.{either}
+use Rattle.md_safe.proofs.Calls.{adds-call}
+use Rattle.md_safe.proofs.Cases.{either, cases}
 use Rattle.md_safe.proofs.Claims.{AreSpans, Claims, Here, Known, Own, Prints, SpanPrints, are-spans}
 use Rattle.md_safe.proofs.Claims.{nothing, pair, plain_tag, says}
 use Rattle.md_safe.proofs.Elements.{adds-task, class-passes}
@@ -70,11 +69,10 @@ autolinked : (m : Claims) {content : Content} → AreSpans m.nested content →
     Prints m content (autolink m.s.context t plain prefix)
 autolinked m {content} f t plain prefix free =
     let x : List ℕ = text_in m.s.context.bytes t.place in
-    let target : Target = record { destination = prefix ++ x; title = None } in
     let said_so : Escaped (encoded true x) = is_escaped-encoded x in
-    cond_both _ _ _ (Prints m content) (λ _. adds-text (says m f _ said_so)) (λ no. subst (λ c.
-    Prints m c (anchor m.s.context.options target (encoded true x))) (sym (free no)) (link m target
-    (encoded true x) tt (linked-text m (encoded true x) said_so)))
+    cond_both _ _ _ (Prints m content) (λ _. adds-text (says m f _ said_so)) (λ other. rw (free
+    other) (link m (record { destination = prefix ++ x; title = None }) (encoded true x) tt
+    (linked-text m (encoded true x) said_so)))
 
 -- a literal autolink, which is plain in links too
 literal-node : (m : Claims) {content : Content} → AreSpans m.nested content →
@@ -111,10 +109,9 @@ pair-blocks _ = refl
 pair-node : (m : Claims) (t : At) (content : Content) (name : Name) → is_pair name ≡ true →
     SpanPrints m t content name
 pair-node m t content name is inner k a =
-    let own = and_parts _ _ (subst (λ b. not b || (is_blocks (content_of name Blocks) && not
-    (named Link name)) ≡ true) is (pair-blocks name)) in
-    subst (Prints m content) (sym (pair-prints m.s.context t name is inner)) (pair m t
-    a.spans.spaced k.outside (by_pair (λ tag. Turns (m.holds content) (m.holds content)
+    let own = and_parts _ _ (rw is at (pair-blocks name)) in
+    rw (pair-prints m.s.context t name is inner) (pair m t a.spans.spaced k.outside
+    (by_pair (λ tag. Turns (m.holds content) (m.holds content)
     (60 ∷ (tag ++ (62 ∷ []))) (60 ∷ 47 ∷ (tag ++ (62 ∷ []))))
     (plain_tag m (codes "em") refl a.spans.em) (plain_tag m (codes "strong") refl a.spans.strong)
     (plain_tag m (codes "del") refl a.spans.del) name is) (a.own own.0 (not-true _ own.1)))
@@ -123,15 +120,11 @@ pair-node m t content name is inner k a =
 code-node : (m : Claims) (t : At) (content : Content) (name : Name) → is_code name ≡ true →
     SpanPrints m t content name
 code-node m t content name is inner k a =
-    let math : Bool = is_math name in
     let x : List ℕ = layout m.s.context.ending inner in
-    let shown : List ℕ = shown_in t x in
-    let e : Escaped shown = shown-escaped t x
-    (code-text m.s t Blocks name k.escaping is inner k.within) in
-    subst (Prints m content) (sym (code-prints m.s.context t name is inner)) (subst (λ b. Prints m
-    content (cond b (said shown) (Text (code_opening math) ∷ Text shown ∷ Text (codes "</code>")
-    ∷ []))) (sym k.outside) (by math (m.element Characters content (codes "code") a.spans.code)
-    (m.text Characters shown e refl)))
+    let e : Escaped (shown_in t x) = shown-escaped t x (code-text m.s t Blocks name k.escaping is
+    inner k.within) in
+    rw (code-prints m.s.context t name is inner, k.outside) (by (is_math name) (m.element Characters
+    content (codes "code") a.spans.code) (m.text Characters (shown_in t x) e refl))
   where
     by : {Q R : List ℕ → Type 0} {x : List ℕ} (math : Bool) → Tagged m.s.p.test Q R (codes "code") →
         Q x → Adds m.s.context.ending R (Text (code_opening math) ∷ Text x ∷ Text
@@ -145,23 +138,16 @@ code-node m t content name is inner k a =
 break : (m : Claims) (t : At) {content : Content} → AreSpans m.nested content →
     t.around.in_image ≡ false → Prints m
     content (when (not t.around.in_image) (said (codes "<br />")))
-break m t {content} f out = subst (λ b. Prints m content (when (not b) (said (codes "<br />"))))
-    (sym out) (adds-flat refl ((m.void content (codes "br") f.br).tag [] refl refl))
+break m t {content} f out =
+    rw out (adds-flat refl ((m.void content (codes "br") f.br).tag [] refl refl))
 
 single-node : (m : Claims) (t : At) (content : Content) (name : Name) → is_single name ≡ true →
     SpanPrints m t content name
-single-node m t content Link is inner k a =
-    let label : List ℕ = layout m.s.context.ending inner in
-    let target : Target = leads_to m.s.context t in
-    subst (λ b. Prints m content (cond b (said label) (anchor m.s.context.options target label)))
-    (sym k.outside) (subst (λ c. Prints m c (anchor m.s.context.options target label))
-    (sym (a.free refl)) (link m target label (target-title m.s t k.resource)
-    (adds-alone (a.label refl))))
-single-node m t content Image is inner k a =
-    let label : List ℕ = layout m.s.context.ending inner in
-    let target : Target = leads_to m.s.context t in
-    subst (λ b. Prints m content (cond b (said label) (picture m.s.context.options target label)))
-    (sym k.outside) (adds-image m.s.test (m.void content (codes "img") a.spans.img) target label
+single-node m t content Link is inner k a = rw (k.outside, a.free refl) (link m (leads_to
+    m.s.context t) (layout m.s.context.ending inner) (target-title m.s t k.resource) (adds-alone
+    (a.label refl)))
+single-node m t content Image is inner k a = rw k.outside (adds-image m.s.test (m.void content
+    (codes "img") a.spans.img) (leads_to m.s.context t) (layout m.s.context.ending inner)
     (target-title m.s t k.resource) (adds-alone k.within))
 single-node m t content HardBreakEscape is inner k a = break m t a.spans k.outside
 single-node m t content HardBreakTrailing is inner k a = break m t a.spans k.outside
@@ -173,11 +159,9 @@ single-node m t content GfmFootnoteCall is inner k a =
     let identifier : List ℕ = identifier_of m.s.context.bytes t.children in
     let number : ℕ = place_among (distinct m.s.context.calls) identifier in
     let occurrence : ℕ = suc (count_of t.calls identifier) in
-    subst (λ c. Prints m c (call m.s.context t)) (sym (a.free refl)) (subst (λ b. Prints m Phrasing
-    (when (not b) (call_tags m.s.context.options identifier number occurrence))) (sym k.outside)
-    (adds-call m.s.test (a-tag m) (m.element Phrasing Phrasing (codes "sup") refl) (linked-text m)
-    identifier number occurrence (k.ids refl (call_id m.s.context.options identifier number
-    occurrence))))
+    rw (a.free refl, k.outside) (adds-call m.s.test (a-tag m) (m.element Phrasing Phrasing (codes
+    "sup") refl) (linked-text m) identifier number occurrence (k.ids refl (call_id
+    m.s.context.options identifier number occurrence)))
 single-node m t content _ is inner k a = lie is
 
 -- ---- all of them
@@ -190,12 +174,8 @@ is_inline name =
 
 spans-place : (name : Name) → is_hidden name ≡ false → is_inline name ≡ true →
     place_of name ≡ Phrasing
-spans-place name h is = picked _ _ _ (by name) (and_from _ _ (ap not h) is)
-  where
-    by : (name : Name) → cond (not (is_hidden name) && is_inline name) (place_of name)
-        Phrasing ≡ Phrasing
-    by Link = refl
-    by _ = refl
+spans-place Link h is = refl
+spans-place _ h is = cc
 
 -- spans stand in spans, of the same content but in a link
 spans-in : (nested : Bool) (content : Content) (name : Name) → is_spans content ≡ true →
@@ -229,7 +209,18 @@ pub record Spanning (t : At) (content : Content) (name : Name) : Type 0 where
 pub inline-node : (m : Claims) (t : At) (content : Content) (name : Name) → is_inline name ≡ true →
     (inner : List Piece) → Known m t name inner → Own m content name inner →
     Spanning t content name → Prints m content (prints m.s.context t name inner)
-inline-node m t content name is inner k own g = by (is_hidden name) refl
+inline-node m t content name is inner k own g = cases (is_hidden name)
+    (λ h. rw (hidden-prints m.s.context t name h inner) (nothing m spans.spaced)) (λ h.
+    let a = here h in
+    either _ _ is (λ is. escaped (text-node m.s t Escaped name (λ x h. h k.escaping) is k.fit
+    inner)) (λ c. either _ _ c (λ is. either (is_pair name) _ is
+    (λ is. pair-node m t content name is inner k a) (λ c. either (is_code name) _ c
+    (λ is. code-node m t content name is inner k a)
+    (λ is. single-node m t content name is inner k a))) (λ c. either _ _ c
+    (λ is. autolink-node m t content name is inner k a) (λ c. either _ _ c (λ is. escaped
+    (leaf-escaped m.s t name k.escaping is k.fit inner)) (λ c. either _ _ c
+    (λ is. lie (sym h ∙ is)) (λ is. rw (silent-prints m.s.context t name is inner)
+    (a.own (silent-block name is).0 (silent-block name is).1)))))))
   where
     spans : AreSpans m.nested content
     spans = are-spans m.nested content g.spans
@@ -237,10 +228,10 @@ inline-node m t content name is inner k own g = by (is_hidden name) refl
     here : is_hidden name ≡ false → Here m t content name inner
     here shown = record {
       spans = spans;
-      own = λ blocks other. subst (λ c. Prints m c inner)
-          (spans-in m.nested content name g.spans shown is other) (own blocks);
-      label = λ link. subst (λ c. Prints m c inner) (link-in m.nested content name
-          (g.free (link-prints name link)) link) (own (link-blocks name link));
+      own = λ blocks other. rw (spans-in m.nested content name g.spans shown is other) at (own
+          blocks);
+      label = λ link. rw (link-in m.nested content name (g.free (link-prints name link)) link) at
+          (own (link-blocks name link));
       free = g.free;
       plain = g.plain;
     }
@@ -253,20 +244,3 @@ inline-node m t content name is inner k own g = by (is_hidden name) refl
     escaped : Adds m.s.context.ending Escaped (prints m.s.context t name inner) →
         Prints m content (prints m.s.context t name inner)
     escaped a = adds-weaker (says m spans) a
-
-    by : (hidden : Bool) → is_hidden name ≡ hidden → Prints m
-        content (prints m.s.context t name inner)
-    by true h = subst (Prints m content) (sym (hidden-prints m.s.context t name h inner))
-        (nothing m spans.spaced)
-    by false h =
-        let a = here h in
-        either _ _ is (λ is. escaped (text-node m.s t Escaped name (λ x h. h k.escaping) is k.fit
-        inner)) (λ c. either _ _ c (λ is. either (is_pair name) _ is
-        (λ is. pair-node m t content name is inner k a) (λ c. either (is_code name) _ c
-        (λ is. code-node m t content name is inner k a)
-        (λ is. single-node m t content name is inner k a))) (λ c. either _ _ c
-        (λ is. autolink-node m t content name is inner k a) (λ c. either _ _ c (λ is. escaped
-        (leaf-escaped m.s t name k.escaping is k.fit inner)) (λ c. either _ _ c
-        (λ is. lie (sym h ∙ is)) (λ is. subst (Prints m content)
-        (sym (silent-prints m.s.context t name is inner)) (a.own (silent-block name is).0
-        (silent-block name is).1))))))

@@ -1,5 +1,5 @@
 -- Spans that print something else than their children, and what they print in images.
-use Rattle.std.proofs.Common.{◌≡◌, ℕ, suc, Bool, true, false, not, ◌||◌, cond, List, [], ◌∷◌, ◌++◌}
+use Rattle.std.proofs.Common.{◌≡◌, ℕ, Bool, true, false, ◌||◌, List, []}
 use Rattle.std.proofs.Common.{refl, sym, subst, inl, inr, codes, ◌∙◌}
 use Rattle.md_base.proofs.Lies.{lie}
 use Rattle.md_base.specs.declared.event.Name.{Name}
@@ -9,22 +9,19 @@ use name_variants.{GfmFootnoteCall, AutolinkEmail, AutolinkProtocol, GfmAutolink
 use name_variants.{GfmAutolinkLiteralMailto, GfmAutolinkLiteralProtocol, GfmAutolinkLiteralWww}
 use name_variants.{GfmAutolinkLiteralXmpp}
 use Rattle.md_text.proofs.EncodeLaws.{is_escaped-encoded}
-use Rattle.md_meaning.specs.Meaning.At.{At, text_in, identifier_of}
-use Rattle.md_meaning.specs.Meaning.Layout.{Piece, Text, layout, said, when}
+use Rattle.md_meaning.specs.Meaning.At.{At, text_in}
+use Rattle.md_meaning.specs.Meaning.Layout.{Piece, layout}
 use Rattle.md_meaning.specs.Meaning.Means.{prints}
-use Rattle.md_meaning.specs.Meaning.Spans.{task_start}
-use Rattle.md_meaning.specs.Meaning.Media.{leads_to, autolink, anchor, picture}
-use Rattle.md_meaning.specs.Meaning.Footnotes.{place_among, distinct, count_of}
+use Rattle.md_meaning.specs.Meaning.Media.{autolink}
 use Rattle.md_content.specs.Built.{is_autolink, Spans}
 use Rattle.md_safe.proofs.Spot.{Setting, Prints, Inside}
 use Rattle.md_safe.proofs.Cases.{either}
 use Rattle.md_safe.proofs.Texts.{Escaped}
 use Rattle.md_safe.proofs.Laid.{adds-text, adds-nothing, adds-weaker, adds-alone}
 use Rattle.md_safe.proofs.Elements.{IsDone}
-use Rattle.md_safe.proofs.SpanSorts.{pair_tag, is_pair, pair-prints, pair-inside, is_code, is_math}
-use Rattle.md_safe.proofs.SpanSorts.{code_opening, code-prints, code-text, shown_in, shown-escaped}
+use Rattle.md_safe.proofs.SpanSorts.{is_pair, pair-prints, pair-inside, is_code}
+use Rattle.md_safe.proofs.SpanSorts.{code-prints, code-text, shown-escaped}
 use Rattle.std.proofs.lemmas.Bool.{or_left}
-use Rattle.md_safe.proofs.Calls.{call_tags}
 
 -- other spans that print something else than their children
 abbrev pub is_single : Name → Bool
@@ -46,49 +43,34 @@ is_shown name = is_pair name || (is_code name || is_single name)
 single-in_image : (s : Setting) (t : At) (name : Name) → t.around.in_image ≡ true →
     is_single name ≡ true → (inner : List Piece) → Inside s t Spans name inner →
     Prints s Escaped (prints s.context t name inner)
-single-in_image s t Link image is inner a = subst (λ b. Prints s Escaped (cond b
-    (said (layout s.context.ending inner)) (anchor s.context.options (leads_to s.context t)
-    (layout s.context.ending inner)))) (sym image) (adds-text (adds-alone {f = Escaped} a))
-single-in_image s t Image image is inner a = subst (λ b. Prints s Escaped (cond b
-    (said (layout s.context.ending inner)) (picture s.context.options (leads_to s.context t)
-    (layout s.context.ending inner)))) (sym image) (adds-text (adds-alone {f = Escaped} a))
-single-in_image s t HardBreakEscape image is inner a = subst (λ b. Prints s Escaped
-    (when (not b) (said (codes "<br />")))) (sym image) (adds-nothing refl)
-single-in_image s t HardBreakTrailing image is inner a = subst (λ b. Prints s Escaped
-    (when (not b) (said (codes "<br />")))) (sym image) (adds-nothing refl)
-single-in_image s t GfmTaskListItemCheck image is inner a = subst (λ b. Prints s Escaped (cond b
-    inner (task_start s.context ++ (inner ++ said (codes "/>"))))) (sym image) (adds-weaker
+single-in_image s t Link image is inner a = rw image (adds-text (adds-alone {f = Escaped} a))
+single-in_image s t Image image is inner a = rw image (adds-text (adds-alone {f = Escaped} a))
+single-in_image s t HardBreakEscape image is inner a = rw image (adds-nothing refl)
+single-in_image s t HardBreakTrailing image is inner a = rw image (adds-nothing refl)
+single-in_image s t GfmTaskListItemCheck image is inner a = rw image (adds-weaker
     {f = IsDone t.around.in_image} (λ x done. elim done [
       | inl e ↦ subst Escaped (sym e) refl
       | inr out ↦ lie (sym out.0 ∙ image)
     ]) a)
-single-in_image s t GfmFootnoteCall image is inner a =
-    let identifier : List ℕ = identifier_of s.context.bytes t.children in
-    subst (λ b. Prints s Escaped (when (not b) (call_tags s.context.options identifier
-    (place_among (distinct s.context.calls) identifier) (suc (count_of t.calls identifier)))))
-    (sym image) (adds-nothing refl)
+single-in_image s t GfmFootnoteCall image is inner a = rw image (adds-nothing refl)
 single-in_image s t _ image is inner a = lie is
 
 pub shown-in_image : (s : Setting) (t : At) (name : Name) → t.around.is_escaping ≡ true →
     t.around.in_image ≡ true → is_shown name ≡ true → (inner : List Piece) →
     Inside s t Spans name inner → Prints s Escaped (prints s.context t name inner)
-shown-in_image s t name e image is inner a = either (is_pair name) _ is (λ is. subst
-    (Prints s Escaped) (sym (pair-prints s.context t name is inner)) (subst (λ b. Prints s Escaped
-    (cond b inner (said (60 ∷ (pair_tag name ++ (62 ∷ [])))
-    ++ (inner ++ said (60 ∷ 47 ∷ (pair_tag name ++ (62 ∷ []))))))) (sym image)
-    (pair-inside s t Spans name is inner a))) (λ c. either (is_code name) (is_single name) c (λ is.
-    let shown : List ℕ = shown_in t (layout s.context.ending inner) in
-    subst (Prints s Escaped) (sym (code-prints s.context t name is inner)) (subst (λ b. Prints s
-    Escaped (cond b (said shown) (Text (code_opening (is_math name)) ∷ Text shown ∷ Text
-    (codes "</code>") ∷ []))) (sym image) (adds-text (shown-escaped t
-    (layout s.context.ending inner) (code-text s t Spans name e is inner a)))))
+shown-in_image s t name e image is inner a = either (is_pair name) _ is
+    (λ is. rw (pair-prints s.context t name is inner, image) (pair-inside s t Spans name is inner
+    a))
+    (λ c. either (is_code name) (is_single name) c
+    (λ is. rw (code-prints s.context t name is inner, image) (adds-text (shown-escaped t (layout
+    s.context.ending inner) (code-text s t Spans name e is inner a))))
     (λ is. single-in_image s t name image is inner a))
 
 -- an autolink, which is plain there
 plain-in_image : (s : Setting) (t : At) (plain : Bool) (prefix : List ℕ) → plain ≡ true →
     Prints s Escaped (autolink s.context t plain prefix)
-plain-in_image s t plain prefix is = subst (λ b. Prints s Escaped (autolink s.context t b prefix))
-    (sym is) (adds-text (is_escaped-encoded (text_in s.context.bytes t.place)))
+plain-in_image s t plain prefix is =
+    rw is (adds-text (is_escaped-encoded (text_in s.context.bytes t.place)))
 
 pub autolink-in_image : (s : Setting) (t : At) (name : Name) → t.around.in_image ≡ true →
     is_autolink name ≡ true → (inner : List Piece) → Prints s

@@ -9,7 +9,6 @@ use Rattle.md_meaning.specs.Meaning.Layout.{Piece, layout, said}
 use Rattle.md_meaning.specs.Meaning.Means.{prints}
 use Rattle.md_meaning.specs.Meaning.Spans.{span, code, trimmed, without_escapes}
 use Rattle.md_content.specs.Built.{Content}
-use Rattle.md_steps.proofs.Standing.{picked}
 use Rattle.md_safe.proofs.Texts.{Escaped, trimmed-escaped, pipes-escaped}
 use Rattle.md_safe.proofs.Laid.{adds-alone}
 use Rattle.md_safe.proofs.Spot.{Setting, Here, Prints, Inside}
@@ -48,15 +47,8 @@ code_opening math =
 pub pair-prints : (context : Context) (t : At) (name : Name) → is_pair name ≡ true →
     (inner : List Piece) → prints context t name inner ≡ span t
     (said (60 ∷ (pair_tag name ++ (62 ∷ [])))) inner (said (60 ∷ 47 ∷ (pair_tag name ++ (62 ∷ []))))
-pair-prints context t name is inner = picked _ _ _ (by name) is
-  where
-    by : (name : Name) → cond (is_pair name) (prints context t name inner) (span t
-        (said (60 ∷ (pair_tag name ++ (62 ∷ [])))) inner
-        (said (60 ∷ 47 ∷ (pair_tag name ++ (62 ∷ []))))) ≡ span t
-        (said (60 ∷ (pair_tag name ++ (62 ∷ []))))
-        inner (said (60 ∷ 47 ∷ (pair_tag name ++ (62 ∷ []))))
-    by Emphasis = refl
-    by _ = refl
+pair-prints context t Emphasis is inner = refl
+pair-prints context t _ is inner = cc
 
 -- a content that is allowed in a pair of tags is allowed around it too
 pub pair-inside : (s : Setting) (t : At) (content : Content) (name : Name) → is_pair name ≡ true →
@@ -69,13 +61,8 @@ pair-inside s t content _ is inner a = lie is
 pub code-prints : (context : Context) (t : At) (name : Name) → is_code name ≡ true →
     (inner : List Piece) → prints context t name inner ≡ code t
     (code_opening (is_math name)) (layout context.ending inner)
-code-prints context t name is inner = picked _ _ _ (by name) is
-  where
-    by : (name : Name) → cond (is_code name) (prints context t name inner) (code t
-        (code_opening (is_math name)) (layout context.ending inner)) ≡ code t
-        (code_opening (is_math name)) (layout context.ending inner)
-    by Emphasis = refl
-    by _ = refl
+code-prints context t CodeText is inner = refl
+code-prints context t _ is inner = cc
 
 -- the text of code as it is shown
 abbrev pub shown_in : At → List ℕ → List ℕ

@@ -1,7 +1,6 @@
 -- A node in its context: the facts about the document, and the node's meaning. The lemmas on nodes
 -- use this record.
-use Rattle.std.proofs.Common.{◌≡◌, ℕ, Bool, true, false, cond, List, [], ◌∷◌, ◌++◌, sym, subst}
-use Rattle.std.proofs.Common.{codes, ◌&&◌}
+use Rattle.std.proofs.Common.{◌≡◌, ℕ, Bool, true, List, [], ◌∷◌, ◌++◌, codes, ◌&&◌}
 use Rattle.std.specs.Prelude.{Option, Some, None, find, bytes_eq, unwrap_or}
 use Rattle.std.specs.Option.{option_map_or}
 use Rattle.md_base.specs.declared.event.Name.{Name}
@@ -17,9 +16,8 @@ use Rattle.md_meaning.specs.Meaning.Media.{target_defined, leads_to}
 use Rattle.md_meaning.specs.Meaning.Means.{prints}
 use Rattle.md_content.specs.Built.{Content, IsFit, content_of}
 use Rattle.md_safe.proofs.Texts.{Escaped}
-use Rattle.md_safe.proofs.Claim.{Claim}
+use Rattle.md_safe.proofs.Tags.{Claim, IsTest, attribute}
 use Rattle.md_safe.proofs.Laid.{Adds}
-use Rattle.md_safe.proofs.Tags.{IsTest, attribute}
 use Rattle.md_safe.proofs.Media.{IsEscapedTitle}
 use Rattle.md_safe.proofs.Contents.{Holds}
 use Rattle.md_meaning.specs.declared.surroundings.Surroundings.{Surroundings}
@@ -28,11 +26,12 @@ use Rattle.md_base.specs.Tree.{Forest}
 use Rattle.md_meaning.specs.Meaning.Nodes.{Outcome}
 use Rattle.md_tree.specs.Rules.{place}
 use Rattle.md_base.specs.Children.{is_empty}
+use Rattle.std.proofs.lemmas.Bool.{cond_both}
+use Rattle.md_safe.proofs.Cases.{OnSome}
 
 -- the title of a target is escaped, where there is one
 abbrev pub IsGoodTarget : Option Target → Type 0
-IsGoodTarget None = Unit {0}
-IsGoodTarget (Some target) = IsEscapedTitle target.title
+IsGoodTarget resource = OnSome (λ (target : Target). IsEscapedTitle target.title) resource
 
 -- the titles of some definitions are escaped
 abbrev pub AreTitles : List Defined → Type 0
@@ -89,7 +88,7 @@ IsNarrow escaping holds = (x : List ℕ) → (escaping ≡ true → Escaped x) �
 -- an encoded text is escaped if that is required
 pub encoded-escaped : (escaping : Bool) (x : List ℕ) → escaping ≡ true →
     Escaped (encoded escaping x)
-encoded-escaped escaping x e = subst (λ b. Escaped (encoded b x)) (sym e) (is_escaped-encoded x)
+encoded-escaped escaping x e = rw e (is_escaped-encoded x)
 
 -- the title of a definition is escaped
 defined-title : (definitions : List Defined) (identifier : List ℕ) → AreTitles definitions →
@@ -97,26 +96,19 @@ defined-title : (definitions : List Defined) (identifier : List ℕ) → AreTitl
     (find (λ defined. bytes_eq defined.identifier identifier) definitions)
     (target_in nothing_found)).title
 defined-title [] identifier h = tt
-defined-title (defined ∷ others) identifier h = by (bytes_eq defined.identifier identifier)
-    (defined-title others identifier h.1)
-  where
-    by : (is : Bool) → IsEscapedTitle (option_map_or (λ defined. defined.target)
-        (find (λ defined. bytes_eq defined.identifier identifier) others)
-        (target_in nothing_found)).title
-        → IsEscapedTitle (option_map_or (λ defined. defined.target)
-        (cond is (Some defined) (find (λ defined. bytes_eq defined.identifier identifier) others))
-        (target_in nothing_found)).title
-    by true later = h.0
-    by false later = later
+defined-title (defined ∷ others) identifier h = cond_both (bytes_eq defined.identifier identifier)
+    (Some defined) (find (λ one. bytes_eq one.identifier identifier) others) (λ found.
+    IsEscapedTitle (option_map_or (λ (defined : Defined). defined.target) found (target_in
+    nothing_found)).title) (λ _. h.0) (λ _. defined-title others identifier h.1)
 
 pub target-title : (s : Setting) (t : At) → IsGoodTarget t.found.resource →
     IsEscapedTitle (leads_to s.context t).title
-target-title s t good = by t.found.resource good
-  where
-    by : (resource : Option Target) → IsGoodTarget resource → IsEscapedTitle (unwrap_or resource
-        (target_defined s.context (identifier_of s.context.bytes t.children))).title
-    by None h = defined-title _ _ s.titles
-    by (Some target) h = h
+target-title s t good = elim t.found.resource as (λ resource. IsGoodTarget resource → IsEscapedTitle
+    (unwrap_or resource (target_defined s.context (identifier_of s.context.bytes
+    t.children))).title) [
+      | None ↦ λ h. defined-title _ _ s.titles
+      | Some target ↦ λ h. h
+    ] good
 
 -- a node in the document, by what its children mean
 abbrev pub at_in : Surroundings → Before → Point → Point → Forest → Forest → Outcome → At

@@ -1,28 +1,29 @@
 -- Texts that a content allows: the empty text, a plain text, tags around their content, and two
--- such texts joined.
+-- such texts joined. What stands among spans stands among blocks.
 use Rattle.std.specs.List.{list_all}
 use Rattle.std.specs.Option.{option_map_or}
 use Rattle.std.proofs.Common.{◌≡◌, ℕ, ◌==◌, Bool, true, false, ◌||◌, List, [], ◌∷◌, ◌++◌, refl, sym}
-use Rattle.std.proofs.Common.{ap, ap₂, ◌∙◌, subst, inl, inr, append-nil, eqb-true}
-use Rattle.std.specs.Prelude.{Some}
-use Rattle.std.proofs.lemmas.Bool.{and_parts, and_from, or_cases}
+use Rattle.std.proofs.Common.{ap, ap₂, ◌∙◌, append-nil, arith}
+use Rattle.std.specs.Prelude.{Some, Option, Some, None, find, option_map}
+use Rattle.std.proofs.lemmas.Bool.{and_parts, and_from, and_parts, and_from, or_right}
 use Rattle.std.proofs.lemmas.List.Folds.{list_all-append}
 use Rattle.md_base.proofs.Lies.{lie}
 use Rattle.md_text.specs.Laws.{is_line_ends}
 use Rattle.md_text.specs.Bytes.{is_one_of}
 use Rattle.md_text.specs.Html.{Attribute, Forest, Empty, Text, Void, Element, is_tag, elements}
-use Rattle.md_text.specs.Html.{void_tags, written_attributes, opening_tag, closing_tag, IsReading}
-use Rattle.md_text.specs.Html.{any_attribute}
+use Rattle.md_text.specs.Html.{void_tags, written_attributes, closing_tag, IsReading, any_attribute}
 use Rattle.md_text.proofs.HtmlJoin.{text_before, joined, after_forest, opening-before}
 use Rattle.md_text.proofs.HtmlReading.{only_reading, all-any}
 use Rattle.md_text.proofs.HtmlWriting.{written_attributes-before}
 use Rattle.md_text.proofs.EscapedLemmas.{escaped-append}
 use Rattle.md_safe.proofs.Texts.{Escaped, line_ends-escaped}
 use Rattle.md_safe.proofs.Laid.{IsBeside}
-use Rattle.md_safe.proofs.Tags.{Turns, TurnsTag, Tagged, Single, Takes}
+use Rattle.md_safe.proofs.Tags.{TurnsTag, Tagged, Single, Takes}
 use Rattle.md_safe.specs.Contents.{Content, Flow, Phrasing, Linked, Preformatted, Characters}
 use Rattle.md_safe.specs.Contents.{held_in, voids_in, is_space, may_say, is_contained}
-use Rattle.md_safe.specs.Contents.{IsContainedAs}
+use Rattle.md_safe.specs.Contents.{IsContainedAs, span_elements, block_elements}
+use Rattle.md_safe.proofs.Cases.{all-weaker}
+use Rattle.std.specs.Str.{bytes_eq}
 
 -- a text has a reading in which everything stands where it may
 pub record Stands (nested : Bool) (content : Content) (x : List ℕ) : Type 0 where
@@ -50,20 +51,15 @@ contained-once nested x h =
 -- two texts that may stand somewhere may stand there as one
 say-append : (content : Content) (x y : List ℕ) → may_say content x ≡ true →
     may_say content y ≡ true → may_say content (x ++ y) ≡ true
-say-append Flow x y a b = refl
-say-append Phrasing x y a b = refl
-say-append Linked x y a b = refl
-say-append Characters x y a b = refl
 say-append Preformatted x y a b = a
-say-append _ x y a b = list_all-append is_space x y ∙ and_from _ _ a b
+say-append content x y a b = grind (arith, list_all-append is_space x y)
 
 contained-text_before : (nested : Bool) (content : Content) (bytes : List ℕ) (g : Forest) →
     may_say content bytes ≡ true → is_contained nested content g ≡ true →
     is_contained nested content (text_before bytes g) ≡ true
 contained-text_before nested content bytes Empty s h = and_from _ _ s refl
 contained-text_before nested content bytes (Text more rest) s h =
-    let parts = and_parts _ _ h in
-    and_from _ _ (say-append content bytes more s parts.0) parts.1
+    grind (arith, say-append content bytes more)
 contained-text_before nested content bytes g s h = and_from _ _ s h
 
 -- what an element holds stands where it may
@@ -80,11 +76,9 @@ contained-joined nested content (Text bytes rest) g a b =
     contained-text_before nested content bytes (joined rest g) parts.0
     (contained-joined nested content rest g parts.1 b)
 contained-joined nested content (Void name attributes rest) g a b =
-    let parts = and_parts _ _ a in
-    and_from _ _ parts.0 (contained-joined nested content rest g parts.1 b)
+    grind (arith, contained-joined nested content rest g)
 contained-joined nested content (Element name attributes children rest) g a b =
-    let parts = and_parts _ _ a in
-    and_from _ _ parts.0 (contained-joined nested content rest g parts.1 b)
+    grind (arith, contained-joined nested content rest g)
 
 pub stands-join : {nested : Bool} {content : Content} (x y : List ℕ) → Stands nested content x →
     Stands nested content y → Stands nested content (x ++ y)
@@ -122,8 +116,9 @@ stands-text {content = content} {x = b ∷ bytes} h s = record {
 pub stands-void : {nested : Bool} {content : Content} {name : List ℕ} →
     is_one_of (voids_in content) name ≡ true → Single any_attribute (Stands nested content) name
 stands-void {nested} {content} {name} v = record {
-  tag = λ attributes h a. subst (λ x. Stands nested content (60 ∷ (name ++ x)))
-      (written_attributes-before attributes (32 ∷ 47 ∷ 62 ∷ [])) (record {
+  tag = λ attributes h a.
+      let end = written_attributes-before attributes (32 ∷ 47 ∷ 62 ∷ []) in
+      rw (← end) (record {
         forest = Void name attributes Empty;
         reading = record {
           in_grammar = and_from (is_tag void_tags name attributes) true h refl;
@@ -156,9 +151,8 @@ stands-element {nested} {content} name attributes inside h opens within = record
 pub stands-tag : {nested : Bool} {content : Content} (held : Content) {name : List ℕ} →
     Opens nested content held name → Tagged any_attribute (Stands nested held)
     (Stands nested content) name
-stands-tag {nested} {content} held {name} opens = record {
-  tag = λ attributes inside h a within. subst (λ x. Stands nested content (60 ∷ (name ++ x)))
-      (written_attributes-before attributes (62 ∷ (inside ++ (60 ∷ 47 ∷ (name ++ (62 ∷ []))))))
+stands-tag held {name} opens = record {
+  tag = λ attributes inside h a within. rw (← (written_attributes-before attributes _))
       (stands-element name attributes inside h opens within);
 }
 
@@ -185,16 +179,11 @@ stands-white {content = content} {x} is h = stands-text h.0 (by content is)
     by Preformatted is = lie is
     by _ is = h.1
 
+end-space : (b : ℕ) → ((b == 13) || (b == 10)) ≡ true → is_space b ≡ true
+end-space b h = grind arith
+
 line_ends-space : (x : List ℕ) → is_line_ends x ≡ true → list_all is_space x ≡ true
-line_ends-space [] h = refl
-line_ends-space (b ∷ x) h =
-    let parts = and_parts ((b == 13) || (b == 10)) (is_line_ends x) h in
-    and_from (is_space b) (list_all is_space x)
-    (elim (or_cases (b == 13) (b == 10) parts.0) [
-      | inl is ↦ subst (λ b. is_space b ≡ true) (sym (eqb-true b 13 is)) refl
-      | inr is ↦ subst (λ b. is_space b ≡ true) (sym (eqb-true b 10 is)) refl
-    ])
-    (line_ends-space x parts.1)
+line_ends-space = all-weaker _ is_space end-space
 
 pub line_ends-white : (x : List ℕ) → is_line_ends x ≡ true → IsWhite x
 line_ends-white x h = (line_ends-escaped x h, line_ends-space x h)
@@ -220,14 +209,50 @@ takes-white is = record {
 pub turns-tag : {nested : Bool} (held : Content) {content : Content} {name : List ℕ} →
     Opens nested content held name → TurnsTag any_attribute (Stands nested held)
     (Stands nested content) name
-turns-tag {nested} held {content} {name} opens = record {
+turns-tag held {name = name} opens = record {
   tag = λ attributes h a. record {
-    turn = λ x r. subst (Stands nested content) (sym
-        (opening-before name attributes (x ++ closing_tag name))) (stands-element _ _ x h opens r);
+    turn = λ x r. rw (opening-before name attributes (x ++ closing_tag name)) (stands-element _ _ x
+        h opens r);
   };
 }
 
-pub turns-plain : {nested : Bool} {held content : Content} (name : List ℕ) →
-    is_tag elements name [] ≡ true → Opens nested content held name →
-    Turns (Stands nested held) (Stands nested content) (opening_tag name []) (closing_tag name)
-turns-plain {held = held} name h opens = (turns-tag held opens).tag [] h refl
+find-first : {A : Type 0} (test : A → Bool) (xs ys : List A) (x : A) → find test xs ≡ Some x →
+    find test (xs ++ ys) ≡ Some x
+find-first test [] ys x e = cc
+find-first test (first ∷ xs) ys x e = grind (arith, find-first test xs ys x)
+
+held-wider : (nested : Bool) (name : List ℕ) (inner : Forest) →
+    is_held nested Phrasing name inner ≡ true →
+    is_held nested Flow name inner ≡ true
+held-wider nested name inner h =
+    by (find test (span_elements nested)) (find-first test (span_elements nested) block_elements) h
+  where
+    test : List ℕ × Content → Bool
+    test element = bytes_eq element.0 name
+
+    by : (found : Option (List ℕ × Content)) → ((element : List ℕ × Content) → found ≡ Some element
+        → find test (span_elements nested ++ block_elements) ≡ Some element) →
+        option_map_or (λ held. is_contained nested held inner)
+        (option_map (λ element. element.1) found) false ≡ true →
+        is_held nested Flow name inner ≡ true
+    by None e h = lie h
+    by (Some element) e h = ap (λ found. option_map_or (λ held. is_contained nested held inner)
+        (option_map (λ element. element.1) found) false) (e element refl) ∙ h
+
+contained-wider : (nested : Bool) (f : Forest) → is_contained nested Phrasing f ≡ true →
+    is_contained nested Flow f ≡ true
+contained-wider nested Empty h = refl
+contained-wider nested (Text bytes rest) h = contained-wider nested rest h
+contained-wider nested (Void name attributes rest) h =
+    let parts = and_parts _ _ h in
+    and_from _ _ (or_right _ _ parts.0) (contained-wider nested rest parts.1)
+contained-wider nested (Element name attributes inner rest) h =
+    let parts = and_parts _ _ h in
+    and_from _ _ (held-wider nested name inner parts.0) (contained-wider nested rest parts.1)
+
+pub stands-wider : {nested : Bool} (x : List ℕ) → Stands nested Phrasing x → Stands nested Flow x
+stands-wider {nested} x h = record {
+  forest = h.forest;
+  reading = h.reading;
+  contained = contained-wider nested h.forest h.contained;
+}

@@ -1,15 +1,15 @@
 -- Step by step: a run from a state, by a run from the state after its first step.
 use Rattle.std.proofs.Common.{◌≡◌, ℕ, ◌==◌, Bool, true, false, cond, List, [], ◌∷◌, ◌++◌, map, refl}
-use Rattle.std.proofs.Common.{sym, ap, ◌∙◌, Some, option_map, suc}
+use Rattle.std.proofs.Common.{sym, ap, ◌∙◌, Some, arith}
 use Rattle.std.proofs.lemmas.Bool.{eqb-false}
 use Rattle.md_text.specs.References.{is_escaped, read_back}
 use Rattle.md_text.proofs.EncodeLaws.{read_back-other}
 use Rattle.md_safe.specs.Token.{Token, Character, TokenAttribute}
 use Rattle.md_safe.specs.Tag.{Tag, with_value}
 use Rattle.md_safe.specs.TokenizerStates.{State, Data, AttributeValueDoubleQuoted, Goes, Rcdata}
-use Rattle.md_safe.specs.TokenizerStates.{in_value}
-use Rattle.md_safe.specs.Tokenizer.{step, run, after_step, IsRun}
+use Rattle.md_safe.specs.Tokenizer.{step, run, IsRun}
 use Rattle.md_safe.proofs.EscapedCases.{IsPlain, by_escaped}
+use Rattle.md_safe.proofs.Joining.{run-back}
 
 -- the branches of a test
 pub past : {A : Type 0} {c : Bool} {y z : A} (x : A) → c ≡ false → y ≡ z → cond c x y ≡ z
@@ -22,18 +22,12 @@ here {x = x} y e f = ap (λ c. cond c x y) e ∙ f
 pub quiet : {state next : State} {input rest : List ℕ} {t : List Token} →
     step state input ≡ Goes [] next rest →
     IsRun next rest t → IsRun state input t
-quiet e h = record {
-  steps = suc h.steps;
-  emits = ap (after_step (run h.steps)) e ∙ ap (option_map (λ later. later)) h.emits;
-}
+quiet e h = run-back _ _ _ _ [] _ e h
 
 -- a step that emits one token
 pub loud : {state next : State} {input rest : List ℕ} {t : List Token} (x : Token) →
     step state input ≡ Goes (x ∷ []) next rest → IsRun next rest t → IsRun state input (x ∷ t)
-loud x e h = record {
-  steps = suc h.steps;
-  emits = ap (after_step (run h.steps)) e ∙ ap (option_map (λ later. x ∷ later)) h.emits;
-}
+loud x e h = run-back _ _ _ _ (x ∷ []) _ e h
 
 -- the same run, of what is equal
 pub along : (state : State) (x y : List ℕ) (s t : List Token) → x ≡ y → s ≡ t →
@@ -58,16 +52,11 @@ RcdataRuns x = (r : List ℕ) (t : List Token) → IsRun Rcdata r t →
 
 rcdata_step : (b : ℕ) (rest : List ℕ) → IsPlain b →
     step Rcdata (b ∷ rest) ≡ Goes (Character b ∷ []) Rcdata rest
-rcdata_step b rest p =
-    past _ p.no_and
-    (past _ p.no_less (ap (λ bytes. Goes (map Character bytes) Rcdata rest) (in_value-plain b p)))
-  where
-    in_value-plain : (b : ℕ) → IsPlain b → in_value b ≡ b ∷ []
-    in_value-plain b p = past _ p.no_nul refl
+rcdata_step b rest p = simp (p.no_and, p.no_less, p.no_nul)
 
 rcdata-plain : (b : ℕ) (rest : List ℕ) → IsPlain b → RcdataRuns rest → RcdataRuns (b ∷ rest)
-rcdata-plain b rest p later r t h = along _ _ _ _ _ refl (ap (λ x. map Character x ++ t)
-    (sym (read_back-other b rest (plain-ne b p)))) (loud _ (rcdata_step b _ p) (later r t h))
+rcdata-plain b rest p later r t h =
+    rw (read_back-other b rest (plain-ne b p)) (loud _ (rcdata_step b _ p) (later r t h))
 
 pub rcdata-runs : (x : List ℕ) → is_escaped x ≡ true → RcdataRuns x
 rcdata-runs x e =
@@ -96,7 +85,4 @@ pub value_step : (tag : Tag) (b : ℕ) (rest : List ℕ) → (b == 34) ≡ false
     (b == 38) ≡ false → (b == 0) ≡ false →
     step (AttributeValueDoubleQuoted tag) (b ∷ rest)
     ≡ Goes [] (AttributeValueDoubleQuoted (with_value tag (b ∷ []))) rest
-value_step tag b rest e34 e38 e0 =
-    past _ e34 (past _ e38 (ap (λ c.
-    Goes [] (AttributeValueDoubleQuoted (with_value tag (cond c (239 ∷ 191 ∷ 189 ∷ []) (b ∷ []))))
-    rest) e0))
+value_step tag b rest e34 e38 e0 = grind (arith, e34, e38, e0)

@@ -1,6 +1,5 @@
 -- The nodes of strings print escaped texts.
-use Rattle.std.proofs.Common.{◌≡◌, ℕ, Bool, true, false, not, ◌&&◌, cond, List, [], ◌∷◌, refl, sym}
-use Rattle.std.proofs.Common.{ap, subst}
+use Rattle.std.proofs.Common.{◌≡◌, ℕ, Bool, true, false, not, ◌&&◌, cond, List, [], ◌∷◌, refl, ap}
 use Rattle.std.proofs.lemmas.Bool.{cond_both, and_from}
 use Rattle.md_base.proofs.Lies.{lie}
 use Rattle.md_base.specs.declared.event.Name.{Name}
@@ -14,10 +13,10 @@ use Rattle.md_meaning.specs.Meaning.Layout.{Piece, said}
 use Rattle.md_meaning.specs.Meaning.Means.{prints}
 use Rattle.md_meaning.specs.Meaning.Spans.{escaped, is_dropped, line_ending, reference}
 use Rattle.md_content.specs.Built.{Content, is_string}
-use Rattle.md_steps.proofs.Standing.{picked}
 use Rattle.md_safe.proofs.Spot.{NodeAdds, Setting, IsFitAt, Here, Prints, IsNarrow, encoded-escaped}
 use Rattle.md_safe.proofs.Texts.{Escaped, line_ends-escaped}
 use Rattle.md_safe.proofs.Laid.{adds-text, adds-nothing, adds-weaker}
+use Rattle.md_safe.proofs.Cases.{cases}
 
 -- marks print their content
 abbrev is_mark : Name → Bool
@@ -53,12 +52,8 @@ line_ending-escaped s t h =
 
 data-prints : (context : Context) (t : At) (name : Name) → is_data name ≡ true →
     (inner : List Piece) → prints context t name inner ≡ escaped t (text_in context.bytes t.place)
-data-prints context t name is inner = picked _ _ _ (by name) is
-  where
-    by : (name : Name) → cond (is_data name) (prints context t name inner)
-        (escaped t (text_in context.bytes t.place)) ≡ escaped t (text_in context.bytes t.place)
-    by LineEnding = refl
-    by _ = refl
+data-prints context t LineEnding is inner = lie is
+data-prints context t _ is inner = cc
 
 other-node : (s : Setting) (t : At) (holds : List ℕ → Type 0) (name : Name) →
     IsNarrow t.around.is_escaping holds → is_text name && not (is_data name) ≡ true →
@@ -72,12 +67,10 @@ other-node s t holds _ n is fit inner = lie is
 pub text-node : (s : Setting) (t : At) (holds : List ℕ → Type 0) (name : Name) →
     IsNarrow t.around.is_escaping holds → is_text name ≡ true → IsFitAt s t name →
     (inner : List Piece) → Prints s holds (prints s.context t name inner)
-text-node s t holds name n is fit inner = by (is_data name) refl
-  where
-    by : (plain : Bool) → is_data name ≡ plain → Prints s holds (prints s.context t name inner)
-    by true e = subst (Prints s holds) (sym (data-prints s.context t name e inner))
-        (data-node s t holds n (text_in s.context.bytes t.place))
-    by false e = other-node s t holds name n (and_from _ _ is (ap not e)) fit inner
+text-node s t holds name n is fit inner = cases (is_data name)
+    (λ e. rw (data-prints s.context t name e inner) (data-node s t holds n (text_in s.context.bytes
+    t.place)))
+    (λ e. other-node s t holds name n (and_from _ _ is (ap not e)) fit inner)
 
 mark-node : (s : Setting) (t : At) (content : Content) (name : Name) → is_mark name ≡ true →
     NodeAdds s t content name
@@ -89,9 +82,6 @@ mark-node s t content _ is inner a = lie is
 pub string-node : (s : Setting) (t : At) (content : Content) (name : Name) →
     IsNarrow t.around.is_escaping (Here s t content) → is_string name ≡ true → IsFitAt s t name →
     NodeAdds s t content name
-string-node s t content name n is fit inner a = by (is_mark name) refl
-  where
-    by : (mark : Bool) → is_mark name ≡ mark → Prints s
-        (Here s t content) (prints s.context t name inner)
-    by true e = mark-node s t content name e inner a
-    by false e = text-node s t (Here s t content) name n (and_from _ _ is (ap not e)) fit inner
+string-node s t content name n is fit inner a = cases (is_mark name)
+    (λ e. mark-node s t content name e inner a)
+    (λ e. text-node s t (Here s t content) name n (and_from _ _ is (ap not e)) fit inner)

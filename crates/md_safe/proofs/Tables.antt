@@ -1,27 +1,281 @@
--- Tables are built as they are read: their parts, rows and cells, with white space between.
-use Rattle.std.proofs.Common.{◌≡◌, ℕ, suc, true, false, List, [], ◌∷◌, ◌++◌, refl, ap, ◌∙◌, codes}
-use Rattle.std.proofs.Common.{arith}
-use Rattle.std.specs.Prelude.{Some, option_and_then}
+-- Tables are built as they are read: texts wait as pending characters, and white space is inserted
+-- as it is; what stands in a part of one, by what each element of it does; and their parts, rows
+-- and cells.
+use Rattle.std.proofs.Common.{◌≡◌, ℕ, Bool, true, false, List, [], ◌∷◌, ◌++◌, refl, sym, ap, ◌∙◌}
+use Rattle.std.proofs.Common.{subst, map, append_assoc, append-nil, arith, ◌≤◌, codes, eqb-true}
+use Rattle.std.proofs.Common.{suc}
+use Rattle.std.specs.Prelude.{Option, Some, None, option_and_then}
+use Rattle.std.specs.List.{list_all}
+use Rattle.std.proofs.lemmas.Bool.{and_parts, and_from, not-true}
+use Rattle.md_base.proofs.Lies.{lie}
+use Rattle.md_base.specs.Identifier.{is_nonempty}
+use Rattle.md_text.specs.References.{read_back}
+use Rattle.md_text.proofs.EncodeLaws.{read_back-other}
+use Rattle.md_safe.specs.Input.{with_line_feeds, begins_with_line_feed}
+use Rattle.md_safe.specs.Token.{Character, StartTag, EndTag, TokenAttribute, Token}
+use Rattle.md_safe.specs.Tokens.{seen, seen_attributes, tokens}
+use Rattle.md_safe.specs.Contents.{is_space, Content, Parts, Rows, Cells, voids_in, may_say}
+use Rattle.md_safe.specs.Contents.{is_contained, elements_in, Phrasing}
+use Rattle.md_safe.specs.Node.{Open, Entry, Mode, InTable, InTableBody, InRow, InTableText, Parser}
+use Rattle.md_safe.specs.Node.{with_character, Nodes, with_element, Empty as NoNode, Marker, InCell}
+use Rattle.md_safe.specs.InTable.{is_tabular, say_all, end_table_text, character_in_table, mode_for}
+use Rattle.md_safe.specs.Construction.{character, start, end, step, run, after_table_text}
+use Rattle.md_safe.specs.Built.{with_characters, at, has_whole_texts, put, AreCreated, is_body}
+use Rattle.md_safe.proofs.Steps.{past, here}
+use Rattle.md_safe.proofs.TreeSteps.{after-one, is_character, Position, parser_of, with_children}
+use Rattle.md_safe.proofs.TreeSteps.{after, seen-characters, within, start-in-body}
 use Rattle.md_text.specs.Bytes.{is_one_of}
-use Rattle.md_text.specs.Html.{Attribute, Forest}
-use Rattle.md_safe.specs.Token.{StartTag, EndTag, TokenAttribute}
-use Rattle.md_safe.specs.Tokens.{seen_attributes, tokens}
-use Rattle.md_safe.specs.Contents.{Content, Phrasing, Parts, Cells, elements_in, is_contained}
-use Rattle.md_safe.specs.Node.{Nodes, Entry, Marker, Mode, InTable, InRow, InCell, with_element}
-use Rattle.md_safe.specs.Node.{Empty as NoNode}
+use Rattle.md_text.specs.Html.{Attribute, Forest, Empty, Text, Void, Element}
+use Rattle.md_safe.proofs.Lists.{later-created, keeps-all}
+use Rattle.md_safe.proofs.PhrasingNames.{Each, found, Passed, also}
+use Rattle.md_safe.proofs.Phrasing.{text-escaped, element-parts, phrasing-done}
 use Rattle.md_safe.specs.Elements.{button_scope}
 use Rattle.md_safe.specs.Stack.{is_named, has_in_scope}
-use Rattle.md_safe.specs.InTable.{mode_for}
-use Rattle.md_safe.specs.Construction.{step, run}
-use Rattle.md_safe.specs.Built.{has_whole_texts, put, is_body, AreCreated}
-use Rattle.md_safe.proofs.Lists.{keeps-all, later-created}
-use Rattle.md_safe.proofs.Steps.{past}
-use Rattle.md_safe.proofs.TreeSteps.{Position, parser_of, with_children, within, after, after-one}
-use Rattle.md_safe.proofs.TreeSteps.{start-in-body}
-use Rattle.md_safe.proofs.PhrasingNames.{Passed, Each, also}
-use Rattle.md_safe.proofs.Phrasing.{phrasing-done}
-use Rattle.md_safe.proofs.TableContents.{Set, Put, Puts, part, is_tabled, set-all}
-use Rattle.md_safe.proofs.TableTexts.{is_tables}
+
+-- ---- white space
+
+-- a test that passes LF passes what is read
+line_feeds-all : (p : ℕ → Bool) → p 10 ≡ true → (x : List ℕ) → list_all p x ≡ true →
+    list_all p (with_line_feeds x) ≡ true
+line_feeds-all p feed [] h = refl
+line_feeds-all p feed (b ∷ x) h = grind (arith, feed, line_feeds-all p feed x)
+
+space-read : (x : List ℕ) → list_all is_space x ≡ true → list_all is_space (read_back x) ≡ true
+space-read [] h = refl
+space-read (b ∷ x) h =
+    let parts = and_parts (is_space b) (list_all is_space x) h in
+    rw (read_back-other b x (λ e. lie (rw e at parts.0)))
+    (and_from (is_space b) (list_all is_space (read_back x)) parts.0 (space-read x parts.1))
+
+-- ---- the pending characters of a table
+
+-- a parser to which a tag is the same as to another one
+pub record Settles (p q : Parser) : Type 0 where
+  pub starts : (name : List ℕ) (attributes : List TokenAttribute) (flag : Bool) →
+      step p (StartTag name attributes flag) ≡ step q (StartTag name attributes flag)
+  pub ends : (name : List ℕ) → step p (EndTag name) ≡ step q (EndTag name)
+
+-- a parser with pending characters
+abbrev pub waiting : Mode → List Open → List Entry → ℕ → List ℕ → Parser
+waiting mode stack active created bytes = record {
+  mode = InTableText mode;
+  stack = stack;
+  active = active;
+  created = created;
+  pending = bytes;
+  skips_line_feed = false;
+}
+
+say-all : (bytes : List ℕ) (node : Open) (others : List Open) →
+    say_all bytes (node ∷ others)
+    ≡ record node { children = with_characters node.children bytes } ∷ others
+say-all [] node others = refl
+say-all (b ∷ bytes) node others =
+    say-all bytes (record node { children = with_character node.children b }) others
+
+-- modes of tables in which characters wait
+abbrev pub is_tables : Mode → Bool
+is_tables mode = elim mode [ InTable ↦ true | InTableBody ↦ true | InRow ↦ true | _ ↦ false ]
+
+-- what the modes of tables do with a tag and with a character
+tagged : (mode : Mode) → is_tables mode ≡ true → (p : Parser) (tag : Parser → Option Parser) →
+    after_table_text (record p { mode = mode }) tag ≡ tag (record p { mode = mode })
+tagged mode is p tag = grind (arith, is)
+
+said : (mode : Mode) → is_tables mode ≡ true → (byte : ℕ) (p : Parser) →
+    character mode byte p ≡ character_in_table byte p
+said mode is byte p = grind (arith, is)
+
+pub settled : (mode : Mode) → is_tables mode ≡ true →
+    (node : Open) (others : List Open) (active : List Entry)
+    (created : ℕ) (bytes : List ℕ) → list_all is_space bytes ≡ true →
+    Settles (waiting mode (node ∷ others) active created bytes) (at mode
+    (record node { children = with_characters node.children bytes } ∷ others) active created)
+settled mode is node others active created bytes h = record {
+  starts = λ name attributes flag. by (λ p. start p.mode name attributes p);
+  ends = λ name. by (λ p. end p.mode name p);
+}
+  where
+    next : Parser
+    next = at mode (record node { children = with_characters node.children bytes } ∷ others)
+        active created
+
+    by : (tag : Parser → Option Parser) →
+        option_and_then tag (end_table_text mode
+        (waiting mode (node ∷ others) active created bytes)) ≡ after_table_text next tag
+    by tag =
+        ap (option_and_then tag) (here None h
+        (ap (λ stack. Some (at mode stack active created)) (say-all bytes node others)))
+        ∙ sym (tagged mode is next tag)
+
+more-waits : (mode : Mode) (stack : List Open) (active : List Entry) (created : ℕ)
+    (before bytes : List ℕ) → list_all is_character bytes ≡ true → run
+    (waiting mode stack active created before) (map Character bytes)
+    ≡ Some (waiting mode stack active created (before ++ bytes))
+more-waits mode stack active created before [] h = ap
+    (λ x. Some (waiting mode stack active created x)) (sym (append-nil before))
+more-waits mode stack active created before (b ∷ bytes) h =
+    let parts = and_parts _ _ h in
+    after-one (waiting mode stack active created before)
+    (waiting mode stack active created (before ++ (b ∷ []))) (Character b) (map Character bytes)
+    (past _ (not-true _ parts.0) refl) ∙ (more-waits mode stack active created (before ++ (b ∷ []))
+    bytes parts.1 ∙ ap (λ x. Some (waiting mode stack active created x))
+    (append_assoc before (b ∷ []) bytes))
+
+-- a text in a table waits
+pub text-waits : (mode : Mode) → is_tables mode ≡ true → (node : Open) (others : List Open)
+    (active : List Entry) (created : ℕ) (bytes : List ℕ) → is_tabular node ≡ true →
+    is_nonempty bytes ≡ true → list_all is_character bytes ≡ true → run
+    (at mode (node ∷ others) active created) (map Character bytes)
+    ≡ Some (waiting mode (node ∷ others) active created bytes)
+text-waits mode is node others active created [] t f h = lie f
+text-waits mode is node others active created (b ∷ bytes) t f h =
+    let parts = and_parts _ _ h in
+    after-one (at mode (node ∷ others) active created)
+    (waiting mode (node ∷ others) active created (b ∷ [])) (Character b) (map Character bytes) (past
+    _ (not-true _ parts.0) (said mode is b (at mode (node ∷ others) active created) ∙ here None t
+    refl)) ∙ more-waits mode (node ∷ others) active created (b ∷ []) bytes parts.1
+
+-- the tokens of a part of a table, up to characters that still wait
+pub record Set (x : Position) (forest : Forest) : Type 0 where
+  pub more : ℕ
+  pub last : Parser
+  pub runs : run (parser_of x) (tokens forest) ≡ Some last
+  pub settles : Settles last
+      (parser_of (with_children x (put x.node.children forest) x.active more))
+  pub later : x.created ≤ more
+
+-- an element of it
+pub record Put (x : Position) (name : List ℕ) (attributes : List Attribute)
+    (inner : Forest) : Type 0 where
+  pub more : ℕ
+  pub runs : (ys : List Token) → run (parser_of x)
+      (StartTag name (seen_attributes attributes) false ∷ (tokens inner ++ (EndTag name ∷ ys)))
+      ≡ run (parser_of (with_children x
+      (with_element x.node.children name (seen_attributes attributes) (put NoNode inner))
+      x.active more)) ys
+  pub later : x.created ≤ more
+
+-- parts of tables
+abbrev pub is_tabled : Content → Bool
+is_tabled content = elim content [ Parts ↦ true | Rows ↦ true | Cells ↦ true | _ ↦ false ]
+
+white-said : (content : Content) (bytes : List ℕ) → is_tabled content ≡ true →
+    may_say content bytes ≡ true →
+    list_all is_space bytes ≡ true
+white-said content bytes is h = grind (arith, is, h)
+
+no_void : (content : Content) (name : List ℕ) → is_tabled content ≡ true →
+    is_one_of (voids_in content) name ≡ true →
+    false ≡ true
+no_void content name is h = grind (arith, is, h)
+
+-- with this mode, and with an element of this name as the current node
+abbrev pub part : Mode → List ℕ → Position → Position
+part mode parent x = record x { mode = mode; node = record x.node { name = parent } }
+
+-- an element that may stand there
+abbrev pub Puts : Mode → List ℕ → List ℕ → Content → Type 0
+Puts mode parent name held =
+    (x : Position) (attributes : List Attribute) (inner : Forest) → has_whole_texts inner ≡ true →
+    is_contained false held inner ≡ true → AreCreated x.created x.active →
+    Put (part mode parent x) name attributes inner
+
+-- something is read of a text
+fed : (x : List ℕ) → begins_with_line_feed x ≡ true → is_nonempty (with_line_feeds x) ≡ true
+fed [] h = lie h
+fed (b ∷ x) h =
+    subst (λ b. is_nonempty (with_line_feeds (b ∷ x)) ≡ true) (sym (eqb-true b 10 h)) refl
+
+lines-filled : (x : List ℕ) → is_nonempty x ≡ true → is_nonempty (with_line_feeds x) ≡ true
+lines-filled [] h = lie h
+lines-filled (b ∷ x) h = grind (arith, fed x)
+
+read-filled : (x : List ℕ) → is_nonempty x ≡ true → is_nonempty (read_back x) ≡ true
+read-filled [] h = lie h
+read-filled (b ∷ x) h = grind arith
+
+filled : (bytes : List ℕ) (rest : Forest) → has_whole_texts (Text bytes rest) ≡ true →
+    is_nonempty (seen bytes) ≡ true
+filled bytes rest h =
+    let all = and_parts _ _ h in
+    let own = and_parts _ _ all.0 in
+    read-filled (with_line_feeds bytes) (lines-filled bytes (and_parts _ _ own.0).0)
+
+pub set-all : (f : Forest) (content : Content) → is_tabled content ≡ true → (mode : Mode) →
+    is_tables mode ≡ true → (parent : List ℕ) → is_one_of (codes "table" ∷ codes "tbody" ∷ codes
+    "template" ∷ codes "tfoot" ∷ codes "thead" ∷ codes "tr" ∷ []) parent ≡ true →
+    Each (Puts mode parent) (elements_in false content) → has_whole_texts f ≡ true →
+    is_contained false content f ≡ true → (x : Position) → AreCreated x.created x.active →
+    Set (part mode parent x) f
+set-all Empty content is mode tables parent tabular putting h c x made = record {
+  more = x.created;
+  last = parser_of (part mode parent x);
+  runs = refl;
+  settles = record { starts = λ name attributes flag. refl; ends = λ name. refl };
+  later = omega arith;
+}
+set-all (Text bytes rest) content is mode tables parent tabular putting h c x made =
+    let y : Position = part mode parent x in
+    let parts = and_parts _ _ c in
+    let wait : Parser = waiting mode (y.node ∷ y.others) y.active y.created (seen bytes) in
+    let waits = text-waits mode tables y.node y.others y.active y.created (seen bytes) tabular
+    (filled bytes rest h) (seen-characters bytes (text-escaped bytes rest h).0) in
+    let settle = settled mode tables y.node y.others y.active y.created (seen bytes)
+    (space-read (with_line_feeds bytes) (line_feeds-all is_space refl bytes
+    (white-said content bytes is parts.0))) in
+    by rest h parts.1 wait waits settle (set-all rest content is mode tables parent tabular putting
+    (text-escaped bytes rest h).1 parts.1 (with_children x
+    (with_characters x.node.children (seen bytes)) x.active x.created) made)
+  where
+    by : (rest : Forest) → has_whole_texts (Text bytes rest) ≡ true →
+        is_contained false content rest ≡ true → (wait : Parser) →
+        run (parser_of (part mode parent x)) (map Character (seen bytes)) ≡ Some wait → Settles wait
+        (parser_of (part mode parent (with_children x (with_characters x.node.children (seen bytes))
+        x.active x.created))) → Set (part mode parent (with_children x
+        (with_characters x.node.children (seen bytes)) x.active x.created)) rest →
+        Set (part mode parent x) (Text bytes rest)
+    by Empty h c wait waits settle later = record {
+      more = x.created;
+      last = wait;
+      runs = after (parser_of (part mode parent x)) wait (map Character (seen bytes)) [] waits;
+      settles = settle;
+      later = omega arith;
+    }
+    by (Text more rest) h c wait waits settle later = lie
+        (and_parts _ _ (and_parts _ _ h).0).1
+    by (Void name attributes rest) h c wait waits settle later = lie
+        (no_void content name is (and_parts _ _ c).0)
+    by (Element name attributes inner rest) h c wait waits settle later = record {
+      more = later.more;
+      last = later.last;
+      runs = after (parser_of (part mode parent x)) wait (map Character (seen bytes))
+          (tokens (Element name attributes inner rest)) waits ∙ (ap (option_and_then
+          (λ q. run q (tokens inner ++ (EndTag name ∷ tokens rest))))
+          (settle.starts name (seen_attributes attributes) false) ∙ later.runs);
+      settles = later.settles;
+      later = later.later;
+    }
+set-all (Void name attributes rest) content is mode tables parent tabular putting h c x made = lie
+    (no_void content name is (and_parts _ _ c).0)
+set-all (Element name attributes inner rest) content is mode tables parent tabular putting h c x
+    made =
+    let forests = element-parts name attributes inner rest h in
+    let parts = and_parts _ _ c in
+    let held = found (Puts mode parent) (elements_in false content) name inner putting parts.0 in
+    let own = held.1 x attributes inner forests.0 held.2 made in
+    let next : Nodes = with_element x.node.children name (seen_attributes attributes)
+    (put NoNode inner) in
+    let later = set-all rest content is mode tables parent tabular putting forests.1 parts.1
+    (with_children x next x.active own.more)
+    (later-created x.created own.more x.active own.later made) in
+    record {
+      more = later.more;
+      last = later.last;
+      runs = own.runs (tokens rest) ∙ later.runs;
+      settles = later.settles;
+      later = omega (own.later, later.later, arith);
+    }
 
 -- the children of an element of a table: its mode, and the active formatting elements
 abbrev inside : Mode → Position → List ℕ → List TokenAttribute → List Entry → Position
@@ -94,8 +348,7 @@ element-put mode parent inner-mode name held is tables tabular each starts ends 
     (later-created x.created (suc x.created) x.active (omega arith) made))
 
 cells-put : Each (Puts InRow (codes "tr")) (elements_in false Cells)
-cells-put = also (cell-put (codes "th") (λ x t. refl) (λ x t i m. refl))
-    (also (cell-put (codes "td") (λ x t. refl) (λ x t i m. refl)) tt)
+cells-put = search cell-put
 
 parts-put : Each (Puts InTable (codes "table")) (elements_in false Parts)
 parts-put = also (element-put _ _ _ _ _ refl refl refl (also (element-put _ _ _ _ _ refl refl refl

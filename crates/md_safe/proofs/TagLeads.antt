@@ -1,27 +1,94 @@
--- From `<` or `</` to the end of a tag, and on to the data state; and a run from there.
-use Rattle.std.specs.Str.{bytes_eq}
-use Rattle.std.proofs.Common.{◌≡◌, ℕ, ◌==◌, Bool, true, false, not, ◌&&◌, List, [], ◌∷◌, ◌++◌, refl}
-use Rattle.std.proofs.Common.{sym, ap, ◌∙◌, append-nil, append_assoc}
-use Rattle.std.specs.List.{list_any}
-use Rattle.std.proofs.lemmas.Bool.{and_parts, and_from, not-true, or_from, or_parts}
+-- The name of a tag and those of its attributes, byte after byte; from `<` or `</` to the end of a
+-- tag, and on to the data state; and a run from there.
+use Rattle.std.proofs.Common.{◌≡◌, ℕ, ◌==◌, true, false, not, List, [], ◌∷◌, ◌++◌, refl, ap}
+use Rattle.std.proofs.Common.{append-nil, append_assoc, arith, Bool, ◌&&◌, sym, ◌∙◌}
+use Rattle.std.specs.List.{list_all, list_any}
+use Rattle.std.proofs.lemmas.Bool.{and_parts, and_parts, not-true}
 use Rattle.md_base.proofs.Lies.{lie}
-use Rattle.md_text.specs.Bytes.{is_letter}
+use Rattle.md_text.specs.Bytes.{is_between}
+use Rattle.md_text.specs.References.{is_escaped, read_back}
+use Rattle.md_safe.proofs.Cases.{all-weaker}
+use Rattle.md_safe.specs.Token.{Token, TokenAttribute, Token, StartTag, EndTag, TokenAttribute}
+use Rattle.md_safe.specs.Tag.{Tag, with_tag_name, with_name, kept}
+use Rattle.md_safe.specs.TokenizerStates.{State, TagName, BeforeAttributeName, AttributeName}
+use Rattle.md_safe.specs.TokenizerStates.{AfterAttributeValueQuoted, Goes, is_space, Data, TagOpen}
+use Rattle.md_safe.specs.TokenizerStates.{EndTagOpen, Stuck, emitted}
+use Rattle.md_safe.specs.Tokenizer.{step, step, IsRun}
+use Rattle.md_safe.proofs.LineFeeds.{no_return, line_feeds-append, line_feeds-name}
+use Rattle.md_safe.proofs.LineFeeds.{line_feeds-escaped}
+use Rattle.md_safe.proofs.GoodNames.{is_good_byte, is_good_attribute_name, is_good_name, are_good}
+use Rattle.md_safe.proofs.GoodNames.{good_attribute, begins_tag, good-leaves, good-not_title}
+use Rattle.md_safe.proofs.Steps.{tag_with, attribute, past, here, tag_with, attribute}
+use Rattle.md_safe.proofs.TextLeads.{To, quiet, value-leads, To, arrived, quiet, loud, along}
+use Rattle.std.specs.Str.{bytes_eq}
 use Rattle.md_text.specs.Html.{Attribute}
 use Rattle.md_text.proofs.HtmlWriting.{attributes_before}
 use Rattle.md_safe.specs.Input.{with_line_feeds}
-use Rattle.md_safe.specs.Token.{Token, StartTag, EndTag, TokenAttribute}
-use Rattle.md_safe.specs.Tag.{kept}
-use Rattle.md_safe.specs.TokenizerStates.{Data, TagOpen, EndTagOpen, TagName, BeforeAttributeName}
-use Rattle.md_safe.specs.TokenizerStates.{AfterAttributeValueQuoted, Goes, Stuck, emitted}
-use Rattle.md_safe.specs.Tokenizer.{step, IsRun}
 use Rattle.md_safe.specs.Tokens.{seen, seen_attributes}
-use Rattle.md_safe.proofs.LineFeeds.{line_feeds-append, line_feeds-name, line_feeds-escaped}
-use Rattle.md_safe.proofs.GoodNames.{is_good_name, are_good, good_attribute, begins_tag}
-use Rattle.md_safe.proofs.GoodNames.{good-leaves, good-not_title}
-use Rattle.md_safe.proofs.Steps.{past, here, tag_with, attribute}
 use Rattle.md_safe.proofs.Joining.{runs-on}
-use Rattle.md_safe.proofs.TextLeads.{To, arrived, quiet, loud, along}
-use Rattle.md_safe.proofs.TagNames.{good-no_return, attribute-leads, name-leads, tag_name_step}
+
+pub record IsGoodByte (b : ℕ) : Type 0 where
+  pub no_space : is_space b ≡ false
+  pub no_slash : (b == 47) ≡ false
+  pub no_angle : (b == 62) ≡ false
+  pub no_equals : (b == 61) ≡ false
+  pub no_upper : is_between 65 90 b ≡ false
+  pub no_nul : (b == 0) ≡ false
+  pub no_return : (b == 13) ≡ false
+
+pub good_parts : (b : ℕ) → is_good_byte b ≡ true → IsGoodByte b
+good_parts b h = grind arith
+
+pub good-no_return : (name : List ℕ) → list_all is_good_byte name ≡ true →
+    list_all no_return name ≡ true
+good-no_return name h =
+    all-weaker is_good_byte no_return (λ b good. ap not (good_parts b good).no_return) name h
+
+pub tag_name_step : (tag : Tag) (b : ℕ) (rest : List ℕ) → IsGoodByte b →
+    step (TagName tag) (b ∷ rest) ≡ Goes [] (TagName (with_tag_name tag (b ∷ []))) rest
+tag_name_step tag b rest g = simp (g.no_space, g.no_slash, g.no_angle, g.no_upper, g.no_nul)
+
+-- a name, after a first part of it, where each good byte is appended to it
+pub name-leads : {left : List ℕ} (S : List ℕ → State) → ((before : List ℕ) (b : ℕ) (rest : List ℕ) →
+    IsGoodByte b → step (S before) (b ∷ rest) ≡ Goes [] (S (before ++ (b ∷ []))) rest) →
+    (before name r : List ℕ) (t : List Token) → list_all is_good_byte name ≡ true →
+    To left (S (before ++ name)) r t → To left (S before) (name ++ r) t
+name-leads S steps before [] r t g h = rw append-nil at h
+name-leads S steps before (b ∷ name) r t g h =
+    let p = and_parts _ _ g in
+    quiet (steps before b (name ++ r) (good_parts b p.0))
+    (name-leads S steps (before ++ (b ∷ [])) name r t p.1 (rw append_assoc h))
+
+pub attribute_name_step : (tag : Tag) (b : ℕ) (rest : List ℕ) → IsGoodByte b →
+    step (AttributeName tag) (b ∷ rest) ≡ Goes [] (AttributeName (with_name tag (b ∷ []))) rest
+attribute_name_step tag b rest g = grind arith
+
+-- where an attribute's name is read, up to here
+abbrev pub AtName : List ℕ → List TokenAttribute → List ℕ → State
+AtName tag earlier name = AttributeName (tag_with false tag (attribute name [] ∷ earlier))
+
+-- a name begins another attribute
+attribute-begins : {left : List ℕ} (tag : List ℕ) (earlier : List TokenAttribute) (name r : List ℕ)
+    (t : List Token) → is_good_attribute_name name ≡ true → To left (AtName tag earlier name) r t →
+    To left (BeforeAttributeName (tag_with false tag earlier)) (name ++ r) t
+attribute-begins tag earlier [] r t g h = lie g
+attribute-begins tag earlier (b ∷ name) r t g h =
+    let q = good_parts b (and_parts _ _ g).0 in
+    quiet (grind (arith, q)) (name-leads (AtName tag earlier) (λ before b rest good.
+    attribute_name_step (tag_with false tag (attribute before [] ∷ earlier)) b rest good) [] (b ∷
+    name) r t g h)
+
+-- a name, `="`, a value and `"`
+pub attribute-leads :
+    {left : List ℕ} (tag : List ℕ) (earlier : List TokenAttribute) (name value r : List ℕ)
+    (t : List Token) → is_good_attribute_name name ≡ true → is_escaped value ≡ true →
+    To left (AfterAttributeValueQuoted (tag_with false tag
+    (attribute name (read_back value) ∷ earlier))) r t →
+    To left (BeforeAttributeName (tag_with false tag earlier))
+    (name ++ (61 ∷ 34 ∷ (value ++ (34 ∷ r)))) t
+attribute-leads tag earlier name value r t g e h =
+    attribute-begins tag earlier name (61 ∷ 34 ∷ (value ++ (34 ∷ r))) t g
+    (quiet refl (quiet refl (value-leads _ value e tag earlier name [] (34 ∷ r) t (quiet refl h))))
 
 -- ---- attributes
 
@@ -89,10 +156,7 @@ fresh-more : (a : TokenAttribute) (earlier : List TokenAttribute) (x : List Attr
     list_any (λ later. bytes_eq a.name later.name) x ≡ false → fresh earlier x ≡ true →
     fresh (a ∷ earlier) x ≡ true
 fresh-more a earlier [] n f = refl
-fresh-more a earlier (b ∷ x) n f =
-    let p = or_parts _ _ n in
-    let q = and_parts _ _ f in
-    and_from _ _ (ap not (or_from _ _ p.0 (not-true _ q.0))) (fresh-more a earlier x p.1 q.1)
+fresh-more a earlier (b ∷ x) n f = grind (arith, fresh-more a earlier x)
 
 kept-onto : (earlier : List TokenAttribute) (x : List Attribute) → are_good x ≡ true →
     fresh earlier x ≡ true → kept (onto earlier x) ≡ kept earlier ++ seen_attributes x
@@ -118,18 +182,12 @@ tag-begins is_end name r t g h =
 pub opens : (name r : List ℕ) → begins_tag name ≡ true →
     step TagOpen (name ++ r) ≡ Goes [] (TagName (tag_with false [] [])) (name ++ r)
 opens [] r g = lie g
-opens (b ∷ name) r g =
-    let p = and_parts (not (b == 33)) (not (b == 47) && is_letter b) g in
-    let q = and_parts (not (b == 47)) (is_letter b) p.1 in
-    past _ (not-true (b == 33) p.0) (past _ (not-true (b == 47) q.0) (here _ q.1 refl))
+opens (b ∷ name) r g = grind arith
 
 pub closes : (name r : List ℕ) → begins_tag name ≡ true →
     step EndTagOpen (name ++ r) ≡ Goes [] (TagName (tag_with true [] [])) (name ++ r)
 closes [] r g = lie g
-closes (b ∷ name) r g =
-    let p = and_parts (not (b == 33)) (not (b == 47) && is_letter b) g in
-    let q = and_parts (not (b == 47)) (is_letter b) p.1 in
-    here _ q.1 refl
+closes (b ∷ name) r g = grind arith
 
 start-leads : {left : List ℕ} (name : List ℕ) (x : List Attribute) (r : List ℕ) (t : List Token) →
     is_good_name name ≡ true → are_good x ≡ true →

@@ -1,20 +1,52 @@
--- Tags of the HTML grammar, written in one or between other pieces: a text between them
--- keeps the claim.
-use Rattle.std.specs.Str.{bytes_eq}
+-- What is claimed of a text: that it has a reading, and more. Tags of the HTML grammar, written in
+-- one or between other pieces: a text between them keeps the claim.
 use Rattle.std.specs.List.{list_all}
-use Rattle.std.proofs.Common.{◌≡◌, ℕ, Bool, true, false, not, ◌&&◌, List, [], ◌∷◌, ◌++◌, refl, sym}
-use Rattle.std.proofs.Common.{ap, ◌∙◌, subst, append_assoc, append-nil, codes}
-use Rattle.md_text.specs.Html.{Attribute, HasReadingWith, opening_tag, closing_tag, is_tag}
-use Rattle.md_text.specs.Html.{elements, void_tags}
-use Rattle.md_text.proofs.HtmlJoin.{text, void, opening-before}
+use Rattle.std.proofs.Common.{◌≡◌, ℕ, Bool, true, List, [], ◌∷◌, ◌++◌, codes, false, not, ◌&&◌}
+use Rattle.std.proofs.Common.{refl, ap, subst, append_assoc, append-nil}
+use Rattle.md_text.specs.Laws.{is_line_ends}
+use Rattle.md_text.specs.Html.{Attribute, HasReadingWith, is_tag, elements, written_attributes}
+use Rattle.md_text.specs.Html.{opening_tag, closing_tag, void_tags}
+use Rattle.md_text.proofs.HtmlJoin.{join, element, text, void, opening-before}
+use Rattle.md_text.proofs.HtmlPut.{paragraph_takes}
+use Rattle.std.specs.Str.{bytes_eq}
 use Rattle.md_text.proofs.HtmlWriting.{attributes_before, written_attributes-before}
 use Rattle.md_text.specs.declared.options.CompileOptions.{CompileOptions}
 use Rattle.md_meaning.specs.Meaning.Layout.{Piece, Text, Needed, Forced}
 use Rattle.md_meaning.specs.Meaning.Media.{href, src}
 use Rattle.md_safe.proofs.Texts.{Escaped}
-use Rattle.md_safe.proofs.Claim.{Claim}
 use Rattle.md_safe.proofs.Laid.{Adds, adds-append, adds-text, adds-weaker, adds-needed, adds-forced}
 use Rattle.md_safe.proofs.Laid.{adds-nothing, IsBeside}
+
+-- a claim about texts, with a test on the attributes in the tags beside a text or around it
+pub record Claim : Type 1 where
+  pub holds : List ℕ → Type 0
+  pub test : Attribute → Bool
+  pub plain : (x : List ℕ) → HasReadingWith test x → holds x
+  pub before : (x y : List ℕ) → HasReadingWith test x → holds y → holds (x ++ y)
+  pub after : (x y : List ℕ) → holds x → HasReadingWith test y → holds (x ++ y)
+  pub within : (name : List ℕ) (attributes : List Attribute) (inside : List ℕ) →
+      is_tag elements name attributes ≡ true → list_all test attributes ≡ true → holds inside
+      → holds (60 ∷ (name
+      ++ (written_attributes attributes ++ (62 ∷ (inside ++ (60 ∷ 47 ∷ (name ++ (62 ∷ []))))))))
+  pub takes : (before endings inserted : List ℕ) → is_line_ends endings ≡ true →
+      holds (before ++ codes "</p>" ++ endings) → HasReadingWith test inserted
+      → holds (before ++ inserted ++ codes "</p>" ++ endings)
+
+-- a reading in which each attribute passes the test
+abbrev pub reading : (Attribute → Bool) → Claim
+reading test = record {
+  holds = HasReadingWith test;
+  test = test;
+  plain = λ x h. h;
+  before = join test;
+  after = join test;
+  within = element test;
+  takes = paragraph_takes test;
+}
+
+-- a text with a reading alone
+abbrev pub plain_of : Claim → Claim
+plain_of p = reading p.test
 
 -- an attribute
 abbrev pub attribute : List ℕ → List ℕ → Attribute
@@ -49,18 +81,15 @@ pub record TurnsTag (test : Attribute → Bool) (Q R : List ℕ → Type 0) (nam
 pub bracket-tag : (p : Claim) (name : List ℕ) → TurnsTag p.test p.holds p.holds name
 bracket-tag p name = record {
   tag = λ attributes h a. record {
-    turn = λ x r. subst p.holds (sym (opening-before name attributes (x ++ closing_tag name)))
-        (p.within name attributes x h a r);
+    turn = λ x r. rw (opening-before name attributes (x ++ closing_tag name)) (p.within name
+        attributes x h a r);
   };
 }
 
 pub turns-two : {Q R S : List ℕ → Type 0} {o c o' c' : List ℕ} → Turns R S o c → Turns Q R o' c' →
     Turns Q S (o ++ o') (c' ++ c)
-turns-two {S = S} {o} {c} {o'} {c'} a b =
-    record { turn = λ x r. subst S (by o c o' c' x) (a.turn (o' ++ (x ++ c')) (b.turn x r)) }
-  where
-    by : (o c o' c' x : List ℕ) → o ++ ((o' ++ (x ++ c')) ++ c) ≡ (o ++ o') ++ (x ++ (c' ++ c))
-    by o c o' c' x = simp append_assoc
+turns-two a b =
+    record { turn = λ x r. simp append_assoc (simp append_assoc at (a.turn _ (b.turn x r))) }
 
 -- the same of the whole element, attribute by attribute, and of a void tag
 pub record Tagged (test : Attribute → Bool) (Q R : List ℕ → Type 0) (name : List ℕ) : Type 0 where
@@ -75,16 +104,14 @@ pub record Single (test : Attribute → Bool) (R : List ℕ → Type 0) (name : 
 
 pub element-read : (p : Claim) (name : List ℕ) → Tagged p.test p.holds p.holds name
 element-read p name = record {
-  tag = λ attributes inside h a r. subst (λ x. p.holds (60 ∷ (name ++ x)))
-      (written_attributes-before attributes (62 ∷ (inside ++ (60 ∷ 47 ∷ (name ++ (62 ∷ []))))))
-      (p.within name attributes inside h a r);
+  tag = λ attributes inside h a r. rw (← (written_attributes-before attributes _)) (p.within name
+      attributes inside h a r);
 }
 
 pub void-read : (p : Claim) (name : List ℕ) → Single p.test p.holds name
 void-read p name = record {
-  tag = λ attributes h a. p.plain (60 ∷ (name ++ attributes_before attributes (32 ∷ 47 ∷ 62 ∷ [])))
-      (subst (λ x. HasReadingWith p.test (60 ∷ (name ++ x)))
-      (written_attributes-before attributes (32 ∷ 47 ∷ 62 ∷ [])) (void p.test name attributes h a));
+  tag = λ attributes h a. rw (← (written_attributes-before attributes _)) (p.plain _ (void p.test
+      name attributes h a));
 }
 
 -- what stays when such texts are beside it
@@ -104,34 +131,21 @@ pub record IsFramed (W : List ℕ → Type 0) (c x : List ℕ) : Type 0 where
   pub is_before : W before
   pub is_after : W after
 
-regrouped : (e o f y g c h : List ℕ) →
-    e ++ ((o ++ ((f ++ (y ++ g)) ++ c)) ++ h) ≡ (e ++ (o ++ f)) ++ (y ++ (g ++ (c ++ h)))
-regrouped e o f y g c h = simp append_assoc
-
 enclosed : {W Q R : List ℕ → Type 0} {o c x y z : List ℕ} → Takes W Q → Takes W R → Turns Q R o c →
     IsFramed W o x → Q y → IsFramed W c z → R (x ++ (y ++ z))
-enclosed {R = R} {o} {c} {x} {y} {z} takes stays turns a r b =
-    let inside : List ℕ = a.after ++ (y ++ b.before) in
-    let parts : R ((a.before ++ (o ++ a.after)) ++ (y ++ (b.before ++ (c ++ b.after)))) = subst R
-    (regrouped _ o _ y _ c _) (stays.take a.before (o ++ (inside ++ c)) b.after a.is_before
-    (turns.turn inside (takes.take a.after y b.before a.is_after r b.is_before)) b.is_after) in
-    subst (λ x. R (x ++ (y ++ z))) (sym a.whole) (subst
-    (λ z. R ((a.before ++ (o ++ a.after)) ++ (y ++ z))) (sym b.whole) parts)
+enclosed {y = y} takes stays turns a r b =
+    let inside = takes.take a.after y b.before a.is_after r b.is_before in
+    rw (a.whole, b.whole) (simp append_assoc (simp append_assoc at
+    (stays.take a.before _ b.after a.is_before (turns.turn _ inside) b.is_after)))
 
 -- pieces between those of two texts
 pub adds-turned : {W Q R : List ℕ → Type 0} {ending o c : List ℕ} {xs ys zs : List Piece} →
     Takes W Q → Takes W R → Turns Q R o c → Adds ending (IsFramed W o) xs → Adds ending Q ys →
     Adds ending (IsFramed W c) zs → Adds ending R (xs ++ (ys ++ zs))
-adds-turned {W} {Q} {R} {c = c} takes stays turns a r b = adds-append
-    {g = λ w. (y : List ℕ) × (z : List ℕ) × (w ≡ y ++ z) × Q y × IsFramed W c z} (λ x w f g. subst
-    (λ w. R (x ++ w)) (sym g.2) (enclosed takes stays turns f g.3 g.4)) a
+adds-turned {W} {Q} {c = c} takes stays turns a r b = adds-append
+    {g = λ w. (y : List ℕ) × (z : List ℕ) × (w ≡ y ++ z) × Q y × IsFramed W c z}
+    (λ x w f g. rw g.2 (enclosed takes stays turns f g.3 g.4)) a
     (adds-append (λ y z f g. (y, z, refl, f, g)) r b)
-
--- pieces between those of a bracket
-pub adds-pair : (p : Claim) {ending o c : List ℕ} {xs ys zs : List Piece} → Bracket p o c →
-    Adds ending (IsFramed Escaped o) xs → Adds ending p.holds ys →
-    Adds ending (IsFramed Escaped c) zs → Adds ending p.holds (xs ++ (ys ++ zs))
-adds-pair p bracket a r b = adds-turned (takes-escaped p) (takes-escaped p) bracket a r b
 
 -- a text between pieces that add such texts, and a tag
 pub framed-around : {W : List ℕ → Type 0} {ending c : List ℕ} {xs ys zs : List Piece} →
@@ -195,9 +209,8 @@ are_texts (_ ∷ pieces) = false
 pub adds-flat : {ending : List ℕ} {f : List ℕ → Type 0} {pieces : List Piece} →
     are_texts pieces ≡ true → f (flat pieces) → Adds ending f pieces
 adds-flat {pieces = []} texts h = adds-nothing h
-adds-flat {f = f} {pieces = Text x ∷ pieces} texts h = adds-append (λ y z e g. subst f
-    (sym (ap (λ y. y ++ z) e ∙ ap (λ z. x ++ z) g)) h) (adds-text {f = λ y. y ≡ x} refl)
-    (adds-flat {f = λ z. z ≡ flat pieces} texts refl)
+adds-flat {pieces = Text x ∷ pieces} texts h = adds-append {f = λ y. y ≡ x} {g = λ z. z ≡ flat
+    pieces} (λ y z e g. rw (e, g) h) (adds-text refl) (adds-flat texts refl)
 adds-flat {pieces = Needed ∷ pieces} texts h = absurd (cc texts)
 adds-flat {pieces = Forced ∷ pieces} texts h = absurd (cc texts)
 

@@ -1,6 +1,6 @@
 -- Step by step: the way to the data state from a state, by the way from the state after its first
 -- step.
-use Rattle.std.proofs.Common.{◌≡◌, ℕ, List, [], ◌∷◌, ◌++◌, map, refl, sym, ap, ◌∙◌, subst, suc}
+use Rattle.std.proofs.Common.{◌≡◌, ℕ, List, [], ◌∷◌, ◌++◌, map, refl, subst}
 use Rattle.std.proofs.Common.{append-nil, append_assoc, true}
 use Rattle.md_text.specs.References.{is_escaped, read_back}
 use Rattle.md_text.proofs.EncodeLaws.{read_back-other}
@@ -8,9 +8,9 @@ use Rattle.md_safe.specs.Token.{Token, Character, TokenAttribute}
 use Rattle.md_safe.specs.TokenizerStates.{State, Data, Goes}
 use Rattle.md_safe.specs.Tokenizer.{step, IsRun}
 use Rattle.md_safe.proofs.EscapedCases.{IsPlain, by_escaped}
-use Rattle.md_safe.proofs.Joining.{runs-on}
+use Rattle.md_safe.proofs.Joining.{runs-on, leads-back}
 use Rattle.md_safe.proofs.Steps.{AtValue, plain-ne, plain_step, value_step}
-use Rattle.md_safe.specs.Tokenizes.{Tokenizes, emitted_before, and_then, steps}
+use Rattle.md_safe.specs.Tokenizes.{Tokenizes}
 
 -- with the rest of the input first
 abbrev pub To : List ℕ → State → List ℕ → List Token → Type 0
@@ -22,18 +22,12 @@ arrived left = record { count = 0; goes = refl }
 -- a step that emits nothing
 pub quiet : {left : List ℕ} {state next : State} {input rest : List ℕ} {t : List Token} →
     step state input ≡ Goes [] next rest → To left next rest t → To left state input t
-quiet e h = record {
-  count = suc h.count;
-  goes = ap (and_then (steps h.count)) e ∙ ap (emitted_before []) h.goes;
-}
+quiet {left} e h = leads-back left _ _ _ _ [] _ e h
 
 -- a step that emits one token
 pub loud : {left : List ℕ} {state next : State} {input rest : List ℕ} {t : List Token} (x : Token) →
     step state input ≡ Goes (x ∷ []) next rest → To left next rest t → To left state input (x ∷ t)
-loud x e h = record {
-  count = suc h.count;
-  goes = ap (and_then (steps h.count)) e ∙ ap (emitted_before (x ∷ [])) h.goes;
-}
+loud {left} x e h = leads-back left _ _ _ _ (x ∷ []) _ e h
 
 -- the same way, of what is equal
 pub along : {left : List ℕ} (state : State) (x y : List ℕ) (s t : List Token) → x ≡ y → s ≡ t →
@@ -49,9 +43,8 @@ TextLeads left x = (r : List ℕ) (t : List Token) → To left Data r t →
 
 plain-leads : (left : List ℕ) (b : ℕ) (rest : List ℕ) → IsPlain b → TextLeads left rest →
     TextLeads left (b ∷ rest)
-plain-leads left b rest p later r t h = along Data _ _ _ _ refl (ap (λ x. map Character x ++ t)
-    (sym (read_back-other b rest (plain-ne b p)))) (loud (Character b)
-    (plain_step b (rest ++ r) p.no_and p.no_less) (later r t h))
+plain-leads left b rest p later r t h = rw (read_back-other b rest (plain-ne b p))
+    (loud (Character b) (plain_step b (rest ++ r) p.no_and p.no_less) (later r t h))
 
 pub text-leads : (left x : List ℕ) → is_escaped x ≡ true → TextLeads left x
 text-leads left x e = by_escaped _ (λ r t h. h) (plain-leads left) (λ rest later r t h. quiet refl
@@ -63,8 +56,7 @@ text-leads left x e = by_escaped _ (λ r t h. h) (plain-leads left) (λ rest lat
 -- and so a run of what follows
 pub text-runs : (x : List ℕ) → is_escaped x ≡ true → (r : List ℕ) (t : List Token) →
     IsRun Data r t → IsRun Data (x ++ r) (map Character (read_back x) ++ t)
-text-runs x e r t h =
-    subst (λ u. IsRun Data (x ++ r) (u ++ t)) (append-nil (map Character (read_back x)))
+text-runs x e r t h = rw (append-nil (map Character (read_back x))) at
     (runs-on Data (x ++ r) r _ t (text-leads r x e r [] (arrived r)) h)
 
 -- ---- a value
@@ -74,29 +66,20 @@ ValueLeads left x = (tag : List ℕ) (earlier : List TokenAttribute) (name value
     (r : List ℕ) (t : List Token) → To left (AtValue tag earlier name (value ++ read_back x)) r t →
     To left (AtValue tag earlier name value) (x ++ r) t
 
--- the value with one more byte
-more_value : (left : List ℕ) (tag : List ℕ) (earlier : List TokenAttribute) (name value : List ℕ)
-    (b : ℕ) (x r : List ℕ)
-    (t : List Token) → To left (AtValue tag earlier name (value ++ (b ∷ x))) r t →
-    To left (AtValue tag earlier name ((value ++ (b ∷ [])) ++ x)) r t
-more_value left tag earlier name value b x r t h =
-    subst (λ v. To left (AtValue tag earlier name v) r t) (sym (append_assoc value (b ∷ []) x)) h
-
 value-plain : (left : List ℕ) (b : ℕ) (rest : List ℕ) → IsPlain b → ValueLeads left rest →
     ValueLeads left (b ∷ rest)
 value-plain left b rest p later tag earlier name value r t h = quiet
     (value_step _ b _ p.no_quote p.no_and p.no_nul) (later tag earlier name (value ++ (b ∷ [])) r t
-    (more_value _ _ _ _ _ b _ r t (subst (λ v. To left (AtValue tag earlier name (value ++ v)) r t)
-    (read_back-other b rest (plain-ne b p)) h)))
+    (rw append_assoc (rw (read_back-other b rest (plain-ne b p)) at h)))
 
 pub value-leads : (left x : List ℕ) → is_escaped x ≡ true → ValueLeads left x
-value-leads left x e = by_escaped _ (λ tag earlier name value r t h. subst
-    (λ v. To left (AtValue tag earlier name v) r t) (append-nil value) h) (value-plain left) (λ rest
-    later tag earlier name value r t h. quiet refl (quiet refl (quiet refl (later tag earlier name
-    (value ++ (38 ∷ [])) r t (more_value _ _ _ _ _ _ _ r t h))))) (λ rest later tag earlier name
-    value r t h. quiet refl (quiet refl (quiet refl (later tag earlier name (value ++ (34 ∷ [])) r t
-    (more_value _ _ _ _ _ _ _ r t h))))) (λ rest later tag earlier name value r t h. quiet refl
-    (quiet refl (quiet refl (later tag earlier name (value ++ (60 ∷ [])) r t
-    (more_value _ _ _ _ _ _ _ r t h))))) (λ rest later tag earlier name value r t h. quiet refl
-    (quiet refl (quiet refl (later tag earlier name (value ++ (62 ∷ [])) r t
-    (more_value _ _ _ _ _ _ _ r t h))))) x e
+value-leads left x e = by_escaped _ (λ tag earlier name value r t h. rw append-nil at h)
+    (value-plain left)
+    (λ rest later tag earlier name value r t h. quiet refl (quiet refl (quiet refl
+    (later tag earlier name (value ++ (38 ∷ [])) r t (rw append_assoc h)))))
+    (λ rest later tag earlier name value r t h. quiet refl (quiet refl (quiet refl
+    (later tag earlier name (value ++ (34 ∷ [])) r t (rw append_assoc h)))))
+    (λ rest later tag earlier name value r t h. quiet refl (quiet refl (quiet refl
+    (later tag earlier name (value ++ (60 ∷ [])) r t (rw append_assoc h)))))
+    (λ rest later tag earlier name value r t h. quiet refl (quiet refl (quiet refl
+    (later tag earlier name (value ++ (62 ∷ [])) r t (rw append_assoc h))))) x e

@@ -1,13 +1,12 @@
 -- Texts that are escaped: line endings, digits, numbers and the text of code. They
 -- may stand anywhere.
-use Rattle.std.proofs.Common.{◌≡◌, ℕ, ◌-◌, ◌<◌, ◌≤◌, ◌/◌, ◌%◌, ◌==◌, zero, suc, Bool, true, false}
+use Rattle.std.proofs.Common.{◌≡◌, ℕ, ◌-◌, ◌<◌, ◌/◌, ◌%◌, ◌==◌, zero, suc, Bool, true, false}
 use Rattle.std.proofs.Common.{not, ◌&&◌, ◌||◌, cond, List, [], ◌∷◌, ◌++◌, length, take, drop, refl}
-use Rattle.std.proofs.Common.{sym, ap, subst, inl, inr, arith, append_assoc, append-nil, eqb-true}
-use Rattle.std.specs.Prelude.{nat_le, nat_lt}
+use Rattle.std.proofs.Common.{sym, ap, subst, arith, append_assoc, append-nil, eqb-true}
+use Rattle.std.specs.Prelude.{nat_lt}
 use Rattle.std.specs.Fmt.{decimal, digits, digits_onto, digit_glyph}
 use Rattle.std.specs.List.{list_all}
-use Rattle.std.proofs.lemmas.Bool.{and_parts, or_cases, cond_both, agree_below_at, leb-true}
-use Rattle.std.proofs.lemmas.Bool.{and_from}
+use Rattle.std.proofs.lemmas.Bool.{and_parts, cond_both, agree_below_at, and_from}
 use Rattle.md_text.specs.References.{is_escaped}
 use Rattle.md_text.specs.Laws.{is_line_ends}
 use Rattle.md_text.proofs.EscapedLemmas.{completes_reference, escaped-tail, escaped-without}
@@ -24,45 +23,27 @@ abbrev pub is_plain : ℕ → Bool
 is_plain b = not ((b == 0) || (b == 60) || (b == 62) || (b == 34)) && not (b == 38)
 
 plain_first : (b : ℕ) (rest : List ℕ) → is_plain b ≡ true → Escaped rest → Escaped (b ∷ rest)
-plain_first b rest plain h = by ((b == 0) || (b == 60) || (b == 62) || (b == 34)) (b == 38)
-    (and_parts _ _ plain)
+plain_first b rest plain h = by ((b == 0) || (b == 60) || (b == 62) || (b == 34)) (b == 38) plain
   where
-    by : (special and : Bool) → (not special ≡ true) × (not and ≡ true) →
+    by : (special and : Bool) → (not special && not and) ≡ true →
         ((cond special false (cond and (completes_reference rest) true)) && is_escaped rest) ≡ true
-    by true and e = absurd (cc (e.0))
-    by false true e = absurd (cc (e.1))
-    by false false e = h
+    by special and e = grind (arith, h, e)
+
+end-plain : (b : ℕ) → ((b == 13) || (b == 10)) ≡ true → is_plain b ≡ true
+end-plain b h = grind arith
 
 pub line_ends-escaped : (text : List ℕ) → is_line_ends text ≡ true → Escaped text
 line_ends-escaped [] h = refl
 line_ends-escaped (b ∷ text) h =
     let parts = and_parts ((b == 13) || (b == 10)) (is_line_ends text) h in
-    plain_first b text
-    (elim (or_cases (b == 13) (b == 10) parts.0) [
-      | inl is ↦ subst (λ b. is_plain b ≡ true) (sym (eqb-true b 13 is)) refl
-      | inr is ↦ subst (λ b. is_plain b ≡ true) (sym (eqb-true b 10 is)) refl
-    ])
-    (line_ends-escaped text parts.1)
+    plain_first b text (end-plain b parts.0) (line_ends-escaped text parts.1)
 
 pub digit-plain : (b : ℕ) → is_digit b ≡ true → is_plain b ≡ true
-digit-plain b h =
-    let parts = and_parts (nat_le 48 b) (nat_le b 57) h in
-    let low : 48 ≤ b = leb-true 48 b parts.0 in
-    let high : b ≤ 57 = leb-true b 57 parts.1 in
-    let below : b < 58 = omega arith in
-    by (is_digit b) (is_plain b) h
-    (agree_below_at (λ b. is_digit b && not (is_plain b)) (λ b. false) 58 b refl below)
-  where
-    by : (x y : Bool) → x ≡ true → (x && not y) ≡ false → y ≡ true
-    by true true e f = refl
-    by true false e f = sym f
-    by false y e f = absurd (cc e)
+digit-plain b h = grind arith
 
 pub digits-escaped : (text : List ℕ) → list_all is_digit text ≡ true → Escaped text
 digits-escaped [] h = refl
-digits-escaped (b ∷ text) h =
-    let parts = and_parts (is_digit b) (list_all is_digit text) h in
-    plain_first b text (digit-plain b parts.0) (digits-escaped text parts.1)
+digits-escaped (b ∷ text) h = grind (arith, plain_first b text, digit-plain b, digits-escaped text)
 
 -- digits without the zeros before them are digits
 pub zeros-escaped : (text : List ℕ) → list_all is_digit text ≡ true → Escaped (without_zeros text)
@@ -126,10 +107,6 @@ cut_last c text last h =
     escaped-without 32 r.front [] refl (subst Escaped r.whole h) in
     subst Escaped (sym r.cut) (subst Escaped (append-nil r.front) front)
 
-later : (b c n : ℕ) (text : List ℕ) → n ≡ suc (length text) → is_at 32 (b ∷ c ∷ text) n ≡ true →
-    is_at 32 (c ∷ text) (length text) ≡ true
-later b c n text size h = subst (λ n. is_at 32 (b ∷ c ∷ text) n ≡ true) size h
-
 abbrev is_padded : List ℕ → Bool
 is_padded text =
     is_at 32 text 0 && is_at 32 text (length text - 1) && not (list_all (λ byte. byte == 32) text)
@@ -143,7 +120,8 @@ trim_both (b ∷ c ∷ text) h padded =
     let ends = and_parts _ _ all.0 in
     let size : length (b ∷ c ∷ text) - 1 ≡ suc (length text) = omega arith in
     let cut : length (b ∷ c ∷ text) - 2 ≡ length text = omega arith in
-    let last : is_at 32 (c ∷ text) (length text) ≡ true = later b c _ text size ends.1 in
+    let last : is_at 32 (c ∷ text) (length text) ≡ true = subst (λ n. is_at 32 (b ∷ c ∷ text) n ≡
+    true) size ends.1 in
     subst (λ n. Escaped (take n (c ∷ text))) (sym cut)
     (cut_last c text last (escaped-tail b (c ∷ text) h))
 

@@ -1,9 +1,8 @@
--- Tests that pass each token of a forest.
-use Rattle.std.proofs.Common.{◌≡◌, ℕ, Bool, true, false, not, ◌&&◌, List, [], ◌∷◌, ◌++◌, map, refl}
-use Rattle.std.proofs.Common.{subst, inl, inr}
-use Rattle.std.specs.Str.{bytes_eq}
-use Rattle.std.specs.List.{list_all, list_any}
-use Rattle.std.proofs.lemmas.Bool.{and_parts, and_from, or_cases, or_left, or_right}
+-- Tests that pass each token of a forest; the tables have no name by which something runs.
+use Rattle.std.proofs.Common.{◌≡◌, ℕ, Bool, true, false, List, [], ◌∷◌, ◌++◌, map, refl, subst}
+use Rattle.std.proofs.Common.{arith, ◌∙◌, not, ◌&&◌}
+use Rattle.std.specs.List.{list_all}
+use Rattle.std.proofs.lemmas.Bool.{and_parts, and_from}
 use Rattle.md_text.specs.Bytes.{is_one_of}
 use Rattle.md_text.specs.Html.{Attribute, Forest, Empty, Text, Void, Element, is_forest, is_tag}
 use Rattle.md_text.specs.Html.{are_attributes, elements, void_tags, all_attributes, any_attribute}
@@ -14,16 +13,16 @@ use Rattle.md_safe.specs.Token.{Token, Character, StartTag, EndTag, EndOfFile, T
 use Rattle.md_safe.specs.TokenizerStates.{Data, leaves_state}
 use Rattle.md_safe.specs.Tokenizer.{IsTokenized}
 use Rattle.md_safe.specs.Tokens.{tokens, seen, seen_attributes, is_listed, is_tag_of}
-use Rattle.md_safe.proofs.GoodNames.{element-good, void-good, good-leaves}
+use Rattle.md_safe.proofs.GoodNames.{element-good, void-good, good-leaves, by_rule}
 use Rattle.md_safe.proofs.OneRun.{one_run}
 use Rattle.md_safe.proofs.Between.{reading-runs}
+use Rattle.std.proofs.lemmas.List.Folds.{list_all-append}
+use Rattle.md_safe.proofs.Cases.{one_of-passes, all-weaker}
+use Rattle.md_safe.specs.Running.{running_elements, is_running_attribute, runs_nothing}
 
 pub all-append : (p : Token → Bool) (x y : List Token) → list_all p x ≡ true → list_all p y ≡ true →
     list_all p (x ++ y) ≡ true
-all-append p [] y h k = k
-all-append p (t ∷ x) y h k =
-    let q = and_parts (p t) (list_all p x) h in
-    and_from (p t) (list_all p (x ++ y)) q.0 (all-append p x y q.1 k)
+all-append p x y h k = list_all-append p x y ∙ and_from _ _ h k
 
 -- a test that passes what isn't a tag, each end tag of an element of the tables, and each start tag
 -- of the tables whose attributes pass a test of theirs
@@ -48,9 +47,8 @@ all-characters p q o (b ∷ x) = and_from _ _ (o.characters b) (all-characters p
 pub all-tokens : (p : Token → Bool) (q : Attribute → Bool) → PassesTags p q → (f : Forest) →
     is_forest f ≡ true → all_attributes q f ≡ true → list_all p (tokens f) ≡ true
 all-tokens p q o Empty h k = refl
-all-tokens p q o (Text bytes rest) h k =
-    let r = and_parts _ _ h in
-    all-append p _ _ (all-characters p q o (seen bytes)) (all-tokens p q o rest r.1 k)
+all-tokens p q o (Text bytes rest) h k = all-append p _ _ (all-characters p q o (seen bytes))
+    (all-tokens p q o rest (and_parts _ _ h).1 k)
 all-tokens p q o (Void name attributes rest) h k =
     let r = and_parts _ _ h in
     let s = and_parts _ _ k in
@@ -60,9 +58,8 @@ all-tokens p q o (Element name attributes children rest) h k =
     let u = and_parts _ _ r.0 in
     let s = and_parts _ _ k in
     let v = and_parts _ _ s.0 in
-    and_from _ _ (o.starts name attributes u.0 v.0) (all-append p _ _
-    (all-tokens p q o children u.1 v.1) (and_from _ _ (o.ends name attributes u.0)
-    (all-tokens p q o rest r.1 s.1)))
+    and_from _ _ (o.starts name attributes u.0 v.0) (all-append p _ _ (all-tokens p q o children u.1
+    v.1) (and_from _ _ (o.ends name attributes u.0) (all-tokens p q o rest r.1 s.1)))
 
 -- and the same for any tokens of a text
 pub all-tokenized : (p : Token → Bool) (q : Attribute → Bool) → PassesTags p q →
@@ -90,11 +87,7 @@ left_alone q text x one h =
 pub names-listed : (listed : List (List ℕ)) (x : List Attribute) → are_attributes listed x ≡ true →
     list_all (λ a. is_one_of listed a.name) (seen_attributes x) ≡ true
 names-listed listed [] h = refl
-names-listed listed (a ∷ x) h =
-    let alone = not (list_any (λ later. bytes_eq a.name later.name) x) in
-    let p = and_parts _ _ h in
-    let q = and_parts _ _ p.0 in
-    and_from _ _ (and_parts _ _ q.0).0 (names-listed listed x p.1)
+names-listed listed (a ∷ x) h = grind (arith, names-listed listed x)
 
 tag-listed : (rules : List (List ℕ × List (List ℕ))) (name : List ℕ) (attributes : List Attribute)
     (x : List TokenAttribute) → is_tag rules name attributes ≡ true →
@@ -102,16 +95,7 @@ tag-listed : (rules : List (List ℕ × List (List ℕ))) (name : List ℕ) (att
     list_all (λ a. is_one_of listed a.name) x ≡ true) → is_tag_of rules name x ≡ true
 tag-listed [] name attributes x h f = h
 tag-listed (rule ∷ rules) name attributes x h f =
-    let now = bytes_eq rule.0 name && list_all (λ a. is_one_of rule.1 a.name) x in
-    elim (or_cases (bytes_eq rule.0 name && are_attributes rule.1 attributes)
-    (is_tag rules name attributes) h) [
-      | inl this ↦
-          (let r = and_parts (bytes_eq rule.0 name) (are_attributes rule.1 attributes) this in
-          or_left now (is_tag_of rules name x)
-          (and_from (bytes_eq rule.0 name) _ r.0 (f rule.1 r.1)))
-      | inr later ↦
-          or_right now (is_tag_of rules name x) (tag-listed rules name attributes x later f)
-    ]
+    grind (arith, f rule.1, tag-listed rules name attributes x)
 
 -- a test of the tables passes each token of a forest
 listed-passes : (q : Attribute → Bool) → PassesTags is_listed q
@@ -134,3 +118,34 @@ forest-listed f h =
 pub all_listed : (q : Attribute → Bool) (text : List ℕ) (x : List Token) →
     HasOneReadingWith q text → IsTokenized text x → list_all is_listed x ≡ true
 all_listed q text x one h = all-tokenized _ q (listed-passes q) _ x one h
+
+abbrev is_still : List ℕ → Bool
+is_still name = not (is_running_attribute name)
+
+-- a rule of a table has a name and attributes by which nothing runs
+abbrev rule_is_still : List ℕ × List (List ℕ) → Bool
+rule_is_still rule = not (is_one_of running_elements rule.0) && list_all is_still rule.1
+
+tag-still : (rules : List (List ℕ × List (List ℕ))) (name : List ℕ) (x : List Attribute) →
+    list_all rule_is_still rules ≡ true → is_tag rules name x ≡ true → (not
+    (is_one_of running_elements name) && list_all (λ (a : TokenAttribute). is_still a.name)
+    (seen_attributes x)) ≡ true
+tag-still rules name x g e =
+    let stills = list_all (λ (a : TokenAttribute). is_still a.name) (seen_attributes x) in
+    by_rule (λ name. (not (is_one_of running_elements name) && stills) ≡ true) rule_is_still rules
+    name x g (λ rule still allowed.
+    let q = and_parts _ _ still in
+    and_from _ _ q.0 (all-weaker (λ (a : TokenAttribute). is_one_of rule.1 a.name)
+    (λ a. is_still a.name) (λ a h. one_of-passes is_still rule.1 a.name q.1 h) (seen_attributes x)
+    (names-listed rule.1 x allowed))) e
+
+pub all_still : (q : Attribute → Bool) (text : List ℕ) (x : List Token) → HasOneReadingWith q text →
+    IsTokenized text x → list_all runs_nothing x ≡ true
+all_still q text x one h =
+    all-tokenized runs_nothing q record {
+      characters = λ b. refl;
+      end_of_file = refl;
+      ends = λ name attributes g. refl;
+      starts = λ name attributes g k. tag-still elements name attributes refl g;
+      voids = λ name attributes g k. tag-still void_tags name attributes refl g;
+    } text x one h

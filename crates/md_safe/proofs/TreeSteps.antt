@@ -1,7 +1,7 @@
 -- What a parser in a body or a cell does at a token of the grammar.
 use Rattle.std.proofs.Common.{◌≡◌, ℕ, ◌==◌, Bool, true, false, not, List, [], ◌∷◌, ◌++◌, refl, suc}
 use Rattle.std.proofs.Common.{ap, ◌∙◌, map, codes}
-use Rattle.std.specs.Prelude.{Option, Some, None, option_and_then}
+use Rattle.std.specs.Prelude.{Some, None, option_and_then}
 use Rattle.std.specs.List.{list_all}
 use Rattle.std.proofs.lemmas.Bool.{and_parts, not-true}
 use Rattle.md_base.proofs.Lies.{lie}
@@ -25,14 +25,11 @@ use Rattle.md_safe.specs.Built.{at, is_body, AreOpen, with_characters}
 pub run-append : (p : Parser) (xs ys : List Token) →
     run p (xs ++ ys) ≡ option_and_then (λ q. run q ys) (run p xs)
 run-append p [] ys = refl
-run-append p (x ∷ xs) ys = by (step p x) (λ q. run-append q xs ys)
-  where
-    by : (next : Option Parser) →
-        ((q : Parser) → run q (xs ++ ys) ≡ option_and_then (λ q. run q ys) (run q xs)) →
-        option_and_then (λ q. run q (xs ++ ys)) next
-        ≡ option_and_then (λ q. run q ys) (option_and_then (λ q. run q xs) next)
-    by None later = refl
-    by (Some q) later = later q
+run-append p (x ∷ xs) ys = elim (step p x) as (λ next. option_and_then (λ q. run q (xs ++ ys)) next
+    ≡ option_and_then (λ q. run q ys) (option_and_then (λ q. run q xs) next)) [
+      | None ↦ refl
+      | Some q ↦ run-append q xs ys
+    ]
 
 -- tokens that lead from one parser to another, and those after them
 pub after : (p q : Parser) (xs ys : List Token) → run p xs ≡ Some q → run p (xs ++ ys) ≡ run q ys
@@ -76,32 +73,31 @@ within x name those active = record {
   created = suc x.created;
 }
 
+-- what holds in a body and in a cell
+by_mode : (P : Mode → Type 0) → P InBody → P InCell → (mode : Mode) → is_body mode ≡ true → P mode
+by_mode P body cell InBody is = body
+by_mode P body cell InCell is = cell
+by_mode P body cell _ is = lie is
+
 -- ---- tags
 
 pub start-in-body : (x : Position) → is_body x.mode ≡ true →
     (name : List ℕ) (attributes : List TokenAttribute) (flag : Bool) →
     is_one_of parts name ≡ false →
     step (parser_of x) (StartTag name attributes flag) ≡ start_in_body name attributes (parser_of x)
-start-in-body x is name attributes flag none = by x.mode is
-  where
-    by : (mode : Mode) → is_body mode ≡ true →
-        step (parser_of (record x { mode = mode })) (StartTag name attributes flag)
-        ≡ start_in_body name attributes (parser_of (record x { mode = mode }))
-    by InBody is = refl
-    by InCell is = past _ none refl
-    by _ is = lie is
+start-in-body x is name attributes flag none = by_mode (λ mode. step (parser_of (record x {
+  mode =
+      mode;
+})) (StartTag name attributes flag) ≡ start_in_body name attributes (parser_of (record x {
+  mode = mode;
+}))) refl (past _ none refl) x.mode is
 
 pub end-in-body : (x : Position) → is_body x.mode ≡ true → (name : List ℕ) →
     is_one_of cells name ≡ false → is_one_of (codes "table" ∷ codes "tr" ∷ sections) name ≡ false →
     step (parser_of x) (EndTag name) ≡ end_in_body name (parser_of x)
-end-in-body x is name uncelled none = by x.mode is
-  where
-    by : (mode : Mode) → is_body mode ≡ true →
-        step (parser_of (record x { mode = mode })) (EndTag name)
-        ≡ end_in_body name (parser_of (record x { mode = mode }))
-    by InBody is = refl
-    by InCell is = past _ uncelled (past _ none refl)
-    by _ is = lie is
+end-in-body x is name uncelled none = by_mode (λ mode. step (parser_of (record x { mode = mode }))
+    (EndTag name) ≡ end_in_body name (parser_of (record x { mode = mode }))) refl (past _ uncelled
+    (past _ none refl)) x.mode is
 
 -- nothing is to be reconstructed where all is open
 pub reconstructs : (x : Position) (change : Parser → Parser) → AreOpen (x.node ∷ x.others)
@@ -136,15 +132,10 @@ characters-run (byte ∷ bytes) x is h o =
     let parts = and_parts (is_character byte) (list_all is_character bytes) h in
     let next = with_children x (with_character x.node.children byte) x.active x.created in
     after-one (parser_of x) (parser_of next) (Character byte) (map Character bytes)
-    (past _ (not-true (byte == 0) parts.0) (by x.mode is
+    (past _ (not-true (byte == 0) parts.0) (by_mode (λ mode. character mode byte (parser_of x) ≡
+    character_in_body byte (parser_of x)) refl refl x.mode is
     ∙ reconstructs x (λ parser. record parser { stack = say byte parser.stack }) o))
     ∙ characters-run bytes next is parts.1 (same-open x.node next.node.children x.others x.active o)
-  where
-    by : (mode : Mode) → is_body mode ≡ true →
-        character mode byte (parser_of x) ≡ character_in_body byte (parser_of x)
-    by InBody is = refl
-    by InCell is = refl
-    by _ is = lie is
 
 abbrev AreRead : List ℕ → Type 0
 AreRead x = list_all is_character (read_back x) ≡ true

@@ -1,11 +1,9 @@
 -- The meaning of a document has a reading in which each attribute passes a test: the theorems from
 -- the induction over forests.
-use Rattle.std.proofs.Common.{◌≡◌, ℕ, ◌||◌, Bool, true, false, cond, List, ◌++◌, refl, sym, ap}
-use Rattle.std.proofs.Common.{subst}
+use Rattle.std.proofs.Common.{ℕ, Bool, List, ◌++◌, refl, bytes_eq, codes, not}
 use Rattle.std.proofs.lemmas.Bool.{and_parts, not-true}
 use Rattle.md_text.specs.Html.{Attribute, any_attribute, HasReadingWith, HasOneReadingWith}
-use Rattle.md_text.specs.Safe.{is_safe_link, is_safe_image, is_safe_value}
-use Rattle.md_text.specs.Url.{sanitized, sanitized_with, link_protocols, image_protocols}
+use Rattle.md_text.specs.Safe.{is_safe_link, is_safe_image}
 use Rattle.md_text.proofs.HtmlReading.{only_reading}
 use Rattle.md_text.proofs.ProtocolLemmas.{kept-link, kept-image}
 use Rattle.md_base.specs.Tree.{Forest}
@@ -16,19 +14,17 @@ use Rattle.md_meaning.specs.Meaning.Inherited.{outermost}
 use Rattle.md_meaning.specs.Meaning.Before.{nothing_before}
 use Rattle.md_meaning.specs.Meaning.Footnotes.{section}
 use Rattle.md_meaning.specs.Meaning.Layout.{layout}
-use Rattle.md_meaning.specs.Meaning.Nodes.{Outcome, outcome}
+use Rattle.md_meaning.specs.Meaning.Nodes.{outcome}
 use Rattle.md_content.specs.Built.{Blocks, IsBuilt}
 use Rattle.md_safe.proofs.Costs.{Document, read_in}
-use Rattle.md_safe.proofs.Prepared.{document_of, blocks-stay, outermost-ready, reads-whole}
+use Rattle.md_safe.proofs.Prepared.{document_of, outermost-ready, reads-whole}
 use Rattle.md_safe.specs.Options.{KeepsGrammar, KeepsLinks, KeepsImages}
-use Rattle.md_safe.proofs.Claim.{reading}
+use Rattle.md_safe.proofs.Tags.{reading, IsTest}
 use Rattle.md_safe.proofs.Laid.{adds-alone}
-use Rattle.md_safe.proofs.Tags.{IsTest}
-use Rattle.md_safe.proofs.Contents.{Holds}
-use Rattle.md_safe.proofs.Spot.{PassesIds, IsWhole, Setting, Prints}
-use Rattle.md_safe.proofs.FlowNodes.{Reads}
-use Rattle.md_safe.proofs.Forests.{Means, means}
+use Rattle.md_safe.proofs.Spot.{PassesIds, IsWhole, Setting}
+use Rattle.md_safe.proofs.Forests.{means}
 use Rattle.md_safe.proofs.Section.{section-prints}
+use Rattle.md_safe.proofs.Contents.{blocks-stay}
 
 -- a document and its section
 document-prints : (s : Setting) → IsWhole s.p → (document : Forest) →
@@ -36,14 +32,9 @@ document-prints : (s : Setting) → IsWhole s.p → (document : Forest) →
     s.context.ending ((outcome s.context outermost nothing_before document).pieces ++ section
     s.context (outcome s.context outermost nothing_before document).footnotes))
 document-prints s whole document built keeps =
-    let all : Outcome = outcome s.context outermost nothing_before document in
-    let known : Means s outermost Blocks document all = means s document outermost nothing_before
-    Blocks built (outermost-ready s whole) in
-    let last : Prints s (Reads s) (section s.context all.footnotes) = section-prints s whole
-    keeps.usual_tag keeps.usual_attributes all.footnotes known.texts in
-    adds-alone (known.prints (section s.context all.footnotes) (subst (λ content. Prints s
-    (Holds s.p true false content) (section s.context all.footnotes)) (sym (blocks-stay document))
-    last))
+    let known = means s document outermost nothing_before Blocks built (outermost-ready s whole) in
+    adds-alone (known.prints _ (rw (blocks-stay document) (section-prints s whole keeps.usual_tag
+    keeps.usual_attributes _ known.texts)))
 
 -- the meaning has a reading in which each attribute passes the test
 meaning-reads : (p : Attribute → Bool) (bytes : List ℕ) (names : List (List ℕ × List ℕ))
@@ -64,11 +55,8 @@ meaning-reads p bytes names options document test ids built keeps =
 -- a safe link passes
 link-test : (options : CompileOptions) → KeepsLinks options → IsTest is_safe_link options
 link-test options keeps = record {
-  other = λ name value h. ap (λ b. cond b (is_safe_value link_protocols value) true)
-      (not-true _ (and_parts _ _ h).0);
-  link = λ destination. subst (λ b. is_safe_value link_protocols (cond b (sanitized destination)
-      (sanitized_with link_protocols destination)) ≡ true) (sym keeps.permitted_links)
-      (kept-link destination);
+  other = λ name value h. rw (not-true (bytes_eq name (codes "href")) (and_parts _ _ h).0) refl;
+  link = λ destination. rw keeps.permitted_links (kept-link destination);
   anchor = λ rest. refl;
   image = λ destination. refl;
   html = keeps.grammar.escapes_html;
@@ -77,16 +65,13 @@ link-test options keeps = record {
 -- a safe image passes
 image-test : (options : CompileOptions) → KeepsImages options → IsTest is_safe_image options
 image-test options keeps = record {
-  other = λ name value h. ap (λ b. cond b (is_safe_value image_protocols value) true)
-      (not-true _ (and_parts _ _ (and_parts _ _ h).1).0);
+  other = λ name value h.
+      let src = (and_parts (not (bytes_eq name (codes "src"))) _ (and_parts _ _ h).1).0 in
+      rw (not-true (bytes_eq name (codes "src")) src) refl;
   link = λ destination. refl;
   anchor = λ rest. refl;
-  image = λ destination. subst (λ b. is_safe_value image_protocols (cond
-      (b || options.allow_dangerous_protocol) (sanitized destination)
-      (sanitized_with image_protocols destination)) ≡ true) (sym keeps.permitted_images) (subst
-      (λ b. is_safe_value image_protocols (cond b (sanitized destination)
-      (sanitized_with image_protocols destination)) ≡ true) (sym keeps.links.permitted_links)
-      (kept-image destination));
+  image = λ destination. rw (keeps.permitted_images, keeps.links.permitted_links) (kept-image
+      destination);
   html = keeps.links.grammar.escapes_html;
 }
 

@@ -1,12 +1,17 @@
--- No id stands twice in the meaning of a document, nor in two documents whose prefixes are apart.
-use Rattle.std.specs.Str.{bytes_eq}
-use Rattle.std.proofs.Common.{◌≡◌, ◌⊎◌, inl, inr, ℕ, suc, ◌||◌, Bool, true, false, not, cond, List}
-use Rattle.std.proofs.Common.{[], ◌∷◌, ◌++◌, length, ◌<◌, ◌^◌, ◌+◌, ◌≤◌, arith, refl, sym, ap, ◌∙◌}
-use Rattle.std.proofs.Common.{codes}
+-- No id stands twice in the meaning of a document, nor in two documents whose prefixes are apart:
+-- an id by number determines its prefix, since what follows it begins with `fn`, and has no other
+-- `fn`.
+use Rattle.std.proofs.Common.{◌≡◌, ℕ, ◌≤◌, ◌==◌, Bool, true, false, ◌&&◌, ◌||◌, List, [], ◌∷◌, ◌++◌}
+use Rattle.std.proofs.Common.{refl, sym, ap, ◌∙◌, arith, codes, bytes_eq, append-nil, ◌⊎◌, inl, inr}
+use Rattle.std.proofs.Common.{not, length, ◌<◌, ◌^◌, ◌+◌}
+use Rattle.std.specs.List.{list_any, list_all, list_any}
 use Rattle.std.specs.Fmt.{decimal}
-use Rattle.std.specs.List.{list_any}
+use Rattle.std.proofs.lemmas.Bool.{or_right, and_from, or_left, or_right}
 use Rattle.md_base.proofs.Lies.{lie}
-use Rattle.std.proofs.lemmas.Bool.{and_from, or_left, or_right}
+use Rattle.md_text.proofs.HtmlIds.{occurs, occurs, counted-once}
+use Rattle.md_content.specs.Built.{is_digit, Blocks, IsBuilt}
+use Rattle.md_safe.proofs.Texts.{decimal-digits}
+use Rattle.std.specs.Str.{bytes_eq}
 use Rattle.md_base.specs.declared.event.Name.TheVariants.{GfmFootnoteCall}
 use Rattle.md_text.specs.Html.{Forest as Html, IsReading}
 use Rattle.md_text.proofs.HtmlReading.{one_reading}
@@ -16,7 +21,6 @@ use Rattle.md_base.specs.Is.{is as named}
 use Rattle.md_base.specs.Tree.{Forest, Empty, Node, flatten, exiting}
 use Rattle.md_pattern.specs.Looseness.{is_loose}
 use Rattle.md_text.specs.Ids.{ids, HasDistinctIds}
-use Rattle.md_text.proofs.HtmlIds.{occurs, counted-once}
 use Rattle.md_content.specs.Underlined.{IsUnderlined}
 use Rattle.md_text.specs.declared.options.CompileOptions.{CompileOptions}
 use Rattle.md_meaning.specs.Meaning.{meaning}
@@ -26,16 +30,69 @@ use Rattle.md_meaning.specs.Meaning.Before.{nothing_before, before_children}
 use Rattle.md_meaning.specs.Meaning.Layout.{when}
 use Rattle.md_meaning.specs.Meaning.Nodes.{Outcome, node, before_next, outcome}
 use Rattle.md_meaning.specs.declared.surroundings.Surroundings.{Surroundings}
-use Rattle.md_content.specs.Built.{Blocks, IsBuilt}
 use Rattle.md_safe.proofs.Prepared.{document_of, alone_of}
 use Rattle.md_safe.specs.Options.{KeepsIds}
-use Rattle.md_safe.proofs.Claim.{reading}
+use Rattle.md_safe.proofs.Tags.{reading}
 use Rattle.md_safe.proofs.Costs.{Document}
 use Rattle.md_safe.specs.Apart.{prefix_of, are_apart, ShareNoId}
 use Rattle.md_safe.proofs.CountedSection.{document-counts, document-counted}
-use Rattle.md_safe.proofs.Distinct.{IsNote, IsCall, document-known}
-use Rattle.md_safe.proofs.Prefixes.{has_fn, same-prefix, note-once, call-once, any-occurs}
+use Rattle.md_safe.proofs.IdsOnce.{IsNote, IsCall, document-known}
 use Rattle.md_safe.proofs.Spot.{at_in}
+
+-- begins with `n`
+abbrev begins_n : List ℕ → Bool
+begins_n [] = false
+begins_n (b ∷ x) = b == 110
+
+-- has `fn` somewhere
+abbrev pub has_fn : List ℕ → Bool
+has_fn [] = false
+has_fn (b ∷ x) = ((b == 102) && begins_n x) || has_fn x
+
+fn-inside : (p x : List ℕ) → has_fn (p ++ (102 ∷ 110 ∷ x)) ≡ true
+fn-inside [] x = refl
+fn-inside (b ∷ p) x = or_right _ _ (fn-inside p x)
+
+-- two texts with one such beginning each begin alike
+pub same-prefix : (p q x y : List ℕ) → has_fn x ≡ false → has_fn y ≡ false →
+    p ++ (102 ∷ 110 ∷ x) ≡ q ++ (102 ∷ 110 ∷ y) → p ≡ q
+same-prefix [] [] x y h g e = refl
+same-prefix [] (c ∷ q) x y h g e =
+    let after : 110 ∷ x ≡ q ++ (102 ∷ 110 ∷ y) = cc e in
+    lie (sym h ∙ ap has_fn after ∙ fn-inside q y)
+same-prefix (b ∷ p) [] x y h g e =
+    let after : 110 ∷ y ≡ p ++ (102 ∷ 110 ∷ x) = cc (sym e) in
+    lie (sym g ∙ ap has_fn after ∙ fn-inside p x)
+same-prefix (b ∷ p) (c ∷ q) x y h g e =
+    let first : b ≡ c = cc e in
+    let after : p ++ (102 ∷ 110 ∷ x) ≡ q ++ (102 ∷ 110 ∷ y) = cc e in
+    ap (λ n. n ∷ p) first ∙ ap (λ z. c ∷ z) (same-prefix p q x y h g after)
+
+-- digits and what follows them
+digit-no_f : (b : ℕ) → is_digit b ≡ true → (b == 102) ≡ false
+digit-no_f b h = grind arith
+
+fn-past : (x y : List ℕ) → list_all is_digit x ≡ true → has_fn (x ++ y) ≡ has_fn y
+fn-past [] y h = refl
+fn-past (b ∷ x) y h = grind (arith, digit-no_f b, fn-past x y)
+
+fn-digits : (x : List ℕ) → list_all is_digit x ≡ true → has_fn x ≡ false
+fn-digits x h = ap has_fn (sym (append-nil x)) ∙ fn-past x [] h
+
+-- after `fn` of a footnote, and after that of a call
+pub note-once : (n : ℕ) → has_fn (45 ∷ decimal n) ≡ false
+note-once n = fn-digits (decimal n) (decimal-digits n)
+
+pub call-once : (n k : ℕ) → has_fn (codes "ref-" ++ (decimal n ++ (45 ∷ decimal k))) ≡ false
+call-once n k =
+    fn-past (decimal n) (45 ∷ decimal k) (decimal-digits n)
+    ∙ fn-digits (decimal k) (decimal-digits k)
+
+-- what is found among some texts stands there once or more
+pub any-occurs : (x : List ℕ) (ys : List (List ℕ)) → list_any (λ y. bytes_eq y x) ys ≡ true →
+    1 ≤ occurs x ys
+any-occurs x [] h = lie h
+any-occurs x (y ∷ ys) h = grind (arith, any-occurs x ys)
 
 -- the identifiers of the footnote calls in some nodes, in the order of their exits
 abbrev calls_in : List ℕ → Forest → List (List ℕ)
@@ -69,20 +126,16 @@ calls-fewer bytes (Node name start end children rest) =
     let below : List (List ℕ) = calls_in bytes children in
     let own : List (List ℕ) =
     when (named GfmFootnoteCall name) (identifier_of bytes children ∷ []) in
-    let after : List (List ℕ) = calls_in bytes rest in
+    let one : length own ≤ 1 = grind arith in
     omega (
-      length-append (below ++ own) after,
+      length-append (below ++ own) (calls_in bytes rest),
       length-append below own,
-      one (named GfmFootnoteCall name) (identifier_of bytes children),
+      one,
       length-append (flatten children) (exiting name end ∷ flatten rest),
       calls-fewer bytes children,
       calls-fewer bytes rest,
       arith,
     )
-  where
-    one : (is : Bool) (identifier : List ℕ) → length (when is (identifier ∷ [])) ≤ 1
-    one true identifier = omega arith
-    one false identifier = omega arith
 
 pub distinct-ids : (bytes : List ℕ) (names : List (List ℕ × List ℕ)) (options : CompileOptions)
     (document : Forest) →
@@ -139,24 +192,18 @@ apart-ids : (xs ys : List (List ℕ)) → ((w : List ℕ) → 1 ≤ occurs w xs 
     "footnote-label" ≡ w) → are_apart xs ys ≡ true
 apart-ids [] ys h = refl
 apart-ids (x ∷ xs) ys h = and_from _ _ (of (list_any (λ other. bytes_eq other x) ys) refl)
-    (apart-ids xs ys (λ w some. h w (later w (bytes_eq x w) some)))
+    (apart-ids xs ys (λ w some. h w (later w some)))
   where
-    later : (w : List ℕ) (is : Bool) → 1 ≤ occurs w xs → 1 ≤ cond is
-        (suc (occurs w xs)) (occurs w xs)
-    later w true some = omega (arith, some)
-    later w false some = some
+    later : (w : List ℕ) → 1 ≤ occurs w xs → 1 ≤ occurs w (x ∷ xs)
+    later w some = grind (arith, some)
 
-    first : (is : Bool) → is ≡ true → 1 ≤ cond is (suc (occurs x xs)) (occurs x xs)
-    first true e = omega arith
-    first false e = lie e
+    first : 1 ≤ occurs x (x ∷ xs)
+    first = grind (arith, itself x)
 
     of : (is : Bool) → list_any (λ other. bytes_eq other x) ys ≡ is →
         (bytes_eq (codes "footnote-label") x || not is) ≡ true
     of false e = or_right _ _ refl
-    of true e =
-        let label : codes "footnote-label" ≡ x = h x (first (bytes_eq x x) (itself x))
-        (any-occurs x ys e) in
-        or_left _ _ (ap (λ y. bytes_eq y x) label ∙ itself x)
+    of true e = or_left _ _ (ap (λ y. bytes_eq y x) (h x first (any-occurs x ys e)) ∙ itself x)
 
 pub apart : (bytes other_bytes : List ℕ) (names other_names : List (List ℕ × List ℕ))
     (options other_options : CompileOptions) (document other : Forest) →

@@ -22,8 +22,7 @@ use Rattle.md_safe.proofs.TreeSteps.{Position}
 use Rattle.md_safe.proofs.Flow.{flow-done, kept-none}
 
 none-open : (node : Open) (others : List Open) (active : List Entry) →
-    has_none_active active ≡ true →
-    AreOpen (node ∷ others) active
+    has_none_active active ≡ true → AreOpen (node ∷ others) active
 none-open node others [] h = tt
 none-open node others (Marker ∷ active) h = tt
 none-open node others (Formatting identity name attributes ∷ active) h = lie h

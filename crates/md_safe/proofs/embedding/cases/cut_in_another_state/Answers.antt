@@ -1,5 +1,5 @@
 -- What is left would be emitted, and isn't.
-use Rattle.md_safe.proofs.Cuts.{tag, value, title, reference}
+use Rattle.md_safe.proofs.Between.{tag, value, title, reference}
 use Rattle.md_safe.proofs.embedding.cases.cut_in_another_state.Goals as goal
 
 pub returns-clause-tag : goal.returns-clause-tag

@@ -1,6 +1,6 @@
 -- By computing.
 use Rattle.std.proofs.Common.{refl}
-use Rattle.md_safe.proofs.Cuts.{two_feeds}
+use Rattle.md_safe.proofs.Between.{two_feeds}
 use Rattle.md_safe.proofs.embedding.cases.split_newline.Goals as goal
 
 pub returns-clause-before : goal.returns-clause-before
