@@ -25,7 +25,7 @@ pub Runs-more : (holds : Reads) (events : List Event) (index : ℕ) (d : Event) 
     index < length events → Runs holds (take index events) beginning from →
     Steps holds (get_or events index d) from to → Runs holds (take (suc index) events) beginning to
 Runs-more holds events index d from to inside runs step =
-    subst (λ es. Runs holds es beginning to) (sym (take-suc events index d inside))
+    rw (take-suc events index d inside)
     (Runs-append holds _ _ beginning from to runs (to, step, refl))
 
 -- ---- the end
@@ -66,9 +66,7 @@ module _ (given : Handed) (mentioned : List Mentioned) (index : ℕ) (mention : 
       got-listed all lost.0 _ (ap (λ ms. slice_get ms lost.0) (sym walked.mentions_are) ∙ lost.1)
 
   lost_unresolved : IsResolved given.bytes all mention → ⊥
-  lost_unresolved is =
-      lost.2 (subst (λ ms. IsResolved given.bytes (mentions_among ms) mention)
-      (sym walked.mentions_are) (resolved-listed given.bytes all mention is))
+  lost_unresolved is = grind (arith, lost, resolved-listed)
 
   -- a document's mentions are resolved
   lost_outside : IsChecked given → ⊥
@@ -77,8 +75,7 @@ module _ (given : Handed) (mentioned : List Mentioned) (index : ℕ) (mention : 
       (document_one given mentioned walked checked)
       (IsGrammatical.resolved (IsReadAs.grammatical checked.1)) in
       let here = resolved index mention (slice_get_within all index mention lost_got) in
-      lost_unresolved (subst (λ m. IsResolved given.bytes all m)
-      (get_or_from_slice_get all index mention mention lost_got) here)
+      lost_unresolved (rw (get_or_from_slice_get all index mention mention lost_got) at here)
 
   ends_unresolved : EndsUnresolved given index mention
   ends_unresolved = record {
@@ -132,9 +129,7 @@ IsChecked-walked given mentioned walked resolved = (
     grammatical = record {
       shape = walked.shape;
       rules = walked.rules;
-      resolved = all-resolved given.bytes _
-          (subst (λ ms. All (IsResolved given.bytes (mentions_among ms)) (mentions_among ms))
-          walked.mentions_are resolved);
+      resolved = all-resolved given.bytes _ (rw walked.mentions_are at resolved);
     };
   },
 )

@@ -1,6 +1,5 @@
 -- The least nodes that a spine still needs complete it.
-use Rattle.std.proofs.Common.{◌≡◌, ◌⊎◌, inl, inr, ℕ, zero, suc, true, [], drop, refl, sym, ap, ◌∙◌}
-use Rattle.std.proofs.Common.{subst}
+use Rattle.std.proofs.Common.{arith, ◌≡◌, ◌⊎◌, inl, inr, true, [], sym, subst}
 use Rattle.md_tree.proofs.Common.{Role, Whole, State, Forest, flatten, spine, AreShaped}
 use Rattle.md_tree.proofs.Common.{is_complete, may_hold, Course, Runs, Anything}
 use Rattle.md_pattern.specs.declared.kinds.Role.TheVariants as role
@@ -10,25 +9,18 @@ use Rattle.md_tree.proofs.ClosedNodes.{not_childless}
 use Rattle.md_tree.proofs.NodeClaims.{shaped_anything, free_anything}
 use Rattle.md_tree.proofs.EndsAfter.{IsFed, fed}
 use Rattle.md_tree.proofs.LeastNodes.{nodes_of, nodes_shaped, nodes_spine}
-use Rattle.md_tree.proofs.StillNeeded.{needed, missing_at, missing, completes}
+use Rattle.md_tree.proofs.StillNeeded.{missing, completes}
 
 -- no group has begun where no node may stand
 abbrev pub IsSettled : State → Type 0
 IsSettled state = state.role ≡ role.Childless → state.stage ≡ Whole
 
 childless_or : (around : Role) → (around ≡ role.Childless) ⊎ (may_hold around ≡ true)
-childless_or role.Childless = inl refl
-childless_or _ = inr refl
-
-nothing_left : (position : ℕ) → needed (drop position []) ≡ []
-nothing_left zero = refl
-nothing_left (suc position) = refl
+childless_or around = grind arith
 
 nothing_missing : (state : State) → state.role ≡ role.Childless →
     state.stage ≡ Whole → missing state ≡ []
-nothing_missing state childless whole =
-    ap (λ r. missing_at r state.position state.stage) childless
-    ∙ ap (λ s. missing_at role.Childless state.position s) whole ∙ nothing_left state.position
+nothing_missing state childless whole = grind arith
 
 abbrev pub completion : State → Forest
 completion state = nodes_of (missing state)

@@ -1,19 +1,18 @@
 -- What has been read without an error begins a tree with the shape of the grammar: the
 -- innermost spine is completed by the least nodes that its pattern still needs, its node ends,
 -- and so outwards.
-use Rattle.std.proofs.Common.{◌≡◌, true, Option, Some, None, List, [], ◌∷◌, ◌++◌, refl, sym, ap}
-use Rattle.std.proofs.Common.{◌∙◌, subst}
-use Rattle.md_tree.proofs.Common.{Event, State, Forest, flatten, exiting, spine, EachNode, IsShaped}
-use Rattle.md_tree.proofs.Common.{is_complete, Reads, Outer, Open, Course, Runs, Exits, ExitsWhere}
-use Rattle.md_tree.proofs.Common.{after_exit, after_through, beginning, Anything, opening}
+use Rattle.std.proofs.Common.{subst, ◌≡◌, true, Option, Some, None, List, [], ◌∷◌, ◌++◌, refl, sym}
+use Rattle.std.proofs.Common.{ap, ◌∙◌}
+use Rattle.md_tree.proofs.Common.{Event, Forest, flatten, exiting, EachNode, IsShaped, is_complete}
+use Rattle.md_tree.proofs.Common.{Reads, Outer, Open, Course, Runs, Exits, after_exit}
+use Rattle.md_tree.proofs.Common.{after_through, beginning, Anything, opening}
 use Rattle.md_pattern.specs.declared.kinds.Role.TheVariants as role
 use Rattle.md_tree.specs.Refusal.{BeginTree}
 use Rattle.md_tree.proofs.SettledPatterns.{and_left}
-use Rattle.md_tree.proofs.Spots.{Feeds}
 use Rattle.md_tree.proofs.Groups.{matches_feeds, whole_stage}
 use Rattle.md_tree.proofs.NodesRead.{IsFine, after_nodes}
 use Rattle.md_tree.proofs.Trees.{Runs-append}
-use Rattle.md_tree.proofs.OpenPaths.{path_none, Stands}
+use Rattle.md_tree.proofs.OpenPaths.{path_none}
 use Rattle.md_tree.proofs.NodeClaims.{fine_shaped}
 use Rattle.md_tree.proofs.Verdicts.{Reached-runs, anything_runs}
 use Rattle.md_tree.proofs.LeastNodes.{somewhere}
@@ -42,11 +41,7 @@ leaving : (open_node : Open) (others : List Open) (from : Course) (outer : Optio
     is_complete from.state ≡ true → WaitsSettled outer → Leaving open_node others from
 leaving open_node others from None is complete waits = record {
   to = after_through others from;
-  exits = (
-    refl,
-    subst (λ o. ExitsWhere Anything o open_node.start somewhere others from
-        (after_through others from)) (sym is) refl,
-  );
+  exits = (refl, rw is);
   opens = refl;
   settled = λ _. whole_stage from.state.stage (and_left _ _ complete);
 }
@@ -54,11 +49,7 @@ leaving open_node others from (Some outer) is complete waits =
     let to = after_exit outer open_node.start somewhere others from in
     record {
       to = to;
-      exits = (
-        refl,
-        subst (λ o. ExitsWhere Anything o open_node.start somewhere others from to) (sym is)
-            (complete, tt, refl),
-      );
+      exits = (refl, rw is (complete, tt, refl));
       opens = refl;
       settled = waits;
     }
@@ -106,11 +97,10 @@ pub IsDone-runs : (holds : Reads) (events : List Event) (course : Course) →
     course.open_nodes ≡ [] → is_complete course.state ≡ true → IsDone holds events
 IsDone-runs holds events course runs none complete =
     let reached = Reached-runs holds events course runs in
-    let path = path_none reached.path reached.base reached.found
-    (subst (λ os. Stands reached.path os reached.base reached.found) none reached.stands) in
-    let fine = subst (λ (s : State). EachNode (IsFine holds) reached.nodes s.role s.before) path.1
-    reached.nodes_fine in
-    let feeds = subst (λ s. Feeds s (spine reached.nodes) course.state) path.1 reached.feeds in
+    let path = path_none reached.path course.open_nodes reached.base reached.found none
+    reached.stands in
+    let fine = rw path.1 at reached.nodes_fine in
+    let feeds = rw path.1 at reached.feeds in
     record {
       forest = reached.nodes;
       flattened = sym (reached.events_are ∙ ap (λ p. opening p ++ flatten reached.nodes) path.0);

@@ -1,29 +1,27 @@
 -- What follows of a list of events from a node that breaks a rule, and from how a walk ends:
 -- something is left open, or a whole document was read. `Checking` needs it for what `check` says.
-use Rattle.std.proofs.Common.{true≢false, ◌≡◌, ◌≢◌, ◌⊎◌, inl, inr, ℕ, zero, suc, Bool, true, false}
-use Rattle.std.proofs.Common.{Option, Some, None, List, [], ◌∷◌, ◌++◌, drop, refl, sym, ap, ◌∙◌}
-use Rattle.std.proofs.Common.{subst, append_assoc}
-use Rattle.md_tree.proofs.Common.{none-some, list_all, Point, Name, Event, Flow, Free, Standing}
-use Rattle.md_tree.proofs.Common.{Through, Space, Solid, Mdx, Referral, Missing, Mentioned, Rule}
-use Rattle.md_tree.proofs.Common.{State, Open, Outer, Forest, Empty, Node, flatten, exiting}
-use Rattle.md_tree.proofs.Common.{standing_of, spine, pattern_of, IsShaped, AreShaped, inner_role}
-use Rattle.md_tree.proofs.Common.{inner_before, broken_rule, reading_of, MeetRules, target_of}
-use Rattle.md_tree.proofs.Common.{Handed, IsGrammatical, IsReadAs, IsChecked, Level, role_in}
+use Rattle.std.proofs.Common.{arith, true≢false, ◌≡◌, ◌≢◌, ◌⊎◌, inl, inr, ℕ, zero, suc, Bool, true}
+use Rattle.std.proofs.Common.{false, Option, Some, None, List, [], ◌∷◌, ◌++◌, drop, refl, sym, ap}
+use Rattle.std.proofs.Common.{◌∙◌, subst, append_assoc}
+use Rattle.md_tree.proofs.Common.{list_all, Point, Name, Event, Flow, Standing, Referral, Missing}
+use Rattle.md_tree.proofs.Common.{Mentioned, Rule, State, Open, Outer, Forest, Empty, Node, flatten}
+use Rattle.md_tree.proofs.Common.{exiting, standing_of, spine, pattern_of, IsShaped, AreShaped}
+use Rattle.md_tree.proofs.Common.{inner_role, inner_before, broken_rule, reading_of, MeetRules}
+use Rattle.md_tree.proofs.Common.{target_of, Handed, IsGrammatical, IsReadAs, IsChecked, Level}
 use Rattle.md_tree.proofs.Common.{symbol_after, EndsInGroup, EndsBroken, is_complete, is_whole}
-use Rattle.md_tree.proofs.Common.{is_optional, items_of, start_of, Reads, Course, Runs, Exits}
-use Rattle.md_tree.proofs.Common.{ExitsWhere, after_exit, entered_on, beginning, Unbroken}
-use Rattle.md_tree.proofs.Common.{BreaksWhere, BreaksAtExit, mentions_of}
+use Rattle.md_tree.proofs.Common.{is_optional, start_of, Reads, Course, Runs, Exits, ExitsWhere}
+use Rattle.md_tree.proofs.Common.{after_exit, entered_on, beginning, Unbroken, BreaksWhere}
+use Rattle.md_tree.proofs.Common.{BreaksAtExit, mentions_of}
 use Rattle.md_tree.specs.Refusal.{Begins, LeaveOpen}
 use Rattle.md_tree.specs.Walk.{Broken}
 use Rattle.md_tree.proofs.Listing.{listed, mentions_over-listed}
 use Rattle.md_tree.proofs.SettledPatterns.{and_both}
-use Rattle.md_tree.proofs.Spots.{Feeds}
 use Rattle.md_tree.proofs.HeldGroups.{EndsInGroup-feeds}
 use Rattle.md_tree.proofs.Trees.{Feeds-context}
 use Rattle.md_tree.proofs.Completing.{IsDone-runs, BeginTree-runs}
 use Rattle.md_tree.proofs.OpenPaths.{path_none, Stands, Stands-context, Reached}
 use Rattle.md_tree.proofs.Paths.{Left, Reached-left, Left-closed, Left-inner}
-use Rattle.md_tree.proofs.ClosedNodes.{Closed, entry_is}
+use Rattle.md_tree.proofs.ClosedNodes.{Closed}
 use Rattle.md_tree.proofs.NodeClaims.{fine_shaped, fine_meets, fine_path_shaped}
 use Rattle.md_tree.proofs.Verdicts.{Runs-same, Runs-checked, Reached-runs}
 
@@ -54,27 +52,8 @@ module _ (bytes : List ℕ) (names : List (List ℕ × List ℕ)) (broken : Rule
       Closed (Broken bytes names broken) standing name start end children here after found target →
       broken_rule bytes names (reading_of standing) here.role here.before start end
       (target_of children Missing) ≡ Some broken
-  broken_there Through name start end children here after base found inner target
-      waiting course e breaks closed =
-      let parts = entry_is (record { state = here; target = found; outer = None }) (record {
-        state = base;
-        target = inner;
-        outer = waiting;
-      }) e in
-      absurd (subst (λ o. BreaksWhere bytes names broken o start end course) (sym parts.2) breaks)
-  broken_there Space name start end children here after base found inner target waiting course e
-      breaks closed =
-      let free : Outer =
-      record { state = here; before = here.before; target = found; reading = Free } in
-      let parts =
-      entry_is _ _ e in
-      absurd (none-some broken
-      (subst (λ o. BreaksWhere bytes names broken o start end course) (sym parts.2) breaks).1)
-  broken_there (Solid symbol usual reading) name start end children here after base found inner
-      target waiting course e breaks closed =
-      closed.read
-  broken_there Mdx name start end children here after base found inner target
-      waiting course e breaks closed = cc
+  broken_there standing name start end children here after base found inner target
+      waiting course e breaks closed = grind arith
 
   events_ended : (a c : List Event) (x y : Event) →
       (((a ++ x ∷ []) ++ c) ++ y ∷ []) ≡ a ++ (x ∷ c ++ y ∷ [])
@@ -84,8 +63,7 @@ module _ (bytes : List ℕ) (names : List (List ℕ × List ℕ)) (broken : Rule
       (left : Left (Unbroken bytes names) (Broken bytes names broken) seen name point course next) →
       BreaksAtExit bytes names broken course.open_nodes name point course →
       BreaksWhere bytes names broken left.open_node.outer left.open_node.start point course
-  breaks_left seen name point course next left breaks =
-      (subst (λ os. BreaksAtExit bytes names broken os name point course) left.opens_are breaks).1
+  breaks_left seen name point course next left breaks = grind arith
 
   -- the node that ends breaks the rule
   pub EndsBroken-exit : (seen : List Event)
@@ -127,13 +105,8 @@ module _ (bytes : List ℕ) (names : List (List ℕ × List ℕ)) (broken : Rule
         path_shaped = (fine_path_shaped holds (level ∷ left.path) left.path_fine).1;
         nodes_shaped =
             fine_shaped holds level.before _ _ left.path_fine.0;
-        shaped = subst (λ b. AreShaped node (role_in left.path) b) before_here
-            (subst (λ r. AreShaped node r left.here.before) role_here shaped_here);
-        breaks = subst (λ b. broken_rule bytes names (reading_of (standing_of level.name))
-            (role_in left.path) b level.start point (target_of left.nodes Missing)
-            ≡ Some broken) before_here (subst (λ r. broken_rule bytes names
-            (reading_of (standing_of level.name)) r left.here.before level.start point
-            (target_of left.nodes Missing) ≡ Some broken) role_here breaks_here);
+        shaped = rw (← role_here, ← before_here) shaped_here;
+        breaks = rw (← role_here, ← before_here) breaks_here;
       }
 
 -- ---- the end
@@ -146,15 +119,13 @@ begins holds events course reached =
     record {
       events_are = reached.events_are;
       path_shaped = fine_path_shaped holds reached.path reached.path_fine;
-      nodes_shaped = subst (λ b. AreShaped reached.nodes (role_in reached.path) b) outer.1
-          (subst (λ r. AreShaped reached.nodes r reached.base.before) outer.0 (fine_shaped holds
-          reached.nodes reached.base.role reached.base.before reached.nodes_fine));
+      nodes_shaped = rw (← outer.0, ← outer.1) (fine_shaped holds reached.nodes _ _
+          reached.nodes_fine);
     }
 
 path_some : (path : List Level) (open_node : Open) (others : List Open) (state : State)
     (target : Referral) → Stands path (open_node ∷ others) state target → path ≢ []
-path_some [] open_node others state target stands = absurd stands
-path_some (level ∷ path) open_node others state target stands = λ e. cc
+path_some path open_node others state target stands = grind arith
 
 flow_optional : (k : ℕ) → list_all is_optional (drop k (pattern_of Flow)) ≡ true
 flow_optional zero = refl
@@ -163,13 +134,7 @@ flow_optional (suc (suc k)) = refl
 
 not_whole : (state : State) → state.role ≡ Flow → is_complete state ≡ false → (whole : Bool) →
     is_whole state.stage ≡ whole → whole ≡ false
-not_whole state flow incomplete true e =
-    let out : list_all is_optional (items_of state) ≡ true =
-    subst (λ r. list_all is_optional (drop state.position (pattern_of r))
-    ≡ true) (sym flow) (flow_optional state.position) in
-    let complete = and_both _ _ e out in
-    let clash : true ≡ false = sym complete ∙ incomplete in clash
-not_whole state flow incomplete false e = refl
+not_whole state flow incomplete whole e = grind (arith, flow_optional, and_both)
 
 -- something is open: a node, or a group on the document's own spine
 abbrev IsLeftOpen : List Event → Type 0
@@ -180,7 +145,7 @@ leaves_group : (holds : Reads) (events : List Event) (course : Course) →
     (reached : Reached holds events course) → (reached.path ≡ []) → reached.base ≡ start_of Flow →
     is_complete course.state ≡ false → IsLeftOpen events
 leaves_group holds events course reached none base incomplete =
-    let feeds = subst (λ s. Feeds s (spine reached.nodes) course.state) base reached.feeds in
+    let feeds = rw base at reached.feeds in
     let flow = (Feeds-context _ course.state _ feeds).0 in
     let open_group = not_whole course.state flow incomplete _ refl in (
       reached.path,
@@ -193,15 +158,15 @@ leave_open : (holds : Reads) (events : List Event) (course : Course) (opens : Li
     course.open_nodes ≡ opens → (reached : Reached holds events course) →
     (course.open_nodes ≡ [] → is_complete course.state ≡ false) → IsLeftOpen events
 leave_open holds events course [] e reached undone =
-    let none = path_none reached.path reached.base reached.found
-    (subst (λ os. Stands reached.path os reached.base reached.found) e reached.stands) in
+    let none = path_none reached.path course.open_nodes reached.base reached.found e
+    reached.stands in
     leaves_group holds events course reached none.0 none.1 (undone e)
 leave_open holds events course (open_node ∷ others) e reached undone = (
   reached.path,
   reached.nodes,
   begins holds events course reached,
   inl (path_some reached.path open_node others reached.base reached.found
-      (subst (λ os. Stands reached.path os reached.base reached.found) e reached.stands)),
+      (rw e at reached.stands)),
 )
 
 pub LeaveOpen-undone : (holds : Reads) (events : List Event) (course : Course) →

@@ -1,4 +1,5 @@
 -- A spine that has been read so far may end after some symbols, and is then read to its end.
+use Rattle.std.proofs.Common.{arith}
 use Rattle.std.proofs.Common.{◌≡◌, Bool, true, false, Option, Some, None, List, [], ◌∷◌, refl}
 use Rattle.md_tree.proofs.Common.{Symbol, Role, State, Matches, advance, is_complete, start_of}
 use Rattle.md_tree.proofs.Spots.{Feeds}
@@ -18,10 +19,7 @@ fed_on : (state : State) (one : Symbol) (symbols : List Symbol) (o : Option Stat
     advance state one ≡ o → ((next : State) → ends_after next symbols ≡ true → IsFed next symbols) →
     (elim o [ None ↦ false | Some next ↦ ends_after next symbols ]) ≡ true →
     IsFed state (one ∷ symbols)
-fed_on state one symbols None is rest e = cc
-fed_on state one symbols (Some next) is rest e =
-    let whole = rest next e in
-    (whole.0, (next, is, whole.1), whole.2)
+fed_on state one symbols o is rest e = grind arith
 
 pub fed : (state : State) (symbols : List Symbol) →
     ends_after state symbols ≡ true → IsFed state symbols
@@ -31,6 +29,4 @@ fed state (one ∷ symbols) e =
 
 pub matches_after : (inner : Role) (symbols : List Symbol) →
     ends_after (start_of inner) symbols ≡ true → Matches inner symbols
-matches_after inner symbols e =
-    let whole = fed _ symbols e in
-    matches_feeds inner symbols whole.0 whole.1 whole.2
+matches_after inner symbols e = grind (arith, fed, matches_feeds)

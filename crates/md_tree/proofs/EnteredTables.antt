@@ -1,5 +1,5 @@
 -- The tables of a document of the grammar have a table's shape.
-use Rattle.std.proofs.Common.{◌≡◌, ℕ, Option, Some, None, sym, ap, ◌∙◌, subst}
+use Rattle.std.proofs.Common.{arith, ◌≡◌, ℕ, Option, Some, None, sym, ap, ◌∙◌, subst}
 use Rattle.md_tree.proofs.Common.{slice_get, All, Event, Name, GfmTable, Symbol, Role, Forest}
 use Rattle.md_tree.proofs.Common.{standing_of, EachNode, IsShapedNode, IsStanding, AreShaped}
 use Rattle.md_tree.proofs.Common.{inner_role, inner_before, Handed, IsChecked, IsReadAs}
@@ -18,15 +18,7 @@ entry_shape : (name : Name) (children : Forest) (around : Role) (before : Option
     IsStanding (standing_of name) around before children → EachNode IsShapedNode children
     (inner_role (standing_of name) around before) (inner_before (standing_of name) before) →
     name ≡ GfmTable → (other : Forest) → Some children ≡ Some other → IsTable other
-entry_shape name children around before stands shaped is other e =
-    let one : children ≡ other = cc in
-    let table : IsTable children = (
-      subst (λ n. EachNode IsShapedNode children
-          (inner_role (standing_of n) around before) (inner_before (standing_of n) before)) is
-          shaped,
-      subst (λ n. IsStanding (standing_of n) around before children) is stands,
-    ) in
-    subst IsTable one table
+entry_shape name children around before stands shaped is other e = grind arith
 
 rows_shaped : (forest : Forest) (index tables : ℕ) (around : Role) (before : Option Symbol) →
     AreShaped forest around before → All IsTableRow (rows_of index tables forest)

@@ -35,19 +35,13 @@ get_at (x ∷ xs) ys y n e =
 table_there : (name : Name) (before later : List (List AlignKind)) (own : List AlignKind) (n : ℕ) →
     length before ≡ n → is_table name ≡ true →
     slice_get (before ++ (cond (is_table name) (own ∷ []) [] ++ later)) n ≡ Some own
-table_there name before later own n e is =
-    ap (λ b. slice_get (before ++ (cond b (own ∷ []) [] ++ later)) n) is
-    ∙ get_at before later own n e
+table_there name before later own n e is = grind (arith, get_at)
 
 entry_found : (ended : List (List AlignKind)) (index tables : ℕ) (name : Name) (start : Point)
     (children : Forest) → (is_table name ≡ true →
     slice_get ended (tables_after tables children) ≡ Some (alignments children)) →
     IsFound ended (entry_row index tables name (entering name start) children)
-entry_found ended index tables name start children there other e =
-    let one : children ≡ other = cc in
-    subst (λ nodes. (t : ℕ) × (fact_at index tables name children ≡ fact_at index t name nodes)
-    × (is_table name ≡ true → slice_get ended (tables_after t nodes) ≡ Some (alignments nodes)))
-    one (tables, refl, there)
+entry_found ended index tables name start children there other e = grind arith
 
 rows_found : (ended before later : List (List AlignKind)) (forest : Forest) (index tables : ℕ) →
     length before ≡ tables → ended ≡ before ++ (tables_of forest ++ later) →

@@ -1,6 +1,6 @@
 -- In a settled pattern, the first item that takes a symbol is the right one.
-use Rattle.std.proofs.Common.{◌≡◌, ℕ, Bool, true, false, not, ◌||◌, cond, Some, None, List, [], ◌∷◌}
-use Rattle.std.proofs.Common.{◌++◌, length, refl, sym, subst, arith}
+use Rattle.std.proofs.Common.{◌≡◌, ℕ, Bool, true, false, not, ◌||◌, Some, List, [], ◌∷◌, ◌++◌}
+use Rattle.std.proofs.Common.{length, refl, sym, arith}
 use Rattle.md_tree.proofs.Common.{list_all, Symbol, Item, Once, Maybe, Many, class_of, takes, Fits}
 use Rattle.md_tree.proofs.Common.{IsCount, is_optional}
 use Rattle.md_tree.proofs.SettledPatterns.{is_many, and_left, and_right, only_many, settled}
@@ -9,9 +9,7 @@ use Rattle.md_tree.proofs.TakenFits.{kept, left_after}
 
 many_taken : (item : Item) (taken : Bool) → taken ≡ true →
     (is_many item || not taken) ≡ true → (n : ℕ) → IsCount item n
-many_taken (Many class) taken t e n = tt
-many_taken _ taken t e n =
-    absurd (subst (λ b. (false || not b) ≡ true → ⊥) (sym t) (λ f. cc) e)
+many_taken item taken t e n = grind arith
 
 -- where each item that takes it may be there any number of times, a first symbol may go
 one_less_own :
@@ -21,19 +19,11 @@ one_less_own :
     list_all (takes (class_of item)) own ≡ true → IsCount item (length own) → Fits items others →
     Fits (item ∷ items) symbols
 one_less_own item items symbol symbols [] others many again e all count fit =
-    ([], symbols, refl, refl, count, again (subst (λ s. Fits items s) (sym e) fit))
+    ([], symbols, refl, refl, count, again (rw e fit))
 one_less_own item items symbol symbols (first ∷ own) others many again e all count fit =
     let same : first ≡ symbol = cc in
-    let rest : symbols ≡ own ++ others = cc in
-    let taken : takes (class_of item) symbol ≡ true = subst (λ s. takes (class_of item) s
-    ≡ true) same (and_left _ _ all) in (
-      own,
-      others,
-      rest,
-      and_right _ _ all,
-      many_taken item _ taken many _,
-      fit,
-    )
+    let taken : takes (class_of item) symbol ≡ true = rw (← same) (and_left _ _ all) in
+    (own, others, (cc), and_right _ _ all, many_taken item _ taken many _, fit)
 
 one_less : (items : List Item) (symbol : Symbol) (symbols : List Symbol) →
     only_many symbol items ≡ true → Fits items (symbol ∷ symbols) → Fits items symbols
@@ -52,36 +42,21 @@ fits_here : (item : Item) (items : List Item) (symbol : Symbol) (symbols own oth
     takes (class_of item) symbol ≡ true → settled (item ∷ items) ≡ true →
     symbol ∷ symbols ≡ own ++ others → list_all (takes (class_of item)) own ≡ true →
     IsCount item (length own) → Fits items others → Fits (kept item items) symbols
-fits_here (Many class) items symbol symbols [] others taken ok e all count fit = (
-  [],
-  symbols,
-  refl,
-  refl,
-  tt,
-  one_less items symbol symbols (only_many_after (Many class) items symbol taken (and_left _ _ ok))
-      (subst (λ s. Fits items s) (sym e) fit),
-)
+fits_here (Many class) items symbol symbols [] others taken ok e all count fit =
+    grind (arith, one_less, only_many_after, and_left)
 fits_here (Many class) items symbol symbols (first ∷ own) others taken ok e all count fit =
-    let rest : symbols ≡ own ++ others = cc in
-    (own, others, rest, and_right _ _ all, tt, fit)
+    (own, others, (cc), and_right _ _ all, tt, fit)
 fits_here (Maybe class) items symbol symbols [] others taken ok e all count fit =
-    one_less items symbol symbols (only_many_after (Maybe class) items symbol taken
-    (and_left _ _ ok)) (subst (λ s. Fits items s) (sym e) fit)
-fits_here (Maybe class) items symbol symbols (first ∷ own) others taken ok e all count fit =
-    let rest : symbols ≡ own ++ others = cc in
-    subst (λ s. Fits items s) (no_more own others symbols (omega arith) rest) fit
+    grind (arith, one_less, only_many_after, and_left)
 fits_here (Once class) items symbol symbols [] others taken ok e all count fit =
     absurd (omega arith)
-fits_here (Once class) items symbol symbols (first ∷ own) others taken ok e all count fit =
-    let rest : symbols ≡ own ++ others = cc in
-    subst (λ s. Fits items s) (no_more own others symbols (omega arith) rest) fit
+fits_here item items symbol symbols (first ∷ own) others taken ok e all count fit =
+    rw (no_more own others symbols (omega arith) (cc)) at fit
 
 settled_kept : (item : Item) (items : List Item) → settled (item ∷ items) ≡ true →
     settled (kept item items) ≡ true
-settled_kept (Many class) items ok = ok
-settled_kept (Maybe class) items ok =
-    and_right _ _ ok
-settled_kept (Once class) items ok = ok
+settled_kept (Maybe class) items ok = and_right _ _ ok
+settled_kept _ items ok = ok
 
 -- the rest of the pattern takes the rest of the symbols
 pub record GoesOn (items : List Item) (symbol : Symbol) (symbols : List Symbol) : Type 0 where
@@ -94,14 +69,7 @@ skips : (item : Item) (items : List Item) (symbol : Symbol) (symbols : List Symb
     takes (class_of item) symbol ≡ false → IsCount item 0 → GoesOn items symbol symbols →
     GoesOn (item ∷ items) symbol symbols
 skips (Once class) items symbol symbols t count on = absurd (omega arith)
-skips item items symbol symbols t count on =
-    record {
-      left = on.left;
-      is_left = subst (λ b. cond b (Some (kept item items)) (left_after items symbol)
-          ≡ Some on.left) (sym t) on.is_left;
-      fits = on.fits;
-      ok = on.ok;
-    }
+skips item items symbol symbols t count on = grind arith
 
 fits_past : (item : Item) (items : List Item) (symbol : Symbol) (symbols own others : List Symbol) →
     takes (class_of item) symbol ≡ false → symbol ∷ symbols ≡ own ++ others →
@@ -109,12 +77,10 @@ fits_past : (item : Item) (items : List Item) (symbol : Symbol) (symbols own oth
     (Fits items (symbol ∷ symbols) → GoesOn items symbol symbols) →
     GoesOn (item ∷ items) symbol symbols
 fits_past item items symbol symbols [] others t e all count fit again =
-    skips item items symbol symbols t count (again (subst (λ s. Fits items s) (sym e) fit))
+    skips item items symbol symbols t count (again (rw e fit))
 fits_past item items symbol symbols (first ∷ own) others t e all count fit again =
     let same : first ≡ symbol = cc in
-    let taken : takes (class_of item) symbol ≡ true = subst (λ s. takes (class_of item) s
-    ≡ true) same (and_left _ _ all) in
-    let clash : true ≡ false = cc in cc
+    let taken : takes (class_of item) symbol ≡ true = rw (← same) (and_left _ _ all) in cc
 
 fits_on_taken : (item : Item) (items : List Item) (symbol : Symbol) (symbols : List Symbol) →
     settled (item ∷ items) ≡ true → Fits (item ∷ items) (symbol ∷ symbols) →
@@ -123,9 +89,7 @@ fits_on_taken : (item : Item) (items : List Item) (symbol : Symbol) (symbols : L
 fits_on_taken item items symbol symbols ok fit again true t =
     record {
       left = kept item items;
-      is_left = subst (λ b. cond b (Some (kept item items))
-          (cond (is_optional item) (left_after items symbol) None) ≡ Some (kept item items)) (sym t)
-          refl;
+      is_left = rw t;
       fits = fits_here item items symbol symbols fit.0 fit.1 t ok fit.2 fit.3 fit.4 fit.5;
       ok = settled_kept item items ok;
     }
@@ -143,11 +107,10 @@ all_out : (item : Item) (items : List Item) (own others : List Symbol) → [] �
     IsCount item (length own) → Fits items others →
     (Fits items [] → list_all is_optional items ≡ true) → list_all is_optional (item ∷ items) ≡ true
 all_out item items [] others e count fit again =
-    and_both _ _ (optional item count) (again (subst (λ s. Fits items s) (sym e) fit))
+    and_both _ _ (optional item count) (again (rw e fit))
   where
     optional : (item : Item) → IsCount item 0 → is_optional item ≡ true
     optional (Once class) c = absurd (omega arith)
-    optional (Maybe class) c = refl
     optional _ c = refl
 all_out item items (x ∷ own) others e count fit again = cc
 

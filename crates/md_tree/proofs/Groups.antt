@@ -1,17 +1,17 @@
 -- Reading a spine symbol by symbol matches it against its pattern.
-use Rattle.std.proofs.Common.{MatchOption, ◌≡◌, ◌⊎◌, inl, inr, suc, true, Some, List, [], ◌∷◌, ◌++◌}
-use Rattle.std.proofs.Common.{refl, sym, ap, ◌∙◌, subst}
+use Rattle.std.proofs.Common.{arith, MatchOption, ◌≡◌, ◌⊎◌, inl, inr, suc, true, Some, List, []}
+use Rattle.std.proofs.Common.{◌∷◌, ◌++◌, refl, ap, sym, ◌∙◌, subst}
 use Rattle.md_tree.proofs.Common.{list_all, option_map, Symbol, Role, Item, Stage, Whole, Marker}
 use Rattle.md_tree.proofs.Common.{Numeric, Hexadecimal, Setext, State, pattern_of, Fits, IsTail}
-use Rattle.md_tree.proofs.Common.{IsGrouped, Matches, begun_by, next_stage, is_optional, items_of}
-use Rattle.md_tree.proofs.Common.{is_whole, is_complete, start_of}
+use Rattle.md_tree.proofs.Common.{IsGrouped, Matches, begun_by, next_stage, is_optional, is_whole}
+use Rattle.md_tree.proofs.Common.{is_complete, start_of}
 use Rattle.md_pattern.specs.declared.kinds.Symbol.TheVariants as symbol_variants
 use symbol_variants.{ReferenceMarker, ReferenceNumeric, ReferenceHexadecimal, ReferenceValue}
 use symbol_variants.{SetextText, SetextUnderline, LineEnding}
 use Rattle.md_tree.proofs.SettledPatterns.{and_left, and_right, and_both, pattern_settled}
 use Rattle.md_tree.proofs.TakenFits.{left_after, fits_nothing, fits_back}
-use Rattle.md_tree.proofs.Spots.{At, spot_after, option_map-some, at_items, Goes, Feeds}
-use Rattle.md_tree.proofs.Spots.{Feeds-from_goes, goes_whole, Goes-from_feeds}
+use Rattle.md_tree.proofs.Spots.{At, spot_after, at_items, Goes, Feeds, Feeds-from_goes, goes_whole}
+use Rattle.md_tree.proofs.Spots.{Goes-from_feeds}
 
 -- what may follow at a stage
 abbrev pub IsTailFrom : Stage → List Symbol → Type 0
@@ -25,13 +25,11 @@ IsTailFrom Setext tail = IsTail SetextText tail
 IsTail-from : (first : Symbol) (tail : List Symbol) →
     IsTailFrom (begun_by first) tail → IsTail first tail
 IsTail-from ReferenceMarker tail t = t
-IsTail-from SetextText tail t = t
 IsTail-from _ tail t = t
 
 after_numeric : (tail : List Symbol) → IsTailFrom Numeric tail →
     IsTail ReferenceMarker (ReferenceNumeric ∷ tail)
-after_numeric tail (inl e) = inr (inl (ap (λ t. ReferenceNumeric ∷ t) e))
-after_numeric tail (inr e) = inr (inr (ap (λ t. ReferenceNumeric ∷ t) e))
+after_numeric tail e = grind arith
 
 IsTailFrom-cons : (stage : Stage) (symbol : Symbol) (tail : List Symbol) →
     MatchOption (next_stage stage symbol) ⊥ (λ next. IsTailFrom next tail) →
@@ -49,19 +47,12 @@ IsTailFrom-cons _ _ tail t = absurd t
 pub spot_whole : (items left : List Item) (next : Stage) (symbol : Symbol) →
     spot_after items Whole symbol ≡ Some (At left next) →
     (left_after items symbol ≡ Some left) × (begun_by symbol ≡ next)
-spot_whole items left next symbol e =
-    let m =
-    option_map-some (λ is. At is (begun_by symbol)) _ _ e in
-    let same = at_items m.0 left _ next m.2 in
-    (m.1 ∙ ap Some same.0, same.1)
+spot_whole items left next symbol e = grind arith
 
 pub spot_inside : (items left : List Item) (stage next : Stage) (symbol : Symbol) →
     option_map (λ st. At items st) (next_stage stage symbol) ≡ Some (At left next) →
     (items ≡ left) × (next_stage stage symbol ≡ Some next)
-spot_inside items left stage next symbol e =
-    let m = option_map-some (λ st. At items st) _ _ e in
-    let same = at_items items left m.0 next m.2 in
-    (same.0, m.1 ∙ ap Some same.1)
+spot_inside items left stage next symbol e = grind arith
 
 -- what has been read, from a stage on: the rest of a group, and groups that fit
 pub record ReadsOn (items : List Item) (stage : Stage) (symbols : List Symbol) : Type 0 where
@@ -88,7 +79,7 @@ on_whole items left next symbol symbols e on =
         on.tail,
         on.others,
         ap (λ s. symbol ∷ s) on.parts,
-        IsTail-from symbol on.tail (subst (λ st. IsTailFrom st on.tail) (sym w.1) on.tail_ok),
+        IsTail-from symbol on.tail (rw w.1 on.tail_ok),
         on.grouped,
       );
       fits = fits_back items left symbol on.firsts w.0 on.fits;
@@ -105,18 +96,15 @@ on_inside items left stage next symbol symbols e on =
       others = on.others;
       firsts = on.firsts;
       parts = ap (λ s. symbol ∷ s) on.parts;
-      tail_ok = IsTailFrom-cons stage symbol on.tail (subst
-          (λ o. MatchOption o ⊥ (λ n. IsTailFrom n on.tail)) (sym w.1) on.tail_ok);
+      tail_ok = IsTailFrom-cons stage symbol on.tail (rw w.1 on.tail_ok);
       grouped = on.grouped;
-      fits = subst (λ is. Fits is on.firsts) (sym w.0) on.fits;
+      fits = rw w.0 on.fits;
     }
 
 on_any : (stage : Stage) (items left : List Item) (next : Stage) (symbol : Symbol)
     (symbols : List Symbol) → spot_after items stage symbol ≡ Some (At left next) →
     ReadsOn left next symbols → ReadsOn items stage (symbol ∷ symbols)
-on_any Whole items left next symbol symbols e on = on_whole items left next symbol symbols e on
-on_any stage items left next symbol symbols e on =
-    on_inside items left stage next symbol symbols e on
+on_any stage items left next symbol symbols e on = grind (arith, on_whole, on_inside)
 
 goes_back : (items left : List Item) (stage : Stage) (symbols : List Symbol) →
     Goes items stage symbols (At left Whole) → list_all is_optional left ≡ true →
@@ -128,16 +116,15 @@ goes_back items left stage [] g out =
       others = [];
       firsts = [];
       parts = refl;
-      tail_ok = subst (λ st. IsTailFrom st []) (sym same.1) refl;
+      tail_ok = rw same.1;
       grouped = refl;
-      fits = fits_nothing items (subst (λ is. list_all is_optional is ≡ true) (sym same.0) out);
+      fits = fits_nothing items (rw same.0 out);
     }
 goes_back items left stage (symbol ∷ symbols) g out =
     on_any stage items g.0 g.1 symbol symbols g.2 (goes_back g.0 left g.1 symbols g.3 out)
 
 pub whole_stage : (stage : Stage) → is_whole stage ≡ true → stage ≡ Whole
-whole_stage Whole e = refl
-whole_stage _ e = cc
+whole_stage stage e = grind arith
 
 -- a spine that matches is read to an end
 pub Feeds-matches : (role : Role) (spine : List Symbol) → Matches role spine →
@@ -150,8 +137,7 @@ Feeds-matches role spine matches =
     let same = at_items _ whole.0 end.stage Whole feeds.2 in (
       end,
       feeds.1,
-      and_both _ _ (ap is_whole same.1)
-          (subst (λ is. list_all is_optional is ≡ true) (sym same.0) whole.2),
+      and_both _ _ (ap is_whole same.1) (rw same.0 whole.2),
     )
 
 -- a spine that is read to an end matches
@@ -160,8 +146,7 @@ pub matches_feeds : (role : Role) (spine : List Symbol) (end : State) →
 matches_feeds role spine end feeds complete =
     let whole = whole_stage end.stage (and_left _ _ complete) in
     let out = and_right _ _ complete in
-    let goes = subst (λ st. Goes (pattern_of role) Whole spine (At (items_of end) st)) whole
-    (Goes-from_feeds _ spine end feeds) in
+    let goes = rw whole at (Goes-from_feeds (start_of role) spine end feeds) in
     let on = goes_back _ _ Whole spine goes out in (
       on.firsts,
       subst (λ s. IsGrouped on.firsts s)

@@ -1,6 +1,6 @@
 -- Where a group is open, the spine that has been read ends in it.
-use Rattle.std.proofs.Common.{MatchOption, ◌≡◌, inl, inr, ℕ, zero, suc, false, Some, List, [], ◌∷◌}
-use Rattle.std.proofs.Common.{◌++◌, replicate, refl, ap, ◌∙◌, subst, append_assoc, append-nil}
+use Rattle.std.proofs.Common.{arith, MatchOption, ◌≡◌, ℕ, zero, suc, false, Some, List, [], ◌∷◌}
+use Rattle.std.proofs.Common.{◌++◌, replicate, refl, ap, ◌∙◌, append_assoc, append-nil}
 use Rattle.md_tree.proofs.Common.{option_map, Symbol, Role, Item, Stage, Whole, Marker, Numeric}
 use Rattle.md_tree.proofs.Common.{Hexadecimal, Setext, State, pattern_of, EndsInGroup, begun_by}
 use Rattle.md_tree.proofs.Common.{next_stage, items_of, is_whole, start_of}
@@ -20,9 +20,7 @@ IsHeld Hexadecimal group = group ≡ ReferenceMarker ∷ ReferenceNumeric ∷ Re
 IsHeld Setext group = (n : ℕ) × (group ≡ SetextText ∷ replicate n LineEnding)
 
 held_first : (symbol : Symbol) → IsHeld (begun_by symbol) (symbol ∷ [])
-held_first ReferenceMarker = refl
-held_first SetextText = (0, refl)
-held_first _ = tt
+held_first symbol = grind arith
 
 one_ending_more : (n : ℕ) → replicate n LineEnding ++ LineEnding ∷ [] ≡ replicate (suc n) LineEnding
 one_ending_more zero = refl
@@ -53,8 +51,7 @@ held_step_whole items left next symbol read e =
       before = read;
       group = symbol ∷ [];
       parts = refl;
-      held = subst (λ st. IsHeld st (symbol ∷ [])) (spot_whole items left next symbol e).1
-          (held_first symbol);
+      held = rw (spot_whole items left next symbol e).1 at (held_first symbol);
     }
 
 held_step_inside :
@@ -67,8 +64,7 @@ held_step_inside items left stage next symbol read e ends =
       group = ends.group ++ symbol ∷ [];
       parts =
           ap (λ s. s ++ symbol ∷ []) ends.parts ∙ append_assoc ends.before ends.group _;
-      held = subst (λ o. MatchOption o (Unit {0}) (λ n. IsHeld n (ends.group ++ symbol ∷ [])))
-          (spot_inside items left stage next symbol e).1
+      held = rw (spot_inside items left stage next symbol e).1 at
           (held_on stage symbol ends.group ends.held);
     }
 
@@ -86,19 +82,15 @@ held_all items left stage last [] read g ends =
       before = ends.before;
       group = ends.group;
       parts = append-nil read ∙ ends.parts;
-      held = subst (λ st. IsHeld st ends.group) (at_items items left stage last g).1 ends.held;
+      held = rw (at_items items left stage last g).1 at ends.held;
     }
 held_all items left stage last (symbol ∷ symbols) read g ends =
-    subst (λ s. EndsHeld last s) (append_assoc read (symbol ∷ []) symbols)
+    rw (append_assoc read (symbol ∷ []) symbols) at
     (held_all g.0 left g.1 last symbols _ g.3 (held_step stage items g.0 g.1 symbol read g.2 ends))
 
 begun_held : (stage : Stage) (group : List Symbol) → is_whole stage ≡ false →
     IsHeld stage group → IsBegunGroup group
-begun_held Whole group e h = cc
-begun_held Marker group e h = inl h
-begun_held Numeric group e h = inr (inl h)
-begun_held Hexadecimal group e h = inr (inr (inl h))
-begun_held Setext group e h = inr (inr (inr h))
+begun_held stage group e h = grind arith
 
 -- where a group is open, the spine ends in it
 pub EndsInGroup-feeds : (role : Role) (spine : List Symbol) (end : State) →

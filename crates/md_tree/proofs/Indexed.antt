@@ -6,15 +6,13 @@ use Rattle.std.specs.Prelude.{IsSome, option_copied}
 use Rattle.std.specs.Borrow.{Bor}
 use Rattle.md_tree.proofs.Common.{map, option_map, slice_get, All, slice_get-map, slice_get-get_or}
 use Rattle.md_tree.proofs.Common.{Point, Position, Name, Exit, Event, text_between, label_between}
-use Rattle.md_tree.proofs.Common.{Symbol, Role, Flow, Reading, Standing, Solid}
-use Rattle.md_tree.proofs.Common.{Referral, Missing, Rule, Forest, flatten, entering, exiting}
-use Rattle.md_tree.proofs.Common.{standing_of, spine, shown, inner_role, inner_before, last_symbol}
-use Rattle.md_tree.proofs.Common.{place, broken_by, broken_rule, reading_of, MeetRules, target_of}
-use Rattle.md_tree.proofs.Common.{Handed, IsGrammatical, IsReadAs, IsChecked, partner_alone}
-use Rattle.md_tree.proofs.Common.{facts_at, position_from, partner_event, position_ended, ExitsAt}
-use Rattle.md_tree.proofs.Common.{positions_of, has_reading, is_text, is_identifier, length_one}
-use Rattle.md_tree.proofs.Common.{facts-flatten}
-use Rattle.md_pattern.specs.declared.kinds.Reading.TheVariants as reading
+use Rattle.md_tree.proofs.Common.{Symbol, Role, Flow, Reading, Standing, Referral, Missing, Forest}
+use Rattle.md_tree.proofs.Common.{flatten, entering, exiting, standing_of, spine, shown, inner_role}
+use Rattle.md_tree.proofs.Common.{inner_before, last_symbol, place, broken_rule, reading_of}
+use Rattle.md_tree.proofs.Common.{MeetRules, target_of, Handed, IsGrammatical, IsReadAs, IsChecked}
+use Rattle.md_tree.proofs.Common.{partner_alone, facts_at, position_from, partner_event}
+use Rattle.md_tree.proofs.Common.{position_ended, ExitsAt, positions_of, has_reading, is_text}
+use Rattle.md_tree.proofs.Common.{is_identifier, length_one, facts-flatten}
 use Rattle.md_tree.proofs.EventRows.{rows_all, Steps, Row, rows_of, event_rows, fact_rows}
 use Rattle.md_tree.proofs.EventRows.{position_rows}
 use Rattle.md_tree.proofs.Entering.{get_at, got_inside, got_mapped, mapped_long}
@@ -100,43 +98,13 @@ rows_ended bytes names is text have events forest lies =
         )
 
 -- ---- names with a text
-text_where : (o : Option (List ℕ)) (judged : List ℕ → Option Rule) → broken_by o judged ≡ None →
-    (found : List ℕ) × (o ≡ Some found)
-text_where None judged e = cc
-text_where (Some found) judged e = (found, refl)
-
-module _ (bytes : List ℕ) (names : List (List ℕ × List ℕ)) where
-  text_read : (reads : Reading) (around : Role) (before : Option Symbol) (start end : Point)
-      (target : Referral) → broken_rule bytes names reads around before start end target ≡ None →
-      is_text reads ≡ true → (found : List ℕ) × (text_between bytes start end ≡ Some found)
-  text_read reading.Text around before start end target e is =
-      text_where _ _ e
-  text_read reading.LineEnding around before start end target e is =
-      text_where _ _ e
-  text_read reading.Number around before start end target e is =
-      text_where _ _ e
-  text_read reading.Value around before start end target e is =
-      text_where _ _ e
-  text_read _ around before start end target e is = cc
-
-  label_read : (reads : Reading) (around : Role) (before : Option Symbol) (start end : Point)
-      (target : Referral) → broken_rule bytes names reads around before start end target ≡ None →
-      is_identifier reads ≡ true → (found : List ℕ) × (label_between bytes start end ≡ Some found)
-  label_read reading.Identifier around before start end target e is =
-      text_where _ _ e
-  label_read _ around before start end target e is = cc
-
 pub text_names : (bytes : List ℕ) (names : List (List ℕ × List ℕ)) →
     HaveText bytes names is_text (text_between bytes)
-text_names bytes names (Solid symbol usual reading) around before start end target e is =
-    text_read bytes names reading around before start end target e is
-text_names bytes names _ around before start end target e is = cc
+text_names bytes names standing around before start end target e is = grind arith
 
 pub identifier_names : (bytes : List ℕ) (names : List (List ℕ × List ℕ)) →
     HaveText bytes names is_identifier (label_between bytes)
-identifier_names bytes names (Solid symbol usual reading) around before start end target e is =
-    label_read bytes names reading around before start end target e is
-identifier_names bytes names _ around before start end target e is = cc
+identifier_names bytes names standing around before start end target e is = grind arith
 
 -- ---- at an index
 
@@ -226,28 +194,8 @@ pub record ReadAt (text : Point → Point → Option (List ℕ)) (given : Handed
       slice_get (positions_of forest) index ≡ Some (Some other) →
       text other.start other.end ≡ Some result.now
 
-place_some : (o : Option Position) (x : Position) → o ≡ Some x → IsSome o
-place_some None x e = cc
-place_some (Some o) x e = refl
-
-copied_some : (r : Option (Bor (List ℕ))) (x : List ℕ) → option_copied r ≡ Some x → IsSome r
-copied_some None x e = cc
-copied_some (Some r) x e = refl
-
 pub ReadAt-ended : (text : Point → Point → Option (List ℕ)) (given : Handed) (index : ℕ)
     (place : Option Position) → EndedAt text given index →
     place ≡ position_ended given.events (facts_at given.events) index →
     ReadAt text given index place
-ReadAt-ended text given index place ended is =
-    let found : (position : Position) → place ≡ Some position →
-    text position.start position.end ≡ Some ended.found = λ position some.
-    ap (λ (p : Position). text p.start p.end)
-    (one_position _ ended.position position ended.there (sym is ∙ some)) ∙ ended.is_found in
-    record {
-      there = place_some place ended.position (is ∙ ended.there);
-      text_there = λ position read some copied.
-          copied_some read ended.found (copied ∙ found position some);
-      text_is = λ position read result some copied given_it forest other flattened got.
-          ap (λ (p : Position). text p.start p.end) (ended.position_is forest other flattened got)
-          ∙ ended.is_found ∙ sym (found position some) ∙ sym copied ∙ ap option_copied given_it;
-    }
+ReadAt-ended text given index place ended is = grind arith

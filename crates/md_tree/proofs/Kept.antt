@@ -1,7 +1,7 @@
 -- What a `Checked` keeps is what the tree of its events says, at each index of an event. The calls
 -- of `Checked` only look something up: what they answer is right by this.
-use Rattle.std.proofs.Common.{◌≡◌, ℕ, ◌<◌, Bool, true, Option, Some, List, length, refl, sym, ap}
-use Rattle.std.proofs.Common.{◌∙◌, subst}
+use Rattle.std.proofs.Common.{arith, ◌≡◌, ℕ, ◌<◌, Bool, true, Option, Some, List, length, refl, sym}
+use Rattle.std.proofs.Common.{ap, ◌∙◌, subst}
 use Rattle.md_tree.proofs.Common.{map, slice_get, All, length-map, Point, Position, Name, GfmTable}
 use Rattle.md_tree.proofs.Common.{Inside, Fact, Reading, Forest, flatten, alignments, Handed}
 use Rattle.md_tree.proofs.Common.{IsReadAs, IsChecked, standing_of, EntersAt, ExitsAt, has_reading}
@@ -11,7 +11,6 @@ use Rattle.md_tree.proofs.Common.{mention_of, Event, Exit, Mention, Referral, re
 use Rattle.md_tree.proofs.Common.{number_for, with_number, facts_with, is_of_definitions}
 use Rattle.md_tree.proofs.Common.{definition_for, place_of}
 use Rattle.md_base.specs.declared.event.Name.TheVariants.{Definition}
-use Rattle.md_pattern.specs.Facts.{definitions_at}
 use Rattle.md_tree.specs.Found.{IsFactAt}
 use Rattle.md_tree.specs.Numbers.{AreNumbered, ExitsOf}
 use Rattle.md_tree.proofs.Numbers.{recorded-at, got-with, ended-with, length-with, kept-number}
@@ -49,14 +48,11 @@ module _ (inside : Inside) (given : Handed) (index : ℕ) (kept : IsKept inside)
   tables_are = kept.2 ∙ ap (λ (g : Handed). tables_at g.events) same
 
   pub definitions-kept : AreDefinitions given inside.definitions.items
-  definitions-kept forest flattens =
-      kept.3 ∙ ap (λ (g : Handed). definitions_at g.events) same
-      ∙ definitions-flatten forest given.events flattens
+  definitions-kept forest flattens = grind (arith, definitions-flatten)
 
   pub definitions-enter : All (λ i. EntersAt given.events i Definition) inside.definitions.items
   definitions-enter =
-      subst (λ ds. All (λ i. EntersAt given.events i Definition) ds)
-      (sym (definitions-kept kept.0.0 flattened))
+      rw (definitions-kept kept.0.0 flattened)
       (definitions-entered given.events kept.0.0 flattened)
 
   -- an exit, whose place is looked up
@@ -73,9 +69,8 @@ module _ (inside : Inside) (given : Handed) (index : ℕ) (kept : IsKept inside)
 
   pub facts-inside : EntersSome given.events index → index < length inside.facts
   facts-inside enters =
-      subst (λ xs. index < length xs) (sym facts_are)
-      (subst (λ n. index < n) (sym (length-with numbers _))
-      (facts_at-inside given index enters.0 enters.1 kept.0.0 flattened))
+      rw (facts_are, length-with)
+      (facts_at-inside given index enters.0 enters.1 kept.0.0 flattened)
 
   pub node-entered : EntersSome given.events index → EntersNode given index
   node-entered enters = EntersNode-entered given index enters.0 enters.1 kept.0.0 flattened
@@ -103,7 +98,7 @@ module _ (inside : Inside) (given : Handed) (index : ℕ) (kept : IsKept inside)
       slice_get inside.facts index ≡ Some fact → fact.read_at < length inside.tables.items
   columns-inside enters fact got =
       let node = node-entered (GfmTable, enters) in
-      subst (λ n. fact.read_at < n) (length-map inside.tables.items (λ t. t.items))
+      rw length-map at
       (got_inside (map (λ t. t.items) inside.tables.items) fact.read_at (alignments node.0)
       (columns-kept enters fact got node.0 node.1))
 

@@ -1,6 +1,6 @@
 -- The label by which a node of a document refers, or is referred to, is a text: else a rule is
 -- broken. So each identifier of a document is there.
-use Rattle.std.proofs.Common.{◌≡◌, ℕ, Option, Some, None, List, [], ◌∷◌, ◌++◌, refl, sym, ap, ◌∙◌}
+use Rattle.std.proofs.Common.{arith, ◌≡◌, ℕ, Option, Some, None, List, [], ◌∷◌, ◌++◌, refl, ap}
 use Rattle.md_tree.proofs.Common.{map, unwrap_or, option_map, All, All-cons, All-nil, All-append}
 use Rattle.md_tree.proofs.Common.{All-head, All-tail, Point, label_between, Symbol, Role, Reading}
 use Rattle.md_tree.proofs.Common.{Standing, Through, Space, Solid, Mdx, standing_of, Forest, Empty}
@@ -75,11 +75,7 @@ MentionsText bytes _ = Unit {0}
 
 mention_there : (bytes : List ℕ) (read : Reading) (target : Referral) → HasIdentifier bytes target →
     MentionsText bytes (mention_of read target)
-mention_there bytes reading.Media (Label label) has = has
-mention_there bytes reading.Call (Label label) has = has
-mention_there bytes reading.Definition (Label label) has = has
-mention_there bytes reading.FootnoteDefinition (Label label) has = has
-mention_there bytes _ _ has = tt
+mention_there bytes read target has = grind arith
 
 pub mentions-there : (bytes : List ℕ) (names : List (List ℕ × List ℕ)) (forest : Forest)
     (around : Role) (before : Option Symbol) → MeetRules bytes names forest around before →
@@ -102,9 +98,7 @@ Texts found = found ≡ map Some (map (λ identifier. unwrap_or identifier []) f
 
 more_known : (found : Option (List ℕ)) (text : List ℕ) (others : List (Option (List ℕ))) →
     found ≡ Some text → Texts others → Texts (found ∷ others)
-more_known found text others e is =
-    ap (λ f. f ∷ others) (e ∙ sym (ap (λ f. Some (unwrap_or f [])) e))
-    ∙ ap (λ xs. Some (unwrap_or found []) ∷ xs) is
+more_known found text others e is = grind arith
 
 pub defined-texts : (bytes : List ℕ) (mentions : List Mention) → All (MentionsText bytes) mentions →
     Texts (defined bytes mentions)

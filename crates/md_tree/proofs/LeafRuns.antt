@@ -1,13 +1,12 @@
 -- The two events of a node without children, read at once.
-use Rattle.std.proofs.Common.{length, ◌<◌, ◌≡◌, inl, inr, ◌+◌, ℕ, suc, Option, Some, None, take}
-use Rattle.std.proofs.Common.{get_or, refl, sym, ap, subst, ◌∙◌, add-one}
+use Rattle.std.proofs.Common.{arith, length, ◌<◌, ◌≡◌, inl, inr, ◌+◌, ℕ, suc, Option, Some, take}
+use Rattle.std.proofs.Common.{get_or, refl, sym, ap, ◌∙◌, add-one}
 use Rattle.md_tree.proofs.Common.{slice_get, slice_get_within, get_or_from_slice_get, Point, Name}
 use Rattle.md_tree.proofs.Common.{Event, Kind, Enter, Exit, CompileError, first_index, ending_after}
 use Rattle.md_tree.proofs.Common.{PassState, pass_beginning, passed, passed_over, first_index-more}
 use Rattle.md_tree.proofs.Common.{passed_more, Handed, IsRefusal, Course, Runs, StepsBy, Enters}
 use Rattle.md_tree.proofs.Common.{beginning, point_at, Unbroken, Passes, IsStop, IsStopAtLeaf}
 use Rattle.md_pattern.specs.Facts.{passed_entry, passed_exit}
-use Rattle.md_tree.specs.Walk.{point_of}
 use Rattle.md_tree.specs.Reader.{IsLeaf}
 use Rattle.md_tree.proofs.Checking.{Runs-more}
 use Rattle.md_tree.proofs.Stopped.{IsRefusal-stopped}
@@ -15,9 +14,7 @@ use Rattle.md_tree.proofs.Stopped.{IsRefusal-stopped}
 -- an event that enters is no line ending's exit
 ending-entry : (found : Option ℕ) (index : ℕ) (event : Event) → event.kind ≡ Enter →
     ending_after found index event ≡ found
-ending-entry (Some at) index event enters = refl
-ending-entry None index event enters =
-    subst (λ k. ending_after None index (record event { kind = k }) ≡ None) (sym enters) refl
+ending-entry found index event enters = grind arith
 
 module _ (given : Handed) (index : ℕ) (entry exit : Event) (leaf : IsLeaf entry exit)
     (here : slice_get given.events index ≡ Some entry)
@@ -39,20 +36,14 @@ module _ (given : Handed) (index : ℕ) (entry exit : Event) (leaf : IsLeaf entr
       P (Event.kind (get_or given.events index entry))
       (Event.name (get_or given.events index entry)) (Event.point (get_or given.events index entry))
   of_entry P p =
-      subst (λ e. P (Event.kind e) (Event.name e) (Event.point e)) (sym entry_is)
-      (subst (λ k. P k entry.name entry.point) (sym (IsLeaf.enters leaf))
-      (subst (λ o. P Enter entry.name (point_of o)) here p))
+      rw (entry_is, IsLeaf.enters leaf) (rw here at p)
 
   of_exit : (P : Kind → Name → Point → Type 0) →
       P Exit entry.name (point_at given.events (suc index)) →
       P (Event.kind (get_or given.events (suc index) exit))
       (Event.name (get_or given.events (suc index) exit))
       (Event.point (get_or given.events (suc index) exit))
-  of_exit P p =
-      subst (λ e. P (Event.kind e) (Event.name e) (Event.point e)) (sym exit_is)
-      (subst (λ k. P k exit.name exit.point) (sym (IsLeaf.exits leaf))
-      (subst (λ n. P Exit n exit.point) (IsLeaf.same leaf)
-      (subst (λ o. P Exit entry.name (point_of o)) after p)))
+  of_exit P p = grind (arith, exit_is)
 
   module _ (from : Course) (runs : Runs (Unbroken given.bytes given.names) (take index given.events)
       beginning from) where

@@ -1,7 +1,7 @@
 -- The least node of each symbol that must be there, or that ends a group, has the shape of the
 -- grammar.
-use Rattle.std.proofs.Common.{◌≡◌, ◌≢◌, Bool, true, false, Option, Some, None, List, [], ◌∷◌, ◌++◌}
-use Rattle.std.proofs.Common.{cond, subst, refl, ap, ◌∙◌}
+use Rattle.std.proofs.Common.{arith, ◌≡◌, ◌≢◌, Bool, true, false, Option, List, [], ◌∷◌, ◌++◌, cond}
+use Rattle.std.proofs.Common.{subst, refl, ap, ◌∙◌}
 use Rattle.md_tree.proofs.Common.{list_all, Point, Name, Symbol, Role, Forest, Empty, Node, spine}
 use Rattle.md_tree.proofs.Common.{IsShapedNode, AreShaped, start_of, may_hold, Matches}
 use Rattle.md_base.specs.declared.event.Name.TheVariants as name
@@ -60,17 +60,13 @@ Ends around symbols = (ends_after (start_of around) symbols ≡ true) × (may_ho
 
 item_ends : (around : Role) (before : Option Symbol) →
     Ends (item_in around before) (symbol.ListItemPrefix ∷ [])
-item_ends role.OrderedList None = (refl, refl)
-item_ends role.OrderedList (Some before) = (refl, refl)
-item_ends _ before = (refl, refl)
+item_ends around before = grind arith
 
 prefix_ends : (around : Role) → Ends (prefix_in around) (symbol.ListItemMarker ∷ [])
-prefix_ends role.FirstOrderedItem = (refl, refl)
-prefix_ends _ = (refl, refl)
+prefix_ends around = grind arith
 
 label_ends : (around : Role) → Ends (label_in around) (symbol.LabelText ∷ [])
-label_ends role.FootnoteCall = (refl, refl)
-label_ends _ = (refl, refl)
+label_ends around = grind arith
 
 -- a spine without symbols may end
 bare : (around : Role) → ends_after (start_of around) [] ≡ true → Matches around []
@@ -78,42 +74,24 @@ bare around e = matches_after around [] e
 
 code_fence_ends : (before : Option Symbol) →
     ends_after (start_of (code_fence_after before)) [] ≡ true
-code_fence_ends None = refl
-code_fence_ends (Some before) = refl
+code_fence_ends before = grind arith
 
 math_fence_ends : (before : Option Symbol) →
     ends_after (start_of (math_fence_after before)) [] ≡ true
-math_fence_ends None = refl
-math_fence_ends (Some before) = refl
+math_fence_ends before = grind arith
 
 prefix_shaped : (around : Role) (before : Option Symbol) → around ≢ role.Childless →
     AreShaped (least symbol.ListItemPrefix) around before
-prefix_shaped around before apart =
-    let inner = not_childless (prefix_in around) (prefix_ends around).1 in (
-      (apart, matches_after _ _ (prefix_ends around).0),
-      ((inner, bare role.Empty refl), tt, tt),
-      tt,
-    )
+prefix_shaped around before apart = grind (arith, not_childless, prefix_ends, matches_after, bare)
 
 item_shaped : (around : Role) (before : Option Symbol) → around ≢ role.Childless →
     AreShaped (least symbol.ListItem) around before
-item_shaped around before apart = (
-  (
-    apart,
-    matches_after (item_in around before) (symbol.ListItemPrefix ∷ []) (item_ends around before).0,
-  ),
-  prefix_shaped (item_in around before) None (not_childless _ (item_ends around before).1),
-  tt,
-)
+item_shaped around before apart =
+    grind (arith, matches_after, item_ends, prefix_shaped, not_childless)
 
 label_shaped : (around : Role) (before : Option Symbol) → around ≢ role.Childless →
     AreShaped (least symbol.Label) around before
-label_shaped around before apart =
-    let inner = not_childless (label_in around) (label_ends around).1 in (
-      (apart, matches_after _ _ (label_ends around).0),
-      ((inner, bare role.Phrasing refl), tt, tt),
-      tt,
-    )
+label_shaped around before apart = grind (arith, not_childless, label_ends, matches_after, bare)
 
 footnote_shaped : (around : Role) (before : Option Symbol) → around ≢ role.Childless →
     AreShaped (least symbol.FootnotePrefix) around before
@@ -157,8 +135,7 @@ least_shaped symbol.TableDelimiterRow _ _ apart e =
 least_shaped _ around before apart e = cc
 
 least_spine : (one : Symbol) → cond (has_least one) (spine (least one)) (one ∷ []) ≡ one ∷ []
-least_spine symbol.ReferenceValue = refl
-least_spine _ = refl
+least_spine one = grind arith
 
 -- the least nodes of symbols, in sequence
 abbrev pub nodes_of : List Symbol → Forest

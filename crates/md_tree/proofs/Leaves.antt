@@ -1,18 +1,15 @@
 -- A node without children, which is entered and exited at once.
-use Rattle.std.proofs.Common.{◌≡◌, ◌⊎◌, inl, inr, true, false, ℕ, suc, Option, Some, None, List}
-use Rattle.std.proofs.Common.{◌∷◌, refl, sym, ap, subst, ◌∙◌}
-use Rattle.std.specs.Prelude.{MatchOption}
-use Rattle.md_tree.proofs.Common.{Point, Name, GfmTable, is_table, lie, Rule, CompileError, Symbol}
-use Rattle.md_tree.proofs.Common.{Role, Reading, Free, Through, Space, Solid, standing_of, role_for}
-use Rattle.md_tree.proofs.Common.{Referral, Missing, State, place, target_at, broken_rule, Nothing}
-use Rattle.md_tree.proofs.Common.{mention_of, mentions_with, start_of, may_hold, advance}
-use Rattle.md_tree.proofs.Common.{is_complete, Reads, Outer, Entry, Course, entered, after_entry}
-use Rattle.md_tree.proofs.Common.{after_through, after_exit, Enters, ExitsWhere, Passes, Unbroken}
-use Rattle.md_tree.proofs.Common.{IsStopAtLeaf, IsStopInside}
+use Rattle.std.proofs.Common.{arith, ◌≡◌, ◌⊎◌, inl, inr, true, false, ℕ, suc, Option, Some, None}
+use Rattle.std.proofs.Common.{List, ◌∷◌, refl, ap, ◌∙◌}
+use Rattle.md_tree.proofs.Common.{Point, Name, is_table, Rule, CompileError, Symbol, Role, Reading}
+use Rattle.md_tree.proofs.Common.{Free, Through, Space, Solid, standing_of, role_for, Referral}
+use Rattle.md_tree.proofs.Common.{Missing, State, place, target_at, broken_rule, start_of, may_hold}
+use Rattle.md_tree.proofs.Common.{advance, is_complete, Reads, Outer, Entry, Course, entered}
+use Rattle.md_tree.proofs.Common.{after_entry, after_through, after_exit, Enters, ExitsWhere}
+use Rattle.md_tree.proofs.Common.{Passes, Unbroken, IsStopAtLeaf, IsStopInside}
 use Rattle.md_tree.specs.declared.rule.Rule.TheVariants as rule
 use Rattle.md_tree.specs.declared.rule.CompileError.TheVariants as error
 use Rattle.md_pattern.specs.declared.kinds.Role.TheVariants as role
-use Rattle.md_pattern.specs.declared.kinds.Reading.TheVariants as reads
 use Rattle.md_tree.proofs.Breaks.{IsStop-inside, IsStopInside-same, StopsInside-broken}
 
 -- the course inside such a node, without the node among the open ones
@@ -54,34 +51,16 @@ module _ (name : Name) (state : State) (target : Referral)
 module _ (name : Name) (start end : Point) (from : Course) (entry : Entry)
     (stands : entered (standing_of name) from.state from.target ≡ Some entry) where
   enters : Enters name start from (after_entry entry name start from)
-  enters =
-      subst (λ o. MatchOption o ⊥
-      (λ e. after_entry entry name start from ≡ after_entry e name start from)) (sym stands) refl
+  enters = grind arith
 
   pub Passes-through : (holds : Reads) (to : Course) → entry.outer ≡ None →
       to ≡ after_through from.open_nodes (inside entry from) → Passes holds name start end from to
-  Passes-through holds to through same = (
-    after_entry entry name start from,
-    enters,
-    (
-      refl,
-      subst (λ o. ExitsWhere holds o start end from.open_nodes
-          (after_entry entry name start from) to) (sym through) same,
-    ),
-  )
+  Passes-through holds to through same = grind (arith, enters)
 
   pub Passes-exit : (holds : Reads) (outer : Outer) (to : Course) → entry.outer ≡ Some outer →
       ExitsWhere holds (Some outer) start end from.open_nodes (inside entry from) to →
       Passes holds name start end from to
-  Passes-exit holds outer to outer_is exits = (
-    after_entry entry name start from,
-    enters,
-    (
-      refl,
-      subst (λ o. ExitsWhere holds o start end from.open_nodes
-          (after_entry entry name start from) to) (sym outer_is) exits,
-    ),
-  )
+  Passes-exit holds outer to outer_is exits = grind (arith, enters)
 
   pub IsStopAtLeaf-exit : (bytes : List ℕ) (names : List (List ℕ × List ℕ)) (index : ℕ)
       (refusal : CompileError) (outer : Outer) → entry.outer ≡ Some outer →
@@ -110,10 +89,6 @@ passes-over bytes names name start end from holds (inr space) =
     Passes-exit name start end from _ (entered-space name from.state from.target holds space)
     (Unbroken bytes names) _ _ refl (refl, refl, refl)
 
-no-mention : (reading : Reading) → mention_of reading Missing ≡ Nothing
-no-mention reads.Media = refl
-no-mention _ = refl
-
 -- a node without children that stands on the spine
 module _ (name : Name) (symbol : Symbol) (usual : Role) (reading : Reading)
     (next : State) (start end : Point) (from : Course) (holds : may_hold from.state.role ≡ true)
@@ -137,9 +112,7 @@ module _ (name : Name) (symbol : Symbol) (usual : Role) (reading : Reading)
   }
 
   exits-so : after ≡ after_exit outer start end from.open_nodes (inside begins from)
-  exits-so =
-      ap (λ m. record after { mentions = mentions_with (suc from.count) m from.mentions })
-      (sym (no-mention reading))
+  exits-so = grind arith
 
   module _ (bytes : List ℕ) (names : List (List ℕ × List ℕ)) where
     pub Passes-solid : (target : Referral) → is_complete inner ≡ true →
@@ -178,16 +151,9 @@ module _ (name : Name) (symbol : Symbol) (usual : Role) (reading : Reading)
 
 pub no-table-over : (name : Name) → (standing_of name ≡ Through) ⊎ (standing_of name ≡ Space) →
     is_table name ≡ false
-no-table-over GfmTable (inl through) = cc
-no-table-over GfmTable (inr space) = cc
-no-table-over _ stands = refl
+no-table-over name stands = grind arith
 
 pub no-table-solid : (name : Name) (symbol : Symbol) (usual : Role) (reading : Reading)
     (around : Role) (before : Option Symbol) → standing_of name ≡ Solid symbol usual reading →
     is_complete (start_of (role_for around before usual)) ≡ true → is_table name ≡ false
-no-table-solid GfmTable symbol usual reading around before stands complete =
-    lie (ap (λ r. is_complete (start_of (role_for around before r))) (usual_is stands) ∙ complete)
-  where
-    usual_is : standing_of GfmTable ≡ Solid symbol usual reading → role.Table ≡ usual
-    usual_is e = cc
-no-table-solid _ symbol usual reading around before stands complete = refl
+no-table-solid name symbol usual reading around before stands complete = grind arith

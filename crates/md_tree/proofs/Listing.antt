@@ -1,11 +1,11 @@
 -- The mentions that a walk keeps are all except the empty ones, each with the index of its event.
 -- So what is resolved among those kept is resolved among all, as the grammar requires.
-use Rattle.std.proofs.Common.{◌≡◌, ℕ, zero, suc, ◌+◌, Some, List, [], ◌∷◌, ◌++◌, refl, sym, ap, ◌∙◌}
-use Rattle.std.proofs.Common.{subst, append_assoc, append-nil, arith}
-use Rattle.md_tree.proofs.Common.{slice_get, All, Contains, All-cons, All-nil, All-head, All-tail}
-use Rattle.md_tree.proofs.Common.{Mention, Nothing, Reference, Call, Definition, FootnoteDefinition}
-use Rattle.md_tree.proofs.Common.{Mentioned, Missing, Forest, Empty, Node, standing_of, reading_of}
-use Rattle.md_tree.proofs.Common.{target_of, index_after, mention_of, mentions_of, mentions_with}
+use Rattle.std.proofs.Common.{◌≡◌, ℕ, suc, ◌+◌, Some, List, [], ◌∷◌, ◌++◌, refl, sym, ap, ◌∙◌}
+use Rattle.std.proofs.Common.{append_assoc, append-nil, arith}
+use Rattle.md_tree.proofs.Common.{slice_get, All, All-cons, All-nil, All-head, All-tail, Mention}
+use Rattle.md_tree.proofs.Common.{Nothing, Definition, FootnoteDefinition, Mentioned, Missing}
+use Rattle.md_tree.proofs.Common.{Forest, Empty, Node, standing_of, reading_of, target_of}
+use Rattle.md_tree.proofs.Common.{index_after, mention_of, mentions_of, mentions_with}
 use Rattle.md_tree.proofs.Common.{mentions_among, identifier_at, defined, footnoted, IsResolved}
 use Rattle.md_tree.proofs.NodesRead.{mentions_over}
 
@@ -19,8 +19,7 @@ listed index (mention ∷ mentions) =
 with_listed : (mention : Mention) (index : ℕ) (before : List Mentioned) (later : List Mention) →
     mentions_with index mention before ++ listed (suc index) later
     ≡ before ++ listed index (mention ∷ later)
-with_listed Nothing index before later = refl
-with_listed _ index before later = append_assoc before _ _
+with_listed mention index before later = grind (arith, append_assoc)
 
 over_listed : (forest : Forest) (index : ℕ) (before : List Mentioned) (later : List Mention) →
     mentions_over index forest before ++ listed (index_after index forest) later ≡ before
@@ -61,18 +60,13 @@ footnoted_listed bytes (_ ∷ mentions) index = footnoted_listed bytes mentions 
 resolved_same : (bytes : List ℕ) (some others : List Mention) (mention : Mention) →
     defined bytes some ≡ defined bytes others → footnoted bytes some ≡ footnoted bytes others →
     IsResolved bytes some mention → IsResolved bytes others mention
-resolved_same bytes some others (Reference label) d f is =
-    subst (λ xs. Contains xs (identifier_at bytes label)) d is
-resolved_same bytes some others (Call label) d f is =
-    subst (λ xs. Contains xs (identifier_at bytes label)) f is
-resolved_same bytes some others _ d f is = tt
+resolved_same bytes some others mention d f is = grind arith
 
 pub resolved-listed : (bytes : List ℕ) (mentions : List Mention) (mention : Mention) →
     IsResolved bytes mentions mention →
     IsResolved bytes (mentions_among (listed 0 mentions)) mention
 resolved-listed bytes mentions mention =
-    resolved_same bytes mentions (mentions_among (listed 0 mentions)) mention
-    (sym (defined_listed bytes mentions 0)) (sym (footnoted_listed bytes mentions 0))
+    grind (arith, resolved_same, defined_listed, footnoted_listed)
 
 -- what holds of nothing and of each in the list holds of each
 all_listed : (P : Mention → Type 0) → P Nothing → (mentions : List Mention) (index : ℕ) →
@@ -81,9 +75,14 @@ all_listed P none [] index all = All-nil P
 all_listed P none (Nothing ∷ mentions) index all = All-cons P Nothing mentions none
     (all_listed P none mentions (suc index) all)
 all_listed P none (mention ∷ mentions) index all =
-    let later = mentions_among (listed (suc index) mentions) in
-    All-cons P mention mentions (All-head P mention later all)
-    (all_listed P none mentions (suc index) (All-tail P mention later all))
+    grind (
+      arith,
+      all_listed P none mentions (suc index) (All-tail P mention (mentions_among (listed
+          (suc index) mentions)) all),
+      All-cons,
+      All-head,
+      All-tail,
+    )
 
 pub all-resolved : (bytes : List ℕ) (mentions : List Mention) →
     All (IsResolved bytes (mentions_among (listed 0 mentions)))
@@ -103,14 +102,7 @@ record GotListed (mentions : List Mention) (index : ℕ) (one : Mentioned) : Typ
 got_first : (mention : Mention) (mentions : List Mention) (index : ℕ) (one : Mentioned) →
     Some (record { index = index; mention = mention }) ≡ Some one →
     GotListed (mention ∷ mentions) index one
-got_first mention mentions index one e =
-    let same : record { index = index; mention = mention } ≡ one = cc in
-    let none : index + 0 ≡ index = omega arith in
-    record {
-      at = 0;
-      index_is = ap (λ (m : Mentioned). m.index) (sym same) ∙ sym none;
-      got = ap (λ (m : Mentioned). Some m.mention) same;
-    }
+got_first mention mentions index one e = grind arith
 
 got_later : (mention : Mention) (mentions : List Mention) (index : ℕ) (one : Mentioned) →
     GotListed mentions (suc index) one → GotListed (mention ∷ mentions) index one
@@ -124,9 +116,7 @@ got_cons : (mention : Mention) (mentions : List Mention) (index at : ℕ) (one :
     GotListed mentions (suc index) one) →
     slice_get (record { index = index; mention = mention } ∷ listed (suc index) mentions) at
     ≡ Some one → GotListed (mention ∷ mentions) index one
-got_cons mention mentions index zero one later e = got_first mention mentions index one e
-got_cons mention mentions index (suc at) one later e =
-    got_later mention mentions index one (later at e)
+got_cons mention mentions index at one later e = grind (arith, got_first, got_later)
 
 got_listed : (mentions : List Mention) (index at : ℕ) (one : Mentioned) →
     slice_get (listed index mentions) at ≡ Some one → GotListed mentions index one

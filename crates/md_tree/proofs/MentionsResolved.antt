@@ -4,33 +4,25 @@ use Rattle.std.proofs.Common.{[], ◌∷◌, length, get_or, inl, inr, true≢fa
 use Rattle.std.proofs.Common.{subst}
 use Rattle.std.specs.Prelude.{Bool}
 use Rattle.std.specs.Option.{ok_or}
-use Rattle.std.proofs.lemmas.List.Elements.{Contains-append_cases, Contains-push_cases}
 use Rattle.md_tree.proofs.Common.{slice_get_within, get_or_from_slice_get, option_map, is_some}
 use Rattle.md_tree.proofs.Common.{if◌then◌else◌, slice_get, Ok, Err, Contains, get_or-map}
 use Rattle.md_tree.proofs.Common.{slice_get-get_or, Position, Mention, Reference, Call, Mentioned}
 use Rattle.md_tree.proofs.Common.{Rule, identifier_at, defined, footnoted, mentions_among}
-use Rattle.md_tree.proofs.Common.{IsResolved, is_same, which, number_of, IsUnresolvedBy}
+use Rattle.md_tree.proofs.Common.{IsResolved, is_same, which, IsUnresolvedBy}
 use Rattle.md_tree.specs.declared.rule.Rule.TheVariants as rule
 use Rattle.md_tree.specs.Numbers.{IsNowhere, RefersTo}
 use Rattle.md_tree.proofs.OneMoreIdentifier.{Identifier, same-is, same-self}
 
 -- ---- the target of a mention
-first_is : (x y : Identifier) (xs : List Identifier) → x ≡ y → Contains (x ∷ xs) y
-first_is x y xs e = (0, omega arith, e)
-
 none_is : (y : Identifier) → Contains [] y → ⊥
 none_is y h = omega (arith, h.1)
 
 first_or_later : (x y : Identifier) (xs : List Identifier) → Contains (x ∷ xs) y →
     (x ≡ y) ⊎ Contains xs y
-first_or_later x y xs h = elim (Contains-append_cases (x ∷ []) xs y h) [
-  | inl a ↦ elim (Contains-push_cases [] x y a) [ inl b ↦ absurd (none_is y b) | inr b ↦ inl b ]
-  | inr b ↦ inr b
-]
+first_or_later x y xs h = grind arith
 
 none_mapped : (o : Option ℕ) → option_map (λ place. suc place) o ≡ None → o ≡ None
-none_mapped None e = refl
-none_mapped (Some place) e = cc
+none_mapped o e = grind arith
 
 which_got : (xs : List Identifier) (y : Identifier) (place : ℕ) → which xs y ≡ Some place →
     slice_get xs place ≡ Some y
@@ -74,14 +66,7 @@ pub resolved-reference :
     (bytes : List ℕ) (mentions : List Mention) (label : Position) (number : Option ℕ) → number
     ≡ option_map (λ place. suc place) (which (defined bytes mentions) (identifier_at bytes label)) →
     RefersTo bytes mentions (Reference label) (ok_or number rule.Definition)
-resolved-reference bytes mentions label number is =
-    subst (λ n. RefersTo bytes mentions (Reference label) (ok_or n rule.Definition)) (sym is)
-    (elim (which (defined bytes mentions) (identifier_at bytes label)) as
-    (λ o. which (defined bytes mentions) (identifier_at bytes label) ≡ o → RefersTo bytes mentions
-    (Reference label) (ok_or (option_map (λ place. suc place) o) rule.Definition)) [
-      | Some place ↦ λ t. (which_there (defined bytes mentions) _ place t, sym (ap number_of t))
-      | None ↦ λ t. (refl, which_lost _ _ t)
-    ] refl)
+resolved-reference bytes mentions label number is = grind (arith, which_there, which_lost)
 
 module _ (bytes : List ℕ) (mentions : List Mention) (label : Position) (known : Bool)
     (is : known ≡ is_some (which (footnoted bytes mentions) (identifier_at bytes label))) where
@@ -120,17 +105,13 @@ pub IsUnresolvedBy-at : (bytes : List ℕ) (mentioned : List Mentioned) (at : �
     (broken : Rule) → at < length mentioned →
     IsNowhere bytes (mentions_among mentioned) (Mentioned.mention (get_or mentioned at n)) broken →
     IsUnresolvedBy bytes mentioned (Mentioned.index (get_or mentioned at n)) broken
-IsUnresolvedBy-at bytes mentioned at n broken inside is =
-    let one = get_or mentioned at n in
-    lost bytes mentioned one.mention at one.index broken (slice_get-get_or mentioned at n inside) is
+IsUnresolvedBy-at bytes mentioned at n broken inside is = grind (arith, lost, slice_get-get_or)
 
 pub IsResolved-at : (bytes : List ℕ) (mentioned : List Mentioned) (index : ℕ) (n : Mentioned)
     (x : Mention) → index < length mentioned →
     IsResolved bytes (mentions_among mentioned) (Mentioned.mention (get_or mentioned index n)) →
     IsResolved bytes (mentions_among mentioned) (get_or (mentions_among mentioned) index x)
-IsResolved-at bytes mentioned index n x inside is =
-    subst (λ m. IsResolved bytes (mentions_among mentioned) m)
-    (sym (get_or-map (λ (m : Mentioned). m.mention) mentioned index n x inside)) is
+IsResolved-at bytes mentioned index n x inside is = grind (arith, get_or-map)
 
 -- ---- one identifier for each place
 pub which-one : (xs : List Identifier) (one other : Identifier) (place : ℕ) →

@@ -1,11 +1,11 @@
 -- A node that is fine is read: it is entered, its children are read, and it is left.
-use Rattle.std.proofs.Common.{◌≡◌, ◌≢◌, ℕ, suc, true, cond, Option, Some, None, MatchOption, List}
-use Rattle.std.proofs.Common.{refl, sym, ap, ◌∙◌, subst}
+use Rattle.std.proofs.Common.{arith, ◌≡◌, ◌≢◌, ℕ, suc, true, Option, Some, None, MatchOption, List}
+use Rattle.std.proofs.Common.{refl, sym, ap, subst}
 use Rattle.md_tree.proofs.Common.{option_map, Point, Name, Symbol, Role, Childless, Reading, Free}
-use Rattle.md_tree.proofs.Common.{Standing, Through, Space, Solid, Mdx, Referral, Missing}
-use Rattle.md_tree.proofs.Common.{Mentioned, State, Entry, Forest, Empty, Node, flatten}
-use Rattle.md_tree.proofs.Common.{standing_of, spine, shown, Matches, Claim, EachNode, IsShapedNode}
-use Rattle.md_tree.proofs.Common.{IsStanding, inner_role, inner_before, role_for, reading_of, place}
+use Rattle.md_tree.proofs.Common.{Standing, Through, Space, Solid, Referral, Missing, Mentioned}
+use Rattle.md_tree.proofs.Common.{State, Entry, Forest, Empty, Node, flatten, standing_of, spine}
+use Rattle.md_tree.proofs.Common.{shown, Matches, Claim, EachNode, IsShapedNode, IsStanding}
+use Rattle.md_tree.proofs.Common.{inner_role, inner_before, role_for, reading_of, place}
 use Rattle.md_tree.proofs.Common.{target_after, target_of, mention_of, mentions_with, index_after}
 use Rattle.md_tree.proofs.Common.{may_hold, start_of, advance, Reads, Course, Runs, Exits}
 use Rattle.md_tree.proofs.Common.{after_entry, entered, entered_on}
@@ -31,8 +31,7 @@ AllowsFree holds =
     holds Free around before start end target
 
 pub may_hold-from : (role : Role) → role ≢ Childless → may_hold role ≡ true
-may_hold-from Childless ne = absurd (ne refl)
-may_hold-from _ ne = refl
+may_hold-from role ne = grind arith
 
 -- the mentions after nodes, the first event of which has an index
 abbrev pub mentions_over : ℕ → Forest → List Mentioned → List Mentioned
@@ -75,11 +74,7 @@ enters_with : (standing : Standing) (name : Name) (start : Point) (from : Course
     may_hold from.state.role ≡ true → entered_on standing from.state from.target ≡ Some entry →
     MatchOption (entered standing from.state from.target) ⊥ (λ e. after_entry entry name start from
     ≡ after_entry e name start from)
-enters_with standing name start from entry may is =
-    subst (λ b. MatchOption (cond b (entered_on standing from.state from.target) None) ⊥
-    (λ e. after_entry entry name start from ≡ after_entry e name start from)) (sym may) (subst (λ o.
-    MatchOption o ⊥ (λ e. after_entry entry name start from ≡ after_entry e name start from))
-    (sym is) refl)
+enters_with standing name start from entry may is = grind arith
 
 -- children are read
 abbrev pub ReadsChildren : Reads → Forest → Type 0
@@ -183,8 +178,4 @@ module _ (holds : Reads) (free : AllowsFree holds) (name : Name) (start end : Po
       (inner_before standing from.state.before) →
       Feeds from.state (shown standing (spine children)) middle →
       NodeRuns holds standing name start end children from middle
-  node_runs Through stands read fine feeds = node_through fine feeds
-  node_runs Space stands read fine feeds = node_space fine stands feeds
-  node_runs (Solid symbol usual reading) stands read fine feeds =
-      node_solid symbol usual reading fine stands read (feeds.1 ∙ ap Some feeds.2)
-  node_runs Mdx stands read fine feeds = absurd stands
+  node_runs standing stands read fine feeds = grind (arith, node_through, node_space, node_solid)

@@ -17,9 +17,7 @@ use Rattle.md_tree.proofs.OneMoreIdentifier.{Known, compared}
 -- ---- definitions from the last on
 counted_on : (before : ℕ) (places : Option ℕ) → option_map (λ place. suc (suc before + place))
     places ≡ option_map (λ place. suc (before + place)) (option_map (λ place. suc place) places)
-counted_on before None = refl
-counted_on before (Some place) =
-    let later : suc (suc before + place) ≡ suc (before + suc place) = omega arith in ap Some later
+counted_on before places = grind arith
 
 pub NumbersFrom-put : (old new : Numbered) (text : Text) (before : ℕ) (later : List Identifier) →
     NumbersFrom old (suc before) later →
@@ -68,14 +66,12 @@ IdentifiersBefore-at F mentioned i known inside before n left is =
 -- what a mention that defines nothing adds
 pub defined_by-other : (bytes : List ℕ) (mention : Mention) (others : List Identifier) →
     ((label : Position) → mention ≡ Definition label → ⊥) → defined_by bytes mention others ≡ others
-defined_by-other bytes (Definition label) others no_such = absurd (no_such label refl)
-defined_by-other bytes _ others no_such = refl
+defined_by-other bytes mention others no_such = grind arith
 
 pub footnoted_by-other : (bytes : List ℕ) (mention : Mention) (others : List Identifier) →
     ((label : Position) → mention ≡ FootnoteDefinition label → ⊥) →
     footnoted_by bytes mention others ≡ others
-footnoted_by-other bytes (FootnoteDefinition label) others no_such = absurd (no_such label refl)
-footnoted_by-other bytes _ others no_such = refl
+footnoted_by-other bytes mention others no_such = grind arith
 
 -- ---- facts with a number at an index
 pub put-none : (facts : List Fact) (index number : ℕ) → number ≡ 0 →

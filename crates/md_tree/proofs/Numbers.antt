@@ -1,56 +1,42 @@
 -- What is kept of a document's events: what is found at them, with a number at each
 -- exit of a mention.
-use Rattle.std.proofs.Common.{◌≡◌, ℕ, zero, suc, true, Option, Some, None, List, [], ◌∷◌, ◌++◌}
-use Rattle.std.proofs.Common.{length, refl, sym, ap, ◌∙◌, subst}
+use Rattle.std.proofs.Common.{arith, ◌≡◌, ℕ, zero, suc, true, Option, Some, List, [], ◌∷◌, ◌++◌}
+use Rattle.std.proofs.Common.{length, refl, sym, ap, subst}
 use Rattle.md_tree.proofs.Common.{map, slice_get, option_map, Name, Enter, Exit, Event, Fact}
 use Rattle.md_tree.proofs.Common.{index_after, facts_at, facts_of, fact_at, partner_alone}
 use Rattle.md_tree.proofs.Common.{tables_with, tables_after, facts-flatten, standing_of, Forest}
 use Rattle.md_tree.proofs.Common.{Empty, Node, flatten, entering, exiting, lie, Referral, Missing}
-use Rattle.md_tree.proofs.Common.{Resource, Label, Mention, Nothing, reading_of, target_of}
-use Rattle.md_tree.proofs.Common.{position_from, partner_event, position_there, position_at}
-use Rattle.md_tree.proofs.Common.{position_ended, mention_of, mentions_of, number_of, with_number}
-use Rattle.md_tree.proofs.Common.{number_for, facts_with, place_of, definition_for}
-use Rattle.md_tree.proofs.Common.{is_of_definitions}
+use Rattle.md_tree.proofs.Common.{Mention, Nothing, reading_of, target_of, partner_event}
+use Rattle.md_tree.proofs.Common.{position_there, position_at, position_ended, mention_of}
+use Rattle.md_tree.proofs.Common.{mentions_of, with_number, number_for, facts_with, place_of}
+use Rattle.md_tree.proofs.Common.{definition_for, is_of_definitions}
 use Rattle.md_base.specs.declared.event.Name.TheVariants.{Link, Image}
 
 -- ---- what doesn't change by numbers
-partner_with : (number : ℕ) (fact : Fact) → Fact.partner (with_number number fact) ≡ fact.partner
-partner_with zero fact = refl
-partner_with (suc place) fact = refl
-
 pub partner-with : (numbers : List ℕ) (facts : List Fact) (index : ℕ) →
     option_map (λ (f : Fact). f.partner) (slice_get (facts_with numbers facts) index)
     ≡ option_map (λ (f : Fact). f.partner) (slice_get facts index)
-partner-with [] facts index = refl
-partner-with (number ∷ numbers) [] index = refl
-partner-with (number ∷ numbers) (fact ∷ facts) zero = ap Some (partner_with number fact)
+partner-with (zero ∷ numbers) (fact ∷ facts) zero = refl
+partner-with (_ ∷ numbers) (fact ∷ facts) zero = refl
 partner-with (number ∷ numbers) (fact ∷ facts) (suc index) = partner-with numbers facts index
+partner-with _ _ index = refl
 
 by_partner : (events : List Event) (one other : Option Fact) →
     option_map (λ (f : Fact). f.partner) one ≡ option_map (λ (f : Fact). f.partner) other →
     partner_event events one ≡ partner_event events other
-by_partner events None None e = refl
-by_partner events None (Some other) e = cc
-by_partner events (Some one) None e = cc
-by_partner events (Some one) (Some other) e = let same : one.partner ≡ other.partner = cc in
-    ap (λ i. slice_get events i) same
+by_partner events one other e = grind arith
 
 pub ended-with : (events : List Event) (numbers : List ℕ) (facts : List Fact) (index : ℕ) →
     position_ended events (facts_with numbers facts) index ≡ position_ended events facts index
-ended-with events numbers facts index =
-    ap (λ o. position_from o (slice_get events index)) (by_partner events (slice_get _ index)
-    _ (partner-with numbers facts index))
+ended-with events numbers facts index = grind (arith, by_partner, partner-with)
 
 pub there-with : (events : List Event) (numbers : List ℕ) (facts : List Fact) (index : ℕ) →
     position_there events (facts_with numbers facts) index ≡ position_there events facts index
-there-with events numbers facts index =
-    ap (λ o. position_from (slice_get events index) o) (by_partner events (slice_get _ index) _
-    (partner-with numbers facts index))
+there-with events numbers facts index = grind (arith, by_partner, partner-with)
 
 pub at-with : (events : List Event) (numbers : List ℕ) (facts : List Fact) (index : ℕ) →
     position_at events (facts_with numbers facts) index ≡ position_at events facts index
-at-with events numbers facts zero = refl
-at-with events numbers facts (suc index) = there-with events numbers facts _
+at-with events numbers facts index = grind (arith, there-with)
 
 pub length-with : (numbers : List ℕ) (facts : List Fact) →
     length (facts_with numbers facts) ≡ length facts
@@ -131,36 +117,20 @@ pub got-with : (number : Mention → ℕ) (mentions : List Mention) (facts : Lis
     (fact : Fact) (mention : Mention) → slice_get facts index ≡ Some fact →
     slice_get mentions index ≡ Some mention → slice_get (facts_with (map number mentions) facts)
     index ≡ Some (with_number (number mention) fact)
-got-with number [] facts index fact mention f m = cc
-got-with number (n ∷ mentions) [] index fact mention f m = cc
-got-with number (n ∷ mentions) (g ∷ facts) zero fact mention f m =
-    let one : g ≡ fact = cc in
-    let two : n ≡ mention = cc in
-    ap (λ x. Some (with_number (number x) g)) two
-    ∙ ap (λ x. Some (with_number (number mention) x)) one
+got-with number (n ∷ mentions) (g ∷ facts) zero fact mention f m = cc
 got-with number (n ∷ mentions) (g ∷ facts) (suc index) fact mention f m =
     got-with number mentions facts index fact mention f m
+got-with number _ _ index fact mention f m = cc
 
 -- ---- the index that a number encodes
 pub kept-number : (number : ℕ) (fact : Fact) → fact.read_at ≡ 0 →
     Fact.read_at (with_number number fact) ≡ number
-kept-number zero fact none = none
-kept-number (suc place) fact none = refl
-
-pub place-number : (place : Option ℕ) → place_of (number_of place) ≡ place
-place-number None = refl
-place-number (Some place) = refl
+kept-number number fact none = grind arith
 
 pub number-definition : (bytes : List ℕ) (mentions : List Mention) (name : Name)
     (target : Referral) → is_of_definitions name ≡ true → place_of
     (number_for bytes mentions (mention_of (reading_of (standing_of name)) target)) ≡ definition_for
     bytes mentions (mention_of (reading_of (standing_of name)) target)
-number-definition bytes mentions Link Missing is = refl
-number-definition bytes mentions Link Resource is = refl
-number-definition bytes mentions Link (Label label) is =
-    place-number _
-number-definition bytes mentions Image Missing is = refl
-number-definition bytes mentions Image Resource is = refl
-number-definition bytes mentions Image (Label label) is =
-    place-number _
+number-definition bytes mentions Link target is = grind arith
+number-definition bytes mentions Image target is = grind arith
 number-definition bytes mentions _ target is = absurd (lie is)

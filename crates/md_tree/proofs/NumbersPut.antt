@@ -12,10 +12,7 @@ module _ (number : Mention → ℕ) (none : number Nothing ≡ 0) where
   one_listed : (mention : Mention) (mentions : List Mention) (index : ℕ) (facts : List Fact) →
       numbered number (listed index (mention ∷ mentions)) facts
       ≡ numbered number (listed (suc index) mentions) (put_number index (number mention) facts)
-  one_listed Nothing mentions index facts =
-      ap (λ fs. numbered number (listed (suc index) mentions) fs)
-      (sym (put-none facts index _ none))
-  one_listed _ mentions index facts = refl
+  one_listed mention mentions index facts = grind (arith, put-none)
 
   past_listed : (mentions : List Mention) (index : ℕ) (facts : List Fact) → length facts ≤ index →
       numbered number (listed index mentions) facts ≡ facts
@@ -29,9 +26,7 @@ module _ (number : Mention → ℕ) (none : number Nothing ≡ 0) where
   put_after : (before facts : List Fact) (n index : ℕ) → length before ≡ index →
       put_number index n (before ++ facts) ≡ before ++ put_number 0 n facts
   put_after [] facts n index e = ap (λ i. put_number i n facts) (sym e)
-  put_after (fact ∷ before) facts n index e =
-      ap (λ i. put_number i n (fact ∷ (before ++ facts))) (sym e)
-      ∙ ap (λ fs. fact ∷ fs) (put_after before facts n _ refl)
+  put_after (fact ∷ before) facts n index e = grind (arith, put_after before facts n _ refl)
 
   all_listed : (mentions : List Mention) (index : ℕ) (before facts : List Fact) →
       length before ≡ index → numbered number (listed index mentions) (before ++ facts)
@@ -42,20 +37,20 @@ module _ (number : Mention → ℕ) (none : number Nothing ≡ 0) where
       ap (λ fs. numbered number (listed index (mention ∷ mentions)) fs) (append-nil before)
       ∙ past_listed (mention ∷ mentions) index before (within e) ∙ sym (append-nil before)
   all_listed (mention ∷ mentions) index before (fact ∷ facts) e =
-      let here = with_number (number mention) fact in
-      one_listed mention mentions index (before ++ fact ∷ facts)
-      ∙ ap (λ fs. numbered number (listed (suc index) mentions) fs)
-      (put_after before (fact ∷ facts) _ index e ∙ sym (append_assoc before _ facts))
-      ∙ all_listed mentions _ _ facts (length_one before here ∙ ap suc e)
-      ∙ append_assoc before (here ∷ []) _
+      grind (
+        arith,
+        all_listed mentions _ _ facts (length_one before (with_number (number mention)
+            fact) ∙ ap suc e),
+        one_listed,
+        put_after,
+        append_assoc,
+      )
 
 -- two ways to number that are alike
 module _ (one other : Mention → ℕ) (alike : (mention : Mention) → one mention ≡ other mention) where
   alike_all : (mentions : List Mention) → map one mentions ≡ map other mentions
   alike_all [] = refl
-  alike_all (mention ∷ mentions) =
-      ap (λ n. n ∷ map one mentions) (alike mention)
-      ∙ ap (λ ns. other mention ∷ ns) (alike_all mentions)
+  alike_all (mention ∷ mentions) = grind (arith, alike_all mentions)
 
 pub numbered-listed : (bytes : List ℕ) (mentions : List Mention) (facts : List Fact) →
     numbered (number_for bytes (mentions_among (listed 0 mentions))) (listed 0 mentions) facts

@@ -1,13 +1,13 @@
 -- What is found on a spine by the symbol of a name: the alignments of each node with it.
+use Rattle.std.proofs.Common.{arith, ◌≡◌, Bool, true, false, ◌||◌, cond, Option, List, [], ◌∷◌}
+use Rattle.std.proofs.Common.{◌++◌, refl, sym, ap, ◌∙◌}
 use denote.Enum.Bare.{sameb}
-use Rattle.std.proofs.Common.{◌≡◌, Bool, true, false, ◌||◌, cond, Option, List, [], ◌∷◌, ◌++◌, refl}
-use Rattle.std.proofs.Common.{sym, ap, ◌∙◌, subst}
 use Rattle.md_tree.proofs.Common.{list_all, list_all-append, the_type, AlignKind, Name}
-use Rattle.md_tree.proofs.Common.{GfmTableHead, GfmTableDelimiterCellValue, Symbol, Role, Standing}
-use Rattle.md_tree.proofs.Common.{Through, Space, Solid, Mdx, Forest, Empty, Node, is_transparent}
-use Rattle.md_tree.proofs.Common.{is_table_head, is_delimiter_row, standing_of, spine, shown}
-use Rattle.md_tree.proofs.Common.{EachNode, IsShapedNode, IsStanding, inner_role, inner_before}
-use Rattle.md_tree.proofs.Common.{alignment_of, alignments, in_each}
+use Rattle.md_tree.proofs.Common.{GfmTableDelimiterCellValue, Symbol, Role, Standing, Through}
+use Rattle.md_tree.proofs.Common.{Space, Solid, Forest, Empty, Node, is_transparent, is_table_head}
+use Rattle.md_tree.proofs.Common.{is_delimiter_row, standing_of, spine, shown, EachNode}
+use Rattle.md_tree.proofs.Common.{IsShapedNode, IsStanding, inner_role, inner_before, alignment_of}
+use Rattle.md_tree.proofs.Common.{alignments, in_each}
 use Rattle.md_pattern.specs.declared.kinds.Symbol.TheVariants as symbol
 use Rattle.md_base.specs.NameTests.{leads_to_values}
 use Rattle.md_base.specs.Is.{is as is_named}
@@ -36,9 +36,7 @@ pub record Named (name : Name) : Type 0 where
   pub row : is_delimiter_row name ≡ has_symbol symbol.TableDelimiterRow (standing_of name)
 
 pub named : (name : Name) → Named name
-named GfmTableHead =
-    record { transparent = refl; value = refl; leads = refl; head = refl; row = refl }
-named _ = record { transparent = refl; value = refl; leads = refl; head = refl; row = refl }
+named name = grind arith
 
 -- ---- one level: what is found on a spine
 
@@ -47,20 +45,6 @@ abbrev at_node : Name → Forest → List AlignKind
 at_node name children =
     cond (is_named GfmTableDelimiterCellValue name) (alignment_of children ∷ [])
     (cond (leads_to_values name) (alignments children) [])
-
-node_through : (value leads transparent : Bool) (own inner found : List AlignKind) →
-    value ≡ false → leads ≡ true → transparent ≡ true → inner ≡ found →
-    cond value own (cond leads inner []) ≡ cond transparent found []
-node_through value leads transparent own inner found v l t same =
-    ap (λ b. cond b own (cond leads inner [])) v ∙ ap (λ b. cond b inner []) l ∙ same
-    ∙ ap (λ b. cond b found []) (sym t)
-
-node_apart : (value leads transparent : Bool) (own inner found : List AlignKind) →
-    value ≡ false → leads ≡ false →
-    transparent ≡ false → cond value own (cond leads inner []) ≡ cond transparent found []
-node_apart value leads transparent own inner found v l t =
-    ap (λ b. cond b own (cond leads inner [])) v ∙ ap (λ b. cond b inner []) l
-    ∙ ap (λ b. cond b found []) (sym t)
 
 -- names with the symbol pass the test, and no other symbol on the spine contains values
 module _ (test : Name → Bool) (only : Name) (one : Symbol) (p : Symbol → Bool) (found : Forest →
@@ -79,47 +63,6 @@ module _ (test : Name → Bool) (only : Name) (one : Symbol) (p : Symbol → Boo
       (around : Role) (before : Option Symbol) → EachNode IsShapedNode forest around before →
       list_all p (spine forest) ≡ true → alignments forest ≡ in_each test found forest
 
-  -- a transparent name
-  seen_through : (name : Name) (children : Forest) → Named name →
-      is_through (standing_of name) ≡ true → alignments children ≡ in_each test found children →
-      at_node name children ≡ cond (is_transparent name) (in_each test found children) []
-  seen_through name children names through same =
-      node_through (is_named GfmTableDelimiterCellValue name) (leads_to_values name)
-      (is_transparent name) (alignment_of children ∷ []) (alignments children) _
-      (names.value ∙ no_value (standing_of name) through)
-      (names.leads ∙ ap (λ b. b || (is_table_head name || is_delimiter_row name)) through)
-      (names.transparent ∙ through) same
-    where
-      no_value : (standing : Standing) → is_through standing ≡ true →
-          has_symbol symbol.TableDelimiterValue standing ≡ false
-      no_value (Solid seen usual reading) e = cc
-      no_value _ e = refl
-
-  -- a name that doesn't pass the test
-  other_node : (name : Name) (children : Forest) (around : Role) (before : Option Symbol) →
-      Named name → Level children → (standing : Standing) → standing_of name ≡ standing →
-      has_symbol one standing ≡ false → IsStanding standing around before children →
-      EachNode IsShapedNode children (inner_role standing around before)
-      (inner_before standing before) → list_all p (shown standing (spine children)) ≡ true →
-      at_node name children ≡ cond (is_transparent name) (in_each test found children) []
-  other_node name children around before names again Through is none stands shaped all =
-      seen_through name children names (ap is_through is) (again around before shaped all)
-  other_node name children around before names again Space is none stands shaped all =
-      seen_through name children names (ap is_through is)
-      (ap alignments stands ∙ ap (in_each test found) (sym stands))
-  other_node name children around before names again (Solid seen usual reading) is
-      none stands shaped all =
-      let apart = others seen (and_left _ _ all) none in
-      let leads =
-      names.leads ∙ ap (λ s. is_through s || (is_table_head name || is_delimiter_row name)) is
-      ∙ ap (λ b. b || is_delimiter_row name) (names.head ∙ ap (has_symbol symbol.TableHead) is)
-      ∙ ap (λ b. sameb the_type symbol.TableHead seen || b) (names.row
-      ∙ ap (has_symbol symbol.TableDelimiterRow) is) ∙ apart.1 in
-      node_apart _ _ _ _ _ _ (names.value
-      ∙ ap (has_symbol symbol.TableDelimiterValue) is ∙ apart.0) leads
-      (names.transparent ∙ ap is_through is)
-  other_node name children around before names again Mdx is none stands shaped all = absurd stands
-
   any_node : (name : Name) (children : Forest) (around : Role) (before : Option Symbol) →
       Level children → IsStanding (standing_of name) around before children →
       EachNode IsShapedNode children (inner_role (standing_of name) around before)
@@ -127,15 +70,7 @@ module _ (test : Name → Bool) (only : Name) (one : Symbol) (p : Symbol → Boo
       list_all p (shown (standing_of name) (spine children)) ≡ true →
       (passed : Bool) → test name ≡ passed → at_node name children
       ≡ cond passed (found children) (cond (is_transparent name) (in_each test found children) [])
-  any_node name children around before again stands shaped all true is =
-      let same : name ≡ only = test_is name is in
-      ap (λ n. at_node n children) same ∙ own around before children
-      (subst (λ n. IsStanding (standing_of n) around before children) same stands)
-      (subst (λ n. EachNode IsShapedNode children (inner_role (standing_of n) around before)
-      (inner_before (standing_of n) before)) same shaped)
-  any_node name children around before again stands shaped all false is =
-      other_node name children around before (named name) again _ refl (sym (test_symbol name)
-      ∙ is) stands shaped all
+  any_node name children around before again stands shaped all passed is = grind arith
 
   pub level : (forest : Forest) → Level forest
   level Empty around before shaped all = refl

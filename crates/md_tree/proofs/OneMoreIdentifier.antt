@@ -1,6 +1,6 @@
 -- Identifiers that are the same, and a set of them with one more.
-use Rattle.std.proofs.Common.{◌≡◌, ℕ, suc, Bool, true, false, cond, Option, Some, None, List, ◌∷◌}
-use Rattle.std.proofs.Common.{refl, ap, ◌∙◌}
+use Rattle.std.proofs.Common.{arith, ◌≡◌, ℕ, suc, Bool, true, false, cond, Option, Some, None, List}
+use Rattle.std.proofs.Common.{◌∷◌, refl, ap, ◌∙◌}
 use Rattle.std.specs.Prelude.{◌||◌, string_bytes, String}
 use Rattle.std.specs.Option.{option_cmp}
 use Rattle.std.specs.String.{string_cmp}
@@ -34,22 +34,15 @@ Known = BTreeSet Text
 
 -- ---- identifiers that are the same
 pub same-self : (one : Identifier) → is_same one one ≡ true
-same-self None = refl
-same-self (Some one) = (bytes_eq-Decides one one).1 refl
+same-self one = grind (arith, bytes_eq-Decides)
 
 pub same-is : (one other : Identifier) → is_same one other ≡ true → one ≡ other
-same-is None None h = refl
-same-is None (Some other) h = cc
-same-is (Some one) None h = cc
-same-is (Some one) (Some other) h = ap Some ((bytes_eq-Decides one other).0 h)
+same-is one other h = grind (arith, bytes_eq-Decides)
 
 -- texts compare equal exactly where their identifiers are the same
 pub compared : (one other : Text) →
     is_eq (text_cmp one other) ≡ is_same (identifier_of one) (identifier_of other)
-compared None None = refl
-compared None (Some other) = refl
-compared (Some one) None = refl
-compared (Some one) (Some other) = is_eq-slice_cmp (string_bytes one) (string_bytes other)
+compared one other = grind (arith, is_eq-slice_cmp)
 
 -- ---- one identifier more
 -- it is known, and no longer left

@@ -5,8 +5,8 @@ use Rattle.std.proofs.Common.{sym, ap, ◌∙◌, subst, append_assoc, append-ni
 use Rattle.md_tree.proofs.Common.{slice_get, All, Name, Point, Event, Fact, Forest, Empty, Node}
 use Rattle.md_tree.proofs.Common.{flatten, entering, exiting, place, Handed, EntersAt, IsEnteredAt}
 use Rattle.md_tree.proofs.Common.{index_after, partner_alone, tables_with, tables_after, fact_at}
-use Rattle.md_tree.proofs.Common.{facts_of, facts_at, position_from, partner_event, position_there}
-use Rattle.md_tree.proofs.Common.{position_at, length_one, facts-flatten}
+use Rattle.md_tree.proofs.Common.{facts_of, facts_at, position_there, position_at, length_one}
+use Rattle.md_tree.proofs.Common.{facts-flatten}
 use Rattle.md_pattern.proofs.CountedFacts.{length_facts, regrouped}
 use Rattle.md_tree.proofs.EventRows.{rows_all, Row, rows_of, numbered_rows, numbered_get}
 use Rattle.md_tree.proofs.Entering.{get_at, past_row, inside_rows, children_there}
@@ -25,8 +25,7 @@ module _ {A : Type 0} (xs before inner rest later : List A) (entry exit : A) (is
   at_exit = in_node ∙ sym (append_assoc _ inner _)
 
   pub after_node : xs ≡ (((before ++ entry ∷ []) ++ inner) ++ exit ∷ []) ++ (rest ++ later)
-  after_node =
-      at_exit ∙ sym (append_assoc ((before ++ entry ∷ []) ++ inner) (exit ∷ []) (rest ++ later))
+  after_node = grind (arith, at_exit, append_assoc)
 
 pub length_events : (forest : Forest) (index : ℕ) (events : List Event) → length events ≡ index →
     length (events ++ flatten forest) ≡ index_after index forest
@@ -44,10 +43,7 @@ module _ (events : List Event) (facts : List Fact) where
       slice_get events index ≡ Some (entering name start) → slice_get facts index ≡ Some fact →
       slice_get events fact.partner ≡ Some (exiting name end) →
       position_there events facts index ≡ Some (place start end)
-  node_there index fact name start end first found last =
-      ap (λ o. position_from o (partner_event events (slice_get facts index))) first
-      ∙ ap (λ o. position_from (Some (entering name start)) (partner_event events o)) found
-      ∙ ap (λ o. position_from (Some (entering name start)) o) last
+  node_there index fact name start end first found last = grind arith
 
   all_there : (forest : Forest) (index tables : ℕ) (before later : List Event)
       (found more : List Fact) → length before ≡ index → length found ≡ index →
@@ -91,11 +87,8 @@ module _ (events : List Event) (facts : List Fact) where
   all_at : (forest : Forest) (index : ℕ) → AllAt (position_there events facts) (suc index) forest →
       AllAt (position_at events facts) (suc index) forest
   all_at Empty index all = tt
-  all_at (Node name start end children rest) index all = (
-    all.0,
-    all_at children _ all.1,
-    all_at rest _ all.2,
-  )
+  all_at (Node name start end children rest) index all =
+      grind (arith, all_at children _ all.1, all_at rest _ all.2)
 
 -- a row's children are there
 abbrev HasThem : List Event → List Fact → Row → Type 0

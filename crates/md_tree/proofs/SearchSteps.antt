@@ -1,18 +1,16 @@
 -- One step of a search: from the state before a node to the state after it.
-use Rattle.std.proofs.Common.{◌≡◌, ℕ, Bool, true, false, cond, Option, Some, None, refl, ap, ◌∙◌}
+use Rattle.std.proofs.Common.{arith, ◌≡◌, ℕ, Bool, true, false, cond, Option, Some, None}
 use Rattle.md_tree.proofs.Common.{unwrap_or, Name, Point, Position, Wanted, Sought, Forest}
 use Rattle.md_tree.proofs.Common.{is_heading_mark, is_item_value, is_label_text, is_reference}
 use Rattle.md_tree.proofs.Common.{is_definition_label, is_footnote_label, or_else, first_on_spine}
 use Rattle.md_tree.proofs.Common.{place, first_place}
 use Rattle.md_base.specs.NameTests.{is_item, is_item_prefix, is_label, is_footnote_prefix}
 use Rattle.md_tree.specs.Reads.{number_in}
-use Rattle.md_base.specs.declared.event.Name.TheVariants as name_variants
-use name_variants.{Label, ReferenceString}
 use Rattle.md_pattern.specs.declared.seeking.Wanted.TheVariants as want
 use Rattle.md_pattern.specs.declared.seeking.Found.{Found}
 use Rattle.md_pattern.specs.declared.seeking.Found.TheVariants as so_far
 use Rattle.md_pattern.specs.declared.seeking.Sight.TheVariants as looks
-use Rattle.md_pattern.specs.Seeking.{sight, first_where, refer_where, seen_as}
+use Rattle.md_pattern.specs.Seeking.{sight, seen_as}
 
 -- which node a search stops at, and what it finds there
 abbrev pub seeks : Wanted → Name → Bool
@@ -76,67 +74,19 @@ pub record Searched (at : At) (from to : Sought) (o r : Option (Option Position)
   pub found : to.found ≡ found_after from.found o r
   pub places : at to.read_at ≡ place_after from.found (at from.read_at) o r
 
-found_twice : (f : Found) (o r later more : Option (Option Position)) →
-    found_after (found_after f o r) later more ≡ found_after f (or_else o later) (or_else r more)
-found_twice so_far.Reference o r later more = refl
-found_twice so_far.First o (Some r) later more = refl
-found_twice so_far.First o None later (Some more) = refl
-found_twice so_far.First o None later None = refl
-found_twice so_far.Nothing o (Some r) later more = refl
-found_twice so_far.Nothing (Some o) None later (Some more) = refl
-found_twice so_far.Nothing (Some o) None later None = refl
-found_twice so_far.Nothing None None later (Some more) = refl
-found_twice so_far.Nothing None None (Some later) None = refl
-found_twice so_far.Nothing None None None None = refl
-
-place_twice : (f : Found) (p : Option Position) (o r later more : Option (Option Position)) →
-    place_after (found_after f o r) (place_after f p o r) later more
-    ≡ place_after f p (or_else o later) (or_else r more)
-place_twice so_far.Reference p o r later more = refl
-place_twice so_far.First p o (Some r) later more = refl
-place_twice so_far.First p o None later (Some more) = refl
-place_twice so_far.First p o None later None = refl
-place_twice so_far.Nothing p o (Some r) later more = refl
-place_twice so_far.Nothing p (Some o) None later (Some more) = refl
-place_twice so_far.Nothing p (Some o) None later None = refl
-place_twice so_far.Nothing p None None later (Some more) = refl
-place_twice so_far.Nothing p None None (Some later) None = refl
-place_twice so_far.Nothing p None None None None = refl
-
 module _ (at : At) where
   pub joined : (from middle to : Sought) (o r later more : Option (Option Position)) →
       Searched at from middle o r → Searched at middle to later more →
       Searched at from to (or_else o later) (or_else r more)
-  joined from middle to o r later more a b = record {
-    wanted = b.wanted ∙ a.wanted;
-    found = b.found ∙ ap (λ f. found_after f later more) a.found
-        ∙ found_twice from.found o r later more;
-    places = b.places ∙ ap (λ f. place_after f (at middle.read_at) later more) a.found
-        ∙ ap (λ p. place_after (found_after from.found o r) p later more) a.places
-        ∙ place_twice from.found _ o r later more;
-  }
+  joined from middle to o r later more a b = grind arith
 
   nothing_where : (w : Wanted) (f : Found) (n : ℕ) →
       Searched at (record { wanted = w; found = f; read_at = n })
       (record { wanted = w; found = f; read_at = n }) None None
-  nothing_where w so_far.Nothing n = record { wanted = refl; found = refl; places = refl }
-  nothing_where w _ n = record { wanted = refl; found = refl; places = refl }
+  nothing_where w f n = grind arith
 
   pub nothing : (s : Sought) → Searched at s s None None
   nothing s = nothing_where s.wanted s.found s.read_at
-
-  first_found : (w : Wanted) (f : Found) (n m : ℕ) (o : Option Position) → at m ≡ o →
-      Searched at (record { wanted = w; found = f; read_at = n })
-      (first_where f (record { wanted = w; found = f; read_at = n }) m) (Some o) None
-  first_found w so_far.Nothing n m o e = record { wanted = refl; found = refl; places = e }
-  first_found w _ n m o e = record { wanted = refl; found = refl; places = refl }
-
-  reference_found : (w : Wanted) (f : Found) (n m : ℕ) (o : Option Position) → at m ≡ o →
-      Searched at (record { wanted = w; found = f; read_at = n })
-      (refer_where f (record { wanted = w; found = f; read_at = n }) m) None (Some o)
-  reference_found w so_far.Reference n m o e =
-      record { wanted = refl; found = refl; places = refl }
-  reference_found w _ n m o e = record { wanted = refl; found = refl; places = e }
 
 -- ---- one node
 
@@ -145,14 +95,12 @@ module _ (at : At) where
   itself_step : (s : Sought) (passes : Bool) (m inner : ℕ) (o : Option Position) →
       at m ≡ o → Searched at s (seen_as (cond passes looks.Itself looks.Other) s m inner)
       (cond passes (Some o) None) None
-  itself_step s true m inner o e = first_found at s.wanted s.found s.read_at m o e
-  itself_step s false m inner o e = nothing at s
+  itself_step s passes m inner o e = grind arith
 
   holder_step : (s : Sought) (passes : Bool) (m inner : ℕ) (o : Option Position) →
       (passes ≡ true → at inner ≡ o) → Searched at s
       (seen_as (cond passes looks.Holder looks.Other) s m inner) (cond passes (Some o) None) None
-  holder_step s true m inner o e = first_found at s.wanted s.found s.read_at inner o (e refl)
-  holder_step s false m inner o e = nothing at s
+  holder_step s passes m inner o e = grind arith
 
   media_step : (s : Sought) (name : Name) (start end : Point) (children : Forest) (m inner : ℕ) →
       at m ≡ Some (place start end) →
@@ -160,12 +108,7 @@ module _ (at : At) where
       Searched at s (seen_as (sight want.Media name) s m inner)
       (cond (is_label name) (Some (finds want.Media start end children)) None)
       (cond (is_reference name) (Some (Some (place start end))) None)
-  media_step s Label start end children m inner here held =
-      first_found at s.wanted s.found s.read_at inner
-      (finds want.Media start end children) (held refl)
-  media_step s ReferenceString start end children m inner here held =
-      reference_found at s.wanted s.found s.read_at m _ here
-  media_step s _ start end children m inner here held = nothing at s
+  media_step s name start end children m inner here held = grind arith
 
 -- which node holds what is sought, and is found in it
 abbrev pub is_holder : Wanted → Name → Bool
@@ -186,14 +129,5 @@ pub solid_step : (at : At) (w : Wanted) (s : Sought) (name : Name) (start end : 
     (cond (seeks w name) (Some (finds w start end children)) None)
     (cond (refers w name) (Some (Some (place start end))) None)
 solid_step at want.Nothing s name start end children m inner here held = nothing at s
-solid_step at want.Item s name start end children m inner here held =
-    holder_step at s _ m inner _ held
-solid_step at want.Prefix s name start end children m inner here held =
-    holder_step at s _ m inner _ held
-solid_step at want.Media s name start end children m inner here held =
-    media_step at s name start end children m inner here held
-solid_step at want.Label s name start end children m inner here held =
-    holder_step at s _ m inner _ held
-solid_step at want.FootnotePrefix s name start end children m inner here held =
-    holder_step at s _ m inner _ held
-solid_step at _ s name start end children m inner here held = itself_step at s _ m inner _ here
+solid_step at _ s name start end children m inner here held =
+    grind (arith, holder_step, media_step, itself_step)

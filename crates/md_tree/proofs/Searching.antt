@@ -1,12 +1,9 @@
 -- The search over a spine finds the place that a name reads.
-use Rattle.std.proofs.Common.{◌≡◌, ℕ, suc, Bool, true, false, cond, Some, None, refl, ap, sym, ◌∙◌}
-use Rattle.std.proofs.Common.{subst}
+use Rattle.std.proofs.Common.{arith, ◌≡◌, ℕ, suc, Bool, true, false, cond, Some, None, refl, ap}
+use Rattle.std.proofs.Common.{◌∙◌, subst}
 use Rattle.md_tree.proofs.Common.{unwrap_or, Name, Point, Wanted, Sought, Forest, Empty, Node}
-use Rattle.md_tree.proofs.Common.{is_transparent, lie, place, index_after, wanted_by, search_of}
+use Rattle.md_tree.proofs.Common.{is_transparent, place, index_after, wanted_by, search_of}
 use Rattle.md_tree.proofs.Common.{sought_over, reads, is_reader}
-use Rattle.md_base.specs.declared.event.Name.TheVariants as name_variants
-use name_variants.{BlockQuotePrefix, SpaceOrTab, Other}
-use Rattle.md_pattern.specs.declared.seeking.Wanted.TheVariants as want
 use Rattle.md_pattern.specs.Seeking.{seen}
 use Rattle.md_pattern.specs.Facts.{sought_after}
 use Rattle.md_tree.proofs.SearchSteps.{seeks, refers, At, spot, reference, Searched, finds}
@@ -16,11 +13,7 @@ use Rattle.md_tree.proofs.FoundPlaces.{found_in, held, reader_finds}
 -- a transparent node is nothing that is sought
 passed_by : (w : Wanted) (name : Name) → is_transparent name ≡ true →
     (seeks w name ≡ false) × (refers w name ≡ false)
-passed_by want.Nothing (Other number) h = (refl, refl)
-passed_by _ (Other number) h = (refl, refl)
-passed_by _ BlockQuotePrefix h = (refl, refl)
-passed_by _ SpaceOrTab h = (refl, refl)
-passed_by w _ h = absurd (lie h)
+passed_by w name h = grind arith
 
 -- each node is at the index of the event that enters it
 abbrev pub AllAt : At → ℕ → Forest → Type 0
@@ -44,15 +37,7 @@ module _ (at : At) (none : at 0 ≡ None) where
       (cond (seeks s.wanted name) (Some (finds s.wanted start end children))
       (cond through (spot s.wanted children) None)) (cond (refers s.wanted name)
       (Some (Some (place start end))) (cond through (reference s.wanted children) None))
-  node_step index name start end children s here inside true e =
-      let by_it = passed_by s.wanted name e in
-      subst (λ b. Searched at s (sought_over (suc index) children s)
-      (cond b (Some (finds s.wanted start end children)) (spot s.wanted children))
-      (cond (refers s.wanted name) (Some (Some (place start end))) (reference s.wanted children)))
-      (sym by_it.0)
-      (subst (λ b. Searched at s (sought_over (suc index) children s) (spot s.wanted children)
-      (cond b (Some (Some (place start end))) (reference s.wanted children)))
-      (sym by_it.1) (inside s))
+  node_step index name start end children s here inside true e = grind (arith, passed_by)
   node_step index name start end children s here inside false e =
       let own = sought_over (suc index) children _ in
       let own_found : at own.read_at ≡ found_in name children =
@@ -79,7 +64,4 @@ module _ (at : At) (none : at 0 ≡ None) where
   pub reads-found : (name : Name) (children : Forest) (index : ℕ) → AllAt at index children →
       is_reader name ≡ true →
       at (Sought.read_at (sought_over index children (search_of name))) ≡ reads name children
-  reads-found name children index all h =
-      Searched.places (searched children index all _)
-      ∙ ap (λ p. unwrap_or (reference (wanted_by name) children)
-      (unwrap_or (spot (wanted_by name) children) p)) none ∙ reader_finds name children h
+  reads-found name children index all h = grind (arith, searched, reader_finds)

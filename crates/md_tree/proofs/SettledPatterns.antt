@@ -1,22 +1,19 @@
 -- Settled patterns: after an item that may be left out, each later item that takes one of its
 -- symbols may be there any number of times.
-use denote.Enum.Bare.{sameb, same_true}
-use Rattle.std.proofs.Common.{◌≡◌, Bool, true, false, not, ◌&&◌, ◌||◌, List, [], ◌∷◌, refl, subst}
+use Rattle.std.proofs.Common.{arith, ◌≡◌, Bool, true, false, not, ◌&&◌, ◌||◌, List, [], ◌∷◌, refl}
+use denote.Enum.Bare.{sameb}
 use Rattle.std.specs.List.{list_any}
-use Rattle.md_tree.proofs.Common.{list_all, the_type, Symbol, Role, Flow, Class, Item, Many}
-use Rattle.md_tree.proofs.Common.{members, class_of, takes, pattern_of, is_optional}
+use Rattle.md_tree.proofs.Common.{list_all, the_type, Symbol, Role, Class, Item, Many, members}
+use Rattle.md_tree.proofs.Common.{class_of, takes, pattern_of, is_optional}
 
 pub and_left : (a b : Bool) → (a && b) ≡ true → a ≡ true
-and_left true b e = refl
-and_left false b e = e
+and_left a b e = grind arith
 
 pub and_right : (a b : Bool) → (a && b) ≡ true → b ≡ true
-and_right true b e = e
-and_right false b e = cc
+and_right a b e = grind arith
 
 pub and_both : (a b : Bool) → a ≡ true → b ≡ true → (a && b) ≡ true
-and_both true b e f = f
-and_both false b e f = e
+and_both a b e f = grind arith
 
 -- an item may be there any number of times
 abbrev pub is_many : Item → Bool
@@ -38,8 +35,7 @@ settled (item ∷ items) =
     (not (is_optional item) || list_all (leaves_order item) items) && settled items
 
 pub pattern_settled : (role : Role) → settled (pattern_of role) ≡ true
-pattern_settled Flow = refl
-pattern_settled _ = refl
+pattern_settled role = grind arith
 
 -- each of the items that takes the symbol may be there any number of times
 abbrev pub only_many : Symbol → List Item → Bool
@@ -50,10 +46,7 @@ taken_step : (p : Symbol → Bool) (symbols : List Symbol) (member seen : Symbol
     list_all p symbols ≡ true → p seen ≡ true) → (same : Bool) → sameb the_type member seen ≡ same →
     (same || list_any (λ m. sameb the_type m seen) symbols) ≡ true
     → (p member && list_all p symbols) ≡ true → p seen ≡ true
-taken_step p symbols member seen again true e there all =
-    subst (λ s. p s ≡ true) (same_true the_type tt member seen e) (and_left _ _ all)
-taken_step p symbols member seen again false e there all =
-    again there (and_right _ _ all)
+taken_step p symbols member seen again same e there all = grind arith
 
 pub taken : (p : Symbol → Bool) (symbols : List Symbol) (seen : Symbol) →
     list_any (λ m. sameb the_type m seen) symbols ≡ true → list_all p symbols ≡ true → p seen ≡ true
@@ -64,9 +57,7 @@ taken p (member ∷ symbols) seen there all = taken_step p symbols member seen (
 only_many_here : (class : Class) (item : Item) (symbol : Symbol) →
     takes class symbol ≡ true → (many : Bool) → (many || apart class (class_of item)) ≡ true →
     (many || not (takes (class_of item) symbol)) ≡ true
-only_many_here class item symbol takes_it true e = refl
-only_many_here class item symbol takes_it false e =
-    taken (λ member. not (takes (class_of item) member)) (members class) symbol takes_it e
+only_many_here class item symbol takes_it many e = grind (arith, taken)
 
 pub only_many_after : (item : Item) (items : List Item) (symbol : Symbol) →
     takes (class_of item) symbol ≡ true →

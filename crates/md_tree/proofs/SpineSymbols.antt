@@ -1,9 +1,8 @@
 -- Which symbols a spine may have that matches a pattern.
-use Rattle.std.proofs.Common.{◌≡◌, Bool, true, List, [], ◌∷◌, ◌++◌, refl, ap, ◌∙◌}
+use Rattle.std.proofs.Common.{arith, ◌≡◌, Bool, true, List, [], ◌∷◌, ◌++◌, refl, ap, ◌∙◌}
 use Rattle.md_tree.proofs.Common.{list_all, list_all-append, Symbol, Role, Item, members, class_of}
 use Rattle.md_tree.proofs.Common.{takes, pattern_of, Fits, spine, IsTail, IsGrouped, Matches}
 use Rattle.md_tree.proofs.Common.{begun_by, is_whole}
-use Rattle.md_pattern.specs.declared.kinds.Symbol.TheVariants as symbol
 use Rattle.md_tree.proofs.SettledPatterns.{and_left, and_right, and_both, taken}
 
 -- each symbol of an item's class passes
@@ -34,9 +33,7 @@ alone seen = is_whole (begun_by seen)
 
 alone_tail : (first : Symbol) (tail : List Symbol) → alone first ≡ true →
     IsTail first tail → tail ≡ []
-alone_tail symbol.ReferenceMarker tail e is = cc
-alone_tail symbol.SetextText tail e is = cc
-alone_tail _ tail e is = is
+alone_tail first tail e is = grind arith
 
 grouped_alone : (firsts spine : List Symbol) → list_all alone firsts ≡ true →
     IsGrouped firsts spine → spine ≡ firsts
@@ -51,6 +48,4 @@ pub matches_pass : (p : Symbol → Bool) (around : Role) (symbols : List Symbol)
     list_all (passes p) (pattern_of around) ≡ true →
     list_all (passes alone) (pattern_of around) ≡ true →
     Matches around symbols → list_all p symbols ≡ true
-matches_pass p around symbols all lone is =
-    ap (list_all p) (grouped_alone is.0 symbols (fits_pass alone _ is.0 lone is.2)
-    is.1) ∙ fits_pass p _ is.0 all is.2
+matches_pass p around symbols all lone is = grind (arith, grouped_alone, fits_pass, alone)

@@ -1,11 +1,11 @@
 -- A spot in a pattern: the items that are left, and the stage of a group. Reading goes from spot to
 -- spot.
-use Rattle.std.proofs.Common.{◌≡◌, inl, inr, ℕ, zero, suc, ◌+◌, Bool, true, false, cond, Option}
+use Rattle.std.proofs.Common.{arith, ◌≡◌, inl, inr, ℕ, zero, suc, ◌+◌, Bool, true, cond, Option}
 use Rattle.std.proofs.Common.{Some, None, List, [], ◌∷◌, ◌++◌, drop, replicate, refl, sym, ap, ◌∙◌}
-use Rattle.std.proofs.Common.{subst, add-one}
-use Rattle.md_tree.proofs.Common.{list_all, option_map, Symbol, Item, Once, Maybe, Many, Stage}
-use Rattle.md_tree.proofs.Common.{Whole, Marker, Numeric, Hexadecimal, Setext, State, Fits, IsTail}
-use Rattle.md_tree.proofs.Common.{IsGrouped, begun_by, next_stage, is_optional, items_of, advance}
+use Rattle.std.proofs.Common.{add-one}
+use Rattle.md_tree.proofs.Common.{list_all, option_map, Symbol, Item, Stage, Whole, Numeric}
+use Rattle.md_tree.proofs.Common.{Hexadecimal, Setext, State, Fits, IsTail, IsGrouped, begun_by}
+use Rattle.md_tree.proofs.Common.{next_stage, is_optional, items_of, advance}
 use Rattle.md_pattern.specs.declared.kinds.Symbol.TheVariants as symbol_variants
 use symbol_variants.{ReferenceMarker, SetextText, SetextUnderline, LineEnding}
 use Rattle.md_pattern.specs.Steps.{next_position, seek, moved}
@@ -41,7 +41,7 @@ Feeds from (symbol ∷ symbols) to =
 
 pub Feeds-append : (from middle to : State) (symbols others : List Symbol) →
     Feeds from symbols middle → Feeds middle others to → Feeds from (symbols ++ others) to
-Feeds-append from middle to [] others e f = subst (λ s. Feeds s others to) (sym e) f
+Feeds-append from middle to [] others e f = rw e f
 Feeds-append from middle to (symbol ∷ symbols) others e f =
     (e.0, e.1, Feeds-append e.0 middle to symbols others e.2 f)
 
@@ -50,19 +50,16 @@ pub Feeds-split : (from to : State) (symbols others : List Symbol) →
     (middle : State) × Feeds from symbols middle × Feeds middle others to
 Feeds-split from to [] others f = (from, refl, f)
 Feeds-split from to (symbol ∷ symbols) others f =
-    let rest = Feeds-split f.0 to symbols others f.2 in
-    (rest.0, (f.0, f.1, rest.1), rest.2)
+    grind (arith, Feeds-split f.0 to symbols others f.2)
 
 option_map-option_map : {A B C : Type 0} (f : A → B) (g : B → C) (o : Option A) →
     option_map g (option_map f o) ≡ option_map (λ x. g (f x)) o
-option_map-option_map f g None = refl
-option_map-option_map f g (Some x) = refl
+option_map-option_map f g o = grind arith
 
 -- what a mapped option comes from
 pub option_map-some : {A B : Type 0} (f : A → B) (o : Option A) (y : B) → option_map f o ≡ Some y →
     (x : A) × (o ≡ Some x) × (f x ≡ y)
-option_map-some f None y e = cc
-option_map-some f (Some x) y e = let h : f x ≡ y = cc in (x, refl, h)
+option_map-some f o y e = grind arith
 
 tail_of : {A : Type 0} (xs : List A) (k : ℕ) (x : A) (ys : List A) → x ∷ ys ≡ drop k xs →
     ys ≡ drop (suc k) xs
@@ -73,9 +70,7 @@ tail_of (z ∷ xs) (suc k) x ys e = tail_of xs k x ys e
 
 sought_here : (all : List Item) (item : Item) (items : List Item) (k : ℕ) →
     item ∷ items ≡ drop k all → drop (next_position item k) all ≡ kept item items
-sought_here all (Many class) items k e = sym e
-sought_here all (Maybe class) items k e = rw add-one (sym (tail_of all k _ items e))
-sought_here all (Once class) items k e = rw add-one (sym (tail_of all k _ items e))
+sought_here all item items k e = grind (arith, tail_of, add-one)
 
 seek_step : (all : List Item) (item : Item) (items : List Item) (k : ℕ) (symbol : Symbol) →
     drop (next_position item k) all ≡ kept item items →
@@ -83,9 +78,7 @@ seek_step : (all : List Item) (item : Item) (items : List Item) (k : ℕ) (symbo
     (taken optional : Bool) → option_map (λ n. drop n all) (cond taken (Some (next_position item k))
     (cond optional (seek (k + 1) items symbol) None)) ≡ cond taken (Some (kept item items))
     (cond optional (left_after items symbol) None)
-seek_step all item items k symbol here later true optional = ap Some here
-seek_step all item items k symbol here later false true = later
-seek_step all item items k symbol here later false false = refl
+seek_step all item items k symbol here later taken optional = grind arith
 
 seek_leaves : (all items : List Item) (k : ℕ) (symbol : Symbol) → items ≡ drop k all →
     option_map (λ n. drop n all) (seek k items symbol) ≡ left_after items symbol
@@ -129,7 +122,7 @@ advance_role state next symbol e =
 
 pub at_items : (items left : List Item) (stage next : Stage) → At items stage ≡ At left next →
     (items ≡ left) × (stage ≡ next)
-at_items items left stage next e = let h : items ≡ left = cc in let k : stage ≡ next = cc in (h, k)
+at_items items left stage next e = (cc, cc)
 
 -- what spots do, states do
 pub Feeds-from_goes : (from : State) (symbols : List Symbol) (to : Spot) →
@@ -141,9 +134,7 @@ Feeds-from_goes from (symbol ∷ symbols) to g =
     option_map-some spot_of _ _ (advance_spot from symbol ∙ g.2) in
     let next = step.0 in
     let same = at_items _ g.0 next.stage g.1 step.2 in
-    let rest =
-    Feeds-from_goes next symbols to (subst (λ st. Goes (items_of next) st symbols to) (sym same.1)
-    (subst (λ is. Goes is g.1 symbols to) (sym same.0) g.3)) in
+    let rest = Feeds-from_goes next symbols to (rw (same.0, same.1) g.3) in
     (rest.0, (next, step.1, rest.1), rest.2)
 
 pub Goes-from_feeds : (from : State) (symbols : List Symbol) (to : State) → Feeds from symbols to →
@@ -160,9 +151,7 @@ Goes-append : (items left : List Item) (stage next : Stage) (symbols others : Li
     (to : Spot) → Goes items stage symbols (At left next) → Goes left next others to →
     Goes items stage (symbols ++ others) to
 Goes-append items left stage next [] others to g h =
-    let same = at_items items left stage next g in
-    subst (λ st. Goes items st others to) (sym same.1)
-    (subst (λ is. Goes is next others to) (sym same.0) h)
+    let same = at_items items left stage next g in rw (same.0, same.1) h
 Goes-append items left stage next (symbol ∷ symbols) others to g h =
     (g.0, g.1, g.2, Goes-append g.0 left g.1 next symbols others to g.3 h)
 
@@ -173,36 +162,24 @@ goes_endings left (suc n) = (left, Setext, refl, goes_endings left n)
 
 goes_tail : (left : List Item) (first : Symbol) (tail : List Symbol) → IsTail first tail →
     Goes left (begun_by first) tail (At left Whole)
-goes_tail left ReferenceMarker tail (inl e) =
-    subst (λ t. Goes left Marker t (At left Whole)) (sym e) (left, Whole, refl, refl)
+goes_tail left ReferenceMarker tail (inl e) = rw e (left, Whole, refl, refl)
 goes_tail left ReferenceMarker tail (inr (inl e)) =
-    subst (λ t. Goes left Marker t (At left Whole)) (sym e)
-    (left, Numeric, refl, (left, Whole, refl, refl))
+    rw e (left, Numeric, refl, (left, Whole, refl, refl))
 goes_tail left ReferenceMarker tail (inr (inr e)) =
-    subst (λ t. Goes left Marker t (At left Whole)) (sym e) (
-      left,
-      Numeric,
-      refl,
-      (left, Hexadecimal, refl, (left, Whole, refl, refl)),
-    )
-goes_tail left SetextText tail t =
-    subst (λ t. Goes left Setext t (At left Whole)) (sym t.1) (goes_endings left t.0)
-goes_tail left _ tail e = subst (λ t. Goes left Whole t (At left Whole)) (sym e) refl
+    rw e (left, Numeric, refl, (left, Hexadecimal, refl, (left, Whole, refl, refl)))
+goes_tail left SetextText tail t = rw t.1 (goes_endings left t.0)
+goes_tail left _ tail e = rw e
 
 -- the pattern's own spines are read to an end
 pub goes_whole : (items : List Item) (firsts spine : List Symbol) → settled items ≡ true →
     IsGrouped firsts spine → Fits items firsts →
     (left : List Item) × Goes items Whole spine (At left Whole) × (list_all is_optional left ≡ true)
-goes_whole items [] spine ok grouped fit = (
-  items,
-  subst (λ s. Goes items Whole s (At items Whole)) (sym grouped) refl,
-  nothing_fits items fit,
-)
+goes_whole items [] spine ok grouped fit = (items, rw grouped, nothing_fits items fit)
 goes_whole items (first ∷ firsts) spine ok grouped fit =
     let on = fits_on items first firsts ok fit in
     let rest = goes_whole on.left firsts grouped.1 on.ok grouped.4 on.fits in (
       rest.0,
-      subst (λ s. Goes items Whole s (At rest.0 Whole)) (sym grouped.2) (
+      rw grouped.2 (
         on.left,
         begun_by first,
         ap (option_map (λ left. At left (begun_by first))) on.is_left,

@@ -1,11 +1,11 @@
 -- The alignments of a table of the grammar are those of its delimiter row's values.
+use Rattle.std.proofs.Common.{arith, ◌≡◌, Bool, true, false, not, ◌&&◌, ◌||◌, cond, None, List, []}
+use Rattle.std.proofs.Common.{◌∷◌, refl, sym, ap, ◌∙◌}
 use denote.Enum.Bare.{sameb}
-use Rattle.std.proofs.Common.{◌≡◌, Bool, true, false, not, ◌&&◌, ◌||◌, cond, None, List, [], ◌∷◌}
-use Rattle.std.proofs.Common.{◌++◌, refl, sym, ap, ◌∙◌}
 use Rattle.md_tree.proofs.Common.{map, map-append, the_type, AlignKind, Name, GfmTableHead}
 use Rattle.md_tree.proofs.Common.{GfmTableDelimiterCellValue, Symbol, Forest, Empty, Node}
-use Rattle.md_tree.proofs.Common.{is_transparent, is_table_head, is_delimiter_row, spine, Matches}
-use Rattle.md_tree.proofs.Common.{AreShaped, alignment_of, alignments, in_each, IsTable}
+use Rattle.md_tree.proofs.Common.{is_table_head, is_delimiter_row, spine, Matches, AreShaped}
+use Rattle.md_tree.proofs.Common.{alignment_of, alignments, in_each, IsTable}
 use Rattle.md_base.specs.declared.event.Name.TheVariants.{GfmTableDelimiterRow}
 use Rattle.md_pattern.specs.declared.kinds.Symbol.TheVariants as symbol
 use Rattle.md_pattern.specs.declared.kinds.Role.TheVariants as role
@@ -18,24 +18,20 @@ use Rattle.md_tree.proofs.OneLevel.{named, level}
 -- ---- the three levels
 value_is : (name : Name) → is_named GfmTableDelimiterCellValue name ≡ true →
     name ≡ GfmTableDelimiterCellValue
-value_is GfmTableDelimiterCellValue e = refl
-value_is _ e = cc
+value_is name e = grind arith
 
 row_is : (name : Name) → is_delimiter_row name ≡ true → name ≡ GfmTableDelimiterRow
-row_is GfmTableDelimiterRow e = refl
-row_is _ e = cc
+row_is name e = grind arith
 
 head_is : (name : Name) → is_table_head name ≡ true → name ≡ GfmTableHead
-head_is GfmTableHead e = refl
-head_is _ e = cc
+head_is name e = grind arith
 
 -- neither of two
 abbrev neither : Symbol → Symbol → Symbol → Bool
 neither one other seen = not (sameb the_type one seen) && not (sameb the_type other seen)
 
 not_true : (b : Bool) → not b ≡ true → b ≡ false
-not_true true e = cc
-not_true false e = refl
+not_true b e = grind arith
 
 or_false : (a b : Bool) → a ≡ false → b ≡ false → (a || b) ≡ false
 or_false a b e f = ap (λ x. x || b) e ∙ f
@@ -90,25 +86,21 @@ table_level children table =
 map_cond : {A B : Type 0} (f : A → B) (passed transparent : Bool) (own inner : List A) →
     map f (cond passed own (cond transparent inner []))
     ≡ cond passed (map f own) (cond transparent (map f inner) [])
-map_cond f true transparent own inner = refl
-map_cond f false true own inner = refl
-map_cond f false false own inner = refl
+map_cond f passed transparent own inner = grind arith
 
 map_in_each : {A B : Type 0} (f : A → B) (test : Name → Bool) (found : Forest → List A)
     (other : Forest → List B) → ((children : Forest) → map f (found children) ≡ other children) →
     (forest : Forest) → map f (in_each test found forest) ≡ in_each test other forest
 map_in_each f test found other same Empty = refl
 map_in_each f test found other same (Node name start end children rest) =
-    map-append f (cond (test name) (found children)
-    (cond (is_transparent name) (in_each test found children) [])) (in_each test found rest)
-    ∙ ap (λ ys. map f (cond (test name) (found children)
-    (cond (is_transparent name) (in_each test found children) [])) ++ ys)
-    (map_in_each f test found other same rest) ∙ ap (λ xs. xs ++ in_each test other rest)
-    (map_cond f (test name) (is_transparent name) (found children)
-    (in_each test found children) ∙ ap (λ xs. cond (test name) xs
-    (cond (is_transparent name) (map f (in_each test found children)) [])) (same children)
-    ∙ ap (λ xs. cond (test name) (other children) (cond (is_transparent name) xs []))
-    (map_in_each f test found other same children))
+    grind (
+      arith,
+      map_in_each f test found other same rest,
+      map_in_each f test found other same
+          children,
+      map-append,
+      map_cond,
+    )
 
 pub alignments-values_of_table : (children : Forest) → IsTable children →
     alignments children ≡ map alignment_of (values_of_table children)

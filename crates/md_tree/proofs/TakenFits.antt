@@ -1,8 +1,8 @@
 -- The rest of a pattern after a symbol, and the proof that the symbols taken fit the pattern.
-use Rattle.std.proofs.Common.{◌≡◌, Bool, true, false, cond, if◌then◌else◌, Option, Some, None, List}
-use Rattle.std.proofs.Common.{[], ◌∷◌, refl, ap, subst, arith}
+use Rattle.std.proofs.Common.{◌≡◌, Bool, true, cond, if◌then◌else◌, Option, Some, None, List, []}
+use Rattle.std.proofs.Common.{◌∷◌, refl, ap, arith}
 use Rattle.md_tree.proofs.Common.{list_all, Symbol, Item, Once, Maybe, Many, class_of, takes, Fits}
-use Rattle.md_tree.proofs.Common.{IsCount, is_optional}
+use Rattle.md_tree.proofs.Common.{is_optional}
 use Rattle.md_tree.proofs.SettledPatterns.{and_both, and_left, and_right}
 
 -- the rest of a pattern after a symbol
@@ -33,15 +33,9 @@ one_more (Once class) items symbol symbols taken fit =
 one_more (Maybe class) items symbol symbols taken fit =
     (symbol ∷ [], symbols, refl, and_both _ _ taken refl, omega arith, fit)
 
-none_optional : (item : Item) → is_optional item ≡ true → IsCount item 0
-none_optional (Once class) optional = cc
-none_optional (Maybe class) optional = omega arith
-none_optional (Many class) optional = tt
-
 left_out : (item : Item) (items : List Item) (symbols : List Symbol) → is_optional item ≡ true →
     Fits items symbols → Fits (item ∷ items) symbols
-left_out item items symbols optional fit =
-    ([], symbols, refl, refl, none_optional item optional, fit)
+left_out item items symbols optional fit = grind arith
 
 pub fits_nothing : (items : List Item) → list_all is_optional items ≡ true → Fits items []
 fits_nothing [] e = refl
@@ -53,20 +47,15 @@ fits_back_optional :
     (left_after items symbol ≡ Some left → Fits items (symbol ∷ symbols)) → (optional : Bool) →
     is_optional item ≡ optional → cond optional (left_after items symbol) None ≡ Some left →
     Fits (item ∷ items) (symbol ∷ symbols)
-fits_back_optional item items left symbol symbols again true o e =
-    left_out item items (symbol ∷ symbols) o (again e)
-fits_back_optional item items left symbol symbols again false o e = cc
+fits_back_optional item items left symbol symbols again optional o e = grind arith
 
 fits_back_taken : (item : Item) (items left : List Item) (symbol : Symbol) (symbols : List Symbol) →
     Fits left symbols → (left_after items symbol ≡ Some left → Fits items (symbol ∷ symbols)) →
     (taken : Bool) → takes (class_of item) symbol ≡ taken → cond taken (Some (kept item items))
     (cond (is_optional item) (left_after items symbol) None) ≡ Some left →
     Fits (item ∷ items) (symbol ∷ symbols)
-fits_back_taken item items left symbol symbols fit again true t e =
-    let same : left ≡ kept item items = cc in
-    one_more item items symbol symbols t (subst (λ l. Fits l symbols) same fit)
-fits_back_taken item items left symbol symbols fit again false t e =
-    fits_back_optional item items left symbol symbols again _ refl e
+fits_back_taken item items left symbol symbols fit again taken t e =
+    grind (arith, one_more, fits_back_optional)
 
 -- what a reading takes fits
 pub fits_back : (items left : List Item) (symbol : Symbol) (symbols : List Symbol) →

@@ -1,6 +1,6 @@
 -- A tree with the shape of the grammar is read from its first event to its last.
-use Rattle.std.proofs.Common.{◌≡◌, suc, true, Option, None, List, [], ◌∷◌, ◌++◌, refl, sym, ap, ◌∙◌}
-use Rattle.std.proofs.Common.{subst}
+use Rattle.std.proofs.Common.{arith, ◌≡◌, suc, true, Option, None, List, [], ◌∷◌, ◌++◌, refl, sym}
+use Rattle.std.proofs.Common.{ap, ◌∙◌, subst}
 use Rattle.md_tree.proofs.Common.{Point, Name, Event, Symbol, Role, Flow, State, Forest, Empty}
 use Rattle.md_tree.proofs.Common.{Node, flatten, standing_of, spine, shown, Matches, Claim}
 use Rattle.md_tree.proofs.Common.{EachNode, last_symbol, place, target_after, target_of, mention_of}
@@ -40,14 +40,7 @@ pub Runs-nodes : (holds : Reads) → AllowsFree holds → (forest : Forest) (fro
     (end : State) → EachNode (IsFine holds) forest from.state.role from.state.before →
     Feeds from.state (spine forest) end →
     Runs holds (flatten forest) from (after_nodes forest end from)
-Runs-nodes holds free Empty from end fine feeds =
-    ap (λ (s : State). record {
-      state = s;
-      target = from.target;
-      open_nodes = from.open_nodes;
-      count = from.count;
-      mentions = from.mentions;
-    }) feeds
+Runs-nodes holds free Empty from end fine feeds = grind arith
 Runs-nodes holds free (Node name start stop children rest) from end fine feeds =
     let st = standing_of name in
     let parts = Feeds-split from.state end (shown st _) (spine rest) feeds in
@@ -80,11 +73,8 @@ pub EachNode-map : (P Q : Claim) →
     (forest : Forest) (around : Role) (before : Option Symbol) → EachNode P forest around before →
     EachNode Q forest around before
 EachNode-map P Q f Empty around before each = tt
-EachNode-map P Q f (Node name start end children rest) around before each = (
-  f around before name start end children each.0,
-  EachNode-map P Q f children _ _ each.1,
-  EachNode-map P Q f rest around _ each.2,
-)
+EachNode-map P Q f (Node name start end children rest) around before each =
+    grind (arith, EachNode-map P Q f children _ _ each.1, EachNode-map P Q f rest around _ each.2)
 
 -- a document that is fine is read to an end
 pub Runs-document : (holds : Reads) → AllowsFree holds → (forest : Forest) →
