@@ -70,12 +70,7 @@ module _ (holds ending : Reads) (name : Name) (start end : Point) (children : Fo
       Enters (Solid symbol usual reading) → Closes (Solid symbol usual reading)
   closed_solid symbol usual reading e =
       let role = role_for here.role here.before usual in
-      let m = option_map-some (λ (next : State). record {
-        state = start_of role;
-        target = Missing;
-        outer =
-            Some (record { state = next; before = here.before; target = found; reading = reading });
-      }) _ _ e in
+      let m = option_map-some _ _ _ e in
       let next = m.0 in
       let base_is : start_of role ≡ base = ap Entry.state m.2 in
       let inner_is : Missing ≡ inner = ap Entry.target m.2 in
@@ -85,11 +80,8 @@ module _ (holds ending : Reads) (name : Name) (start end : Point) (children : Fo
       target ∙ ap (target_of children) (sym inner_is) in
       record {
         apart = not_childless here.role may;
-        shaped = matches_feeds role _ last.state
-            (subst (λ s. Feeds s (spine children) last.state) (sym base_is) feeds) exit.0;
-        read = subst (λ r. ending reading r here.before start end (target_of children Missing))
-            (advance_role here next symbol m.1).0
-            (subst (λ t. ending reading next.role here.before start end t) target_here exit.1);
+        shaped = matches_feeds role _ last.state (rw (← base_is) at feeds) exit.0;
+        read = rw (← (advance_role here next symbol m.1).0, ← target_here) exit.1;
         feeds = (next, m.1, ap Course.state (sym exit.2));
         target_is = ap Course.target exit.2
             ∙ ap (λ t. target_at reading found t (place start end)) target_here;

@@ -7,8 +7,7 @@ use Rattle.md_tree.proofs.Common.{EntersAt, length_one}
 use Rattle.md_base.specs.declared.event.Name.TheVariants.{Definition}
 use Rattle.md_base.specs.NameTests.{is_link_definition}
 use Rattle.md_pattern.specs.Partners.{definition_entries}
-use Rattle.md_tree.proofs.Entering.{get_at}
-use Rattle.md_tree.proofs.Placing.{at_entry, in_node, after_node, length_events}
+use Rattle.md_tree.proofs.Placing.{got_entry, in_node, after_node, length_events}
 
 own_definition : (events : List Event) (index : ℕ) (name : Name) (start : Point) →
     slice_get events index ≡ Some (entering name start) →
@@ -35,9 +34,8 @@ all_definitions events (Node name start end children rest) index seen later e sa
     let own = cond (is_link_definition name) (index ∷ []) [] in
     let one = length_one seen first ∙ ap suc e in
     let inside = length_events children (suc index) (seen ++ first ∷ []) one in
-    let there : slice_get events index ≡ Some first = ap (λ es. slice_get es index)
-    (at_entry events seen inner (flatten rest) later first last same)
-    ∙ get_at seen (inner ++ (last ∷ (flatten rest ++ later))) first index e in
+    let there =
+    got_entry events seen inner (flatten rest) later first last same index e in
     All-append holds (definition_entries (suc index) children)
     (own ++ definition_entries (suc exit) rest)
     (all_definitions events children (suc index) (seen ++ first ∷ []) (last

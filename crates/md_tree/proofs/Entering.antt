@@ -4,19 +4,18 @@ use Rattle.std.proofs.Common.{◌≡◌, ℕ, suc, ◌+◌, ◌<◌, true, cond,
 use Rattle.std.proofs.Common.{length, get_or, refl, sym, ap, ◌∙◌, subst, append_assoc, append-nil}
 use Rattle.std.proofs.Common.{arith}
 use Rattle.md_tree.proofs.Common.{slice_get_within, map, option_map, slice_get, All, get_or-map}
-use Rattle.md_tree.proofs.Common.{map-append, length-map, All-cons, All-append, All-nil}
-use Rattle.md_tree.proofs.Common.{slice_get-get_or, slice_get-map, get_or_from_slice_get, AlignKind}
-use Rattle.md_tree.proofs.Common.{Point, Name, Enter, Event, Fact, Forest, Empty, Node, flatten}
-use Rattle.md_tree.proofs.Common.{entering, is_table, alignments, Handed, EntersAt, children_of}
-use Rattle.md_tree.proofs.Common.{IsEnteredAt, EntersNode, index_after, partner_alone, tables_with}
-use Rattle.md_tree.proofs.Common.{tables_after, fact_at, facts_of, facts_at, tables_at}
-use Rattle.md_tree.proofs.Common.{facts-flatten}
+use Rattle.md_tree.proofs.Common.{map-append, length-map, slice_get-get_or, slice_get-map}
+use Rattle.md_tree.proofs.Common.{get_or_from_slice_get, AlignKind, Point, Name, Enter, Event, Fact}
+use Rattle.md_tree.proofs.Common.{Forest, Empty, Node, flatten, entering, is_table, alignments}
+use Rattle.md_tree.proofs.Common.{Handed, EntersAt, children_of, IsEnteredAt, EntersNode}
+use Rattle.md_tree.proofs.Common.{index_after, partner_alone, tables_with, tables_after, fact_at}
+use Rattle.md_tree.proofs.Common.{facts_of, facts_at, tables_at, facts-flatten}
 use Rattle.md_pattern.specs.Partners.{partners_of}
 use Rattle.md_pattern.specs.Columns.{tables_of}
 use Rattle.md_pattern.proofs.CountedFacts.{length_table, length_tables}
 use Rattle.md_pattern.proofs.Passing.{tables-flatten}
-use Rattle.md_tree.proofs.EventRows.{rows_all, Row, entry_row, exit_row, rows_of, event_rows}
-use Rattle.md_tree.proofs.EventRows.{children_rows, fact_rows, numbered_rows, numbered_get}
+use Rattle.md_tree.proofs.EventRows.{rows_all, Row, entry_row, rows_of, event_rows, children_rows}
+use Rattle.md_tree.proofs.EventRows.{fact_rows, numbered_rows, numbered_get}
 
 -- what is found at an entry, with the alignments of the tables
 abbrev pub IsFound : List (List AlignKind) → Row → Type 0
@@ -29,8 +28,7 @@ IsFound ended row =
 pub get_at : {A : Type 0} (xs ys : List A) (y : A) (n : ℕ) → length xs ≡ n →
     slice_get (xs ++ y ∷ ys) n ≡ Some y
 get_at [] ys y n e = subst (λ i. slice_get (y ∷ ys) i ≡ Some y) e refl
-get_at (x ∷ xs) ys y n e =
-    subst (λ i. slice_get (x ∷ (xs ++ y ∷ ys)) i ≡ Some y) e (get_at xs ys y _ refl)
+get_at (x ∷ xs) ys y n e = grind (arith, get_at xs)
 
 table_there : (name : Name) (before later : List (List AlignKind)) (own : List AlignKind) (n : ℕ) →
     length before ≡ n → is_table name ≡ true →
@@ -43,40 +41,28 @@ entry_found : (ended : List (List AlignKind)) (index tables : ℕ) (name : Name)
     IsFound ended (entry_row index tables name (entering name start) children)
 entry_found ended index tables name start children there other e = grind arith
 
-rows_found : (ended before later : List (List AlignKind)) (forest : Forest) (index tables : ℕ) →
-    length before ≡ tables → ended ≡ before ++ (tables_of forest ++ later) →
-    All (IsFound ended) (rows_of index tables forest)
-rows_found ended before later Empty index tables e is = All-nil (IsFound ended)
-rows_found ended before later (Node name start end children rest) index tables e is =
-    let inner = tables_of children in
+-- the tables of some nodes, after as many others
+abbrev HasTables : List (List AlignKind) → ℕ → ℕ → Forest → Type 0
+HasTables ended index tables nodes =
+    (before : List (List AlignKind)) × (later : List (List AlignKind)) × (length before ≡ tables)
+    × (ended ≡ before ++ (tables_of nodes ++ later))
+
+rows_found : (ended : List (List AlignKind)) (forest : Forest) (index tables : ℕ) →
+    HasTables ended index tables forest → All (IsFound ended) (rows_of index tables forest)
+rows_found ended = rows_all (IsFound ended) (HasTables ended)
+    (λ index tables name start end children rest holds.
+    let before = holds.0 ++ tables_of children in
     let own = cond (is_table name) (alignments children ∷ []) [] in
-    let after_rest = tables_of rest in
-    let exit = index_after (suc index) children in
-    let more = tables_with name (tables_after tables children) in
-    let entry : Row = entry_row index tables name (entering name start) children in
-    let last : Row = exit_row exit index name start end in
-    let last_found : IsFound ended last = λ other none. cc in
-    let is_inside : ended ≡ before ++ (inner ++ (own ++ (after_rest ++ later))) =
-    is ∙ ap (λ ts. before ++ ts) (append_assoc inner (own ++ after_rest) later
-    ∙ ap (λ ts. inner ++ ts) (append_assoc own after_rest later)) in
-    let is_own : ended ≡ (before ++ inner) ++ (own ++ (after_rest ++ later)) = is_inside
-    ∙ sym (append_assoc before inner (own ++ (after_rest ++ later))) in
-    let is_rest : ended ≡ ((before ++ inner) ++ own) ++ (after_rest ++ later) = is_own
-    ∙ sym (append_assoc (before ++ inner) own (after_rest ++ later)) in
-    let counted = length_tables children tables before e in
-    let there : is_table name ≡ true →
-    slice_get ended (tables_after tables children) ≡ Some (alignments children) =
-    λ is. ap (λ ts. slice_get ts (tables_after tables children)) is_own
-    ∙ table_there name (before ++ inner) (after_rest ++ later) (alignments children)
-    (tables_after tables children) counted is in
-    All-cons (IsFound ended) entry (rows_of (suc index) tables children ++ last
-    ∷ rows_of (suc exit) more rest) (entry_found ended index tables name start children there)
-    (All-append (IsFound ended) (rows_of (suc index) tables children) (last
-    ∷ rows_of (suc exit) more rest) (rows_found ended before (own
-    ++ (after_rest ++ later)) children (suc index) tables e is_inside)
-    (All-cons (IsFound ended) last (rows_of _ more rest) last_found
-    (rows_found ended ((before ++ inner) ++ own) later rest (suc exit) more (length_table name
-    _ _ _ counted) is_rest)))
+    let after = tables_of rest ++ holds.1 in
+    let counted = length_tables children tables holds.0 holds.2 in
+    let is_own : ended ≡ before ++ (own ++ after) = holds.3 ∙ simp append_assoc in (
+      entry_found ended index tables name start children
+          (λ is. ap (λ ts. slice_get ts (tables_after tables children)) is_own
+          ∙ table_there name before after (alignments children) _ counted is),
+      λ other none. cc,
+      (holds.0, own ++ after, holds.2, holds.3 ∙ simp append_assoc),
+      (before ++ own, holds.1, length_table name _ _ _ counted, holds.3 ∙ simp append_assoc),
+    ))
 
 -- an entry has children
 abbrev HasChildren : Row → Type 0
@@ -199,7 +185,7 @@ module _ (given : Handed) (index : ℕ) (name : Name)
       let fact_is : row.fact ≡ fact = got_mapped (λ (r : Row). r.fact) rows
       _ index past_row fact (fact_rows forest 0 0
       ∙ sym (facts-flatten forest given.events entered.1)) inside got in
-      let there = rows_found ended [] [] forest 0 0 refl is_ended index past_row inside
+      let there = rows_found ended forest 0 0 ([], [], refl, is_ended) index past_row inside
       children children_are in (
         there.0,
         sym fact_is ∙ there.1 ∙ ap (λ i. fact_at i there.0 row.event.name children) index_is

@@ -1,10 +1,10 @@
 -- In a settled pattern, the first item that takes a symbol is the right one.
 use Rattle.std.proofs.Common.{◌≡◌, ℕ, Bool, true, false, not, ◌||◌, Some, List, [], ◌∷◌, ◌++◌}
 use Rattle.std.proofs.Common.{length, refl, sym, arith}
-use Rattle.md_tree.proofs.Common.{list_all, Symbol, Item, Once, Maybe, Many, class_of, takes, Fits}
+use Rattle.md_tree.proofs.Common.{list_all, Symbol, Item, Maybe, Many, class_of, takes, Fits}
 use Rattle.md_tree.proofs.Common.{IsCount, is_optional}
 use Rattle.md_tree.proofs.SettledPatterns.{is_many, and_left, and_right, only_many, settled}
-use Rattle.md_tree.proofs.SettledPatterns.{only_many_after, and_both}
+use Rattle.md_tree.proofs.SettledPatterns.{only_many_after}
 use Rattle.md_tree.proofs.TakenFits.{kept, left_after}
 
 many_taken : (item : Item) (taken : Bool) → taken ≡ true →
@@ -42,14 +42,10 @@ fits_here : (item : Item) (items : List Item) (symbol : Symbol) (symbols own oth
     takes (class_of item) symbol ≡ true → settled (item ∷ items) ≡ true →
     symbol ∷ symbols ≡ own ++ others → list_all (takes (class_of item)) own ≡ true →
     IsCount item (length own) → Fits items others → Fits (kept item items) symbols
-fits_here (Many class) items symbol symbols [] others taken ok e all count fit =
-    grind (arith, one_less, only_many_after, and_left)
 fits_here (Many class) items symbol symbols (first ∷ own) others taken ok e all count fit =
     (own, others, (cc), and_right _ _ all, tt, fit)
-fits_here (Maybe class) items symbol symbols [] others taken ok e all count fit =
+fits_here item items symbol symbols [] others taken ok e all count fit =
     grind (arith, one_less, only_many_after, and_left)
-fits_here (Once class) items symbol symbols [] others taken ok e all count fit =
-    absurd (omega arith)
 fits_here item items symbol symbols (first ∷ own) others taken ok e all count fit =
     rw (no_more own others symbols (omega arith) (cc)) at fit
 
@@ -65,22 +61,13 @@ pub record GoesOn (items : List Item) (symbol : Symbol) (symbols : List Symbol) 
   pub fits : Fits left symbols
   pub ok : settled left ≡ true
 
-skips : (item : Item) (items : List Item) (symbol : Symbol) (symbols : List Symbol) →
-    takes (class_of item) symbol ≡ false → IsCount item 0 → GoesOn items symbol symbols →
-    GoesOn (item ∷ items) symbol symbols
-skips (Once class) items symbol symbols t count on = absurd (omega arith)
-skips item items symbol symbols t count on = grind arith
-
 fits_past : (item : Item) (items : List Item) (symbol : Symbol) (symbols own others : List Symbol) →
     takes (class_of item) symbol ≡ false → symbol ∷ symbols ≡ own ++ others →
     list_all (takes (class_of item)) own ≡ true → IsCount item (length own) → Fits items others →
     (Fits items (symbol ∷ symbols) → GoesOn items symbol symbols) →
     GoesOn (item ∷ items) symbol symbols
-fits_past item items symbol symbols [] others t e all count fit again =
-    skips item items symbol symbols t count (again (rw e fit))
-fits_past item items symbol symbols (first ∷ own) others t e all count fit again =
-    let same : first ≡ symbol = cc in
-    let taken : takes (class_of item) symbol ≡ true = rw (← same) (and_left _ _ all) in cc
+fits_past item items symbol symbols [] others t e all count fit again = grind arith
+fits_past item items symbol symbols (first ∷ own) others t e all count fit again = grind arith
 
 fits_on_taken : (item : Item) (items : List Item) (symbol : Symbol) (symbols : List Symbol) →
     settled (item ∷ items) ≡ true → Fits (item ∷ items) (symbol ∷ symbols) →
@@ -99,22 +86,14 @@ fits_on_taken item items symbol symbols ok fit again false t =
 pub fits_on : (items : List Item) (symbol : Symbol) (symbols : List Symbol) → settled items ≡ true →
     Fits items (symbol ∷ symbols) → GoesOn items symbol symbols
 fits_on [] symbol symbols ok fit = cc
-fits_on (item ∷ items) symbol symbols ok fit =
-    fits_on_taken item items symbol symbols ok fit
-    (fits_on items symbol symbols (and_right _ _ ok)) _ refl
+fits_on (item ∷ items) symbol symbols ok fit = grind (arith, fits_on items, fits_on_taken)
 
 all_out : (item : Item) (items : List Item) (own others : List Symbol) → [] ≡ own ++ others →
     IsCount item (length own) → Fits items others →
     (Fits items [] → list_all is_optional items ≡ true) → list_all is_optional (item ∷ items) ≡ true
-all_out item items [] others e count fit again =
-    and_both _ _ (optional item count) (again (rw e fit))
-  where
-    optional : (item : Item) → IsCount item 0 → is_optional item ≡ true
-    optional (Once class) c = absurd (omega arith)
-    optional _ c = refl
+all_out item items [] others e count fit again = grind arith
 all_out item items (x ∷ own) others e count fit again = cc
 
 pub nothing_fits : (items : List Item) → Fits items [] → list_all is_optional items ≡ true
 nothing_fits [] fit = refl
-nothing_fits (item ∷ items) fit =
-    all_out item items fit.0 fit.1 fit.2 fit.4 fit.5 (nothing_fits items)
+nothing_fits (item ∷ items) fit = grind (arith, nothing_fits items, all_out)

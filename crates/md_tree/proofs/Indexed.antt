@@ -15,8 +15,8 @@ use Rattle.md_tree.proofs.Common.{position_ended, ExitsAt, positions_of, has_rea
 use Rattle.md_tree.proofs.Common.{is_identifier, length_one, facts-flatten}
 use Rattle.md_tree.proofs.EventRows.{rows_all, Steps, Row, rows_of, event_rows, fact_rows}
 use Rattle.md_tree.proofs.EventRows.{position_rows}
-use Rattle.md_tree.proofs.Entering.{get_at, got_inside, got_mapped, mapped_long}
-use Rattle.md_tree.proofs.Placing.{at_entry, in_node, after_node, length_events}
+use Rattle.md_tree.proofs.Entering.{got_inside, got_mapped, mapped_long}
+use Rattle.md_tree.proofs.Placing.{got_entry, in_node, after_node, length_events}
 use Rattle.md_tree.proofs.OneTree.{flatten_one}
 
 -- ---- rows
@@ -67,9 +67,8 @@ rows_ended bytes names is text have events forest lies =
         let inner = flatten children in
         let one = length_one seen first ∙ ap suc holds.5 in
         let inside = length_events children (suc index) (seen ++ first ∷ []) one in
-        let there : slice_get events index ≡ Some first = ap (λ es. slice_get es index)
-        (at_entry events seen inner (flatten rest) later first last same)
-        ∙ get_at seen _ first index holds.5 in (
+        let there =
+        got_entry events seen inner (flatten rest) later first last same index holds.5 in (
           λ exits. cc,
           λ exits. (
             place start end,

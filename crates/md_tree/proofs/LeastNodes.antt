@@ -1,14 +1,12 @@
 -- The least node of each symbol that must be there, or that ends a group, has the shape of the
 -- grammar.
-use Rattle.std.proofs.Common.{arith, ◌≡◌, ◌≢◌, Bool, true, false, Option, List, [], ◌∷◌, ◌++◌, cond}
-use Rattle.std.proofs.Common.{subst, refl, ap, ◌∙◌}
+use Rattle.std.proofs.Common.{arith, ◌≡◌, ◌≢◌, Bool, true, false, Option, List, [], ◌∷◌, cond, refl}
 use Rattle.md_tree.proofs.Common.{list_all, Point, Name, Symbol, Role, Forest, Empty, Node, spine}
-use Rattle.md_tree.proofs.Common.{IsShapedNode, AreShaped, start_of, may_hold, Matches}
+use Rattle.md_tree.proofs.Common.{AreShaped, start_of, may_hold, Matches}
 use Rattle.md_base.specs.declared.event.Name.TheVariants as name
 use Rattle.md_pattern.specs.declared.kinds.Symbol.TheVariants as symbol
 use Rattle.md_pattern.specs.declared.kinds.Role.TheVariants as role
 use Rattle.md_pattern.specs.Shape.{item_in, prefix_in, label_in, code_fence_after, math_fence_after}
-use Rattle.md_tree.proofs.SettledPatterns.{and_left, and_right}
 use Rattle.md_tree.proofs.OpenPaths.{joined, spine-joined, EachNode-joined}
 use Rattle.md_tree.proofs.ClosedNodes.{not_childless}
 use Rattle.md_tree.proofs.EndsAfter.{ends_after, matches_after}
@@ -145,16 +143,11 @@ nodes_of (one ∷ symbols) = joined (least one) (nodes_of symbols)
 pub nodes_spine : (symbols : List Symbol) → list_all has_least symbols ≡ true →
     spine (nodes_of symbols) ≡ symbols
 nodes_spine [] e = refl
-nodes_spine (one ∷ symbols) e =
-    spine-joined (least one) (nodes_of symbols) ∙ ap (λ s. s ++ spine (nodes_of symbols)) (subst
-    (λ b. cond b (spine (least one)) (one ∷ []) ≡ one ∷ []) (and_left _ _ e)
-    (least_spine one)) ∙ ap (λ s. one ∷ s) (nodes_spine symbols (and_right _ _ e))
+nodes_spine (one ∷ symbols) e = grind (arith, nodes_spine symbols, spine-joined, least_spine)
 
 pub nodes_shaped : (symbols : List Symbol) (around : Role) (before : Option Symbol) →
     around ≢ role.Childless →
     list_all has_least symbols ≡ true → AreShaped (nodes_of symbols) around before
 nodes_shaped [] around before apart e = tt
 nodes_shaped (one ∷ symbols) around before apart e =
-    EachNode-joined IsShapedNode (least one) (nodes_of symbols) around before
-    (least_shaped one around before apart (and_left _ _ e)) (nodes_shaped symbols around _ apart
-    (and_right _ _ e))
+    grind (arith, nodes_shaped symbols, EachNode-joined, least_shaped)

@@ -3,10 +3,8 @@
 use Rattle.std.proofs.Common.{◌≡◌, ℕ, suc, ◌+◌, Some, List, [], ◌∷◌, ◌++◌, refl, sym, ap, ◌∙◌}
 use Rattle.std.proofs.Common.{append_assoc, append-nil, arith}
 use Rattle.md_tree.proofs.Common.{slice_get, All, All-cons, All-nil, All-head, All-tail, Mention}
-use Rattle.md_tree.proofs.Common.{Nothing, Definition, FootnoteDefinition, Mentioned, Missing}
-use Rattle.md_tree.proofs.Common.{Forest, Empty, Node, standing_of, reading_of, target_of}
-use Rattle.md_tree.proofs.Common.{index_after, mention_of, mentions_of, mentions_with}
-use Rattle.md_tree.proofs.Common.{mentions_among, identifier_at, defined, footnoted, IsResolved}
+use Rattle.md_tree.proofs.Common.{Nothing, Mentioned, Forest, Empty, Node, index_after, mentions_of}
+use Rattle.md_tree.proofs.Common.{mentions_with, mentions_among, defined, footnoted, IsResolved}
 use Rattle.md_tree.proofs.NodesRead.{mentions_over}
 
 -- those of these mentions that are of something, where the first is of the event at an index
@@ -26,14 +24,7 @@ over_listed : (forest : Forest) (index : ℕ) (before : List Mentioned) (later :
     ++ listed index (mentions_of forest ++ later)
 over_listed Empty index before later = refl
 over_listed (Node name start end children rest) index before later =
-    let exit = index_after (suc index) children in
-    let mention = mention_of (reading_of (standing_of name)) (target_of children Missing) in
-    let inner = mentions_over (suc index) children before in
-    let after_it = mentions_of rest ++ later in
-    over_listed rest (suc exit) (mentions_with exit mention inner) later
-    ∙ with_listed mention exit inner after_it ∙ over_listed children _ before (mention ∷ after_it)
-    ∙ ap (λ ms. before ++ listed (suc index) ms)
-    (sym (append_assoc (mentions_of children) (mention ∷ mentions_of rest) later))
+    grind (arith, over_listed rest, over_listed children, with_listed, append_assoc)
 
 -- a document's mentions
 pub mentions_over-listed : (forest : Forest) →
@@ -46,16 +37,12 @@ mentions_over-listed forest =
 pub defined_listed : (bytes : List ℕ) (mentions : List Mention) (index : ℕ) →
     defined bytes (mentions_among (listed index mentions)) ≡ defined bytes mentions
 defined_listed bytes [] index = refl
-defined_listed bytes (Definition label ∷ mentions) index =
-    ap (λ others. identifier_at bytes label ∷ others) (defined_listed bytes mentions _)
-defined_listed bytes (_ ∷ mentions) index = defined_listed bytes mentions (suc index)
+defined_listed bytes (_ ∷ mentions) index = grind (arith, defined_listed bytes mentions)
 
 pub footnoted_listed : (bytes : List ℕ) (mentions : List Mention) (index : ℕ) →
     footnoted bytes (mentions_among (listed index mentions)) ≡ footnoted bytes mentions
 footnoted_listed bytes [] index = refl
-footnoted_listed bytes (FootnoteDefinition label ∷ mentions) index =
-    ap (λ others. identifier_at bytes label ∷ others) (footnoted_listed bytes mentions _)
-footnoted_listed bytes (_ ∷ mentions) index = footnoted_listed bytes mentions (suc index)
+footnoted_listed bytes (_ ∷ mentions) index = grind (arith, footnoted_listed bytes mentions)
 
 resolved_same : (bytes : List ℕ) (some others : List Mention) (mention : Mention) →
     defined bytes some ≡ defined bytes others → footnoted bytes some ≡ footnoted bytes others →
@@ -75,14 +62,9 @@ all_listed P none [] index all = All-nil P
 all_listed P none (Nothing ∷ mentions) index all = All-cons P Nothing mentions none
     (all_listed P none mentions (suc index) all)
 all_listed P none (mention ∷ mentions) index all =
-    grind (
-      arith,
-      all_listed P none mentions (suc index) (All-tail P mention (mentions_among (listed
-          (suc index) mentions)) all),
-      All-cons,
-      All-head,
-      All-tail,
-    )
+    let later = mentions_among (listed (suc index) mentions) in
+    All-cons P mention mentions (All-head P mention later all)
+    (all_listed P none mentions (suc index) (All-tail P mention later all))
 
 pub all-resolved : (bytes : List ℕ) (mentions : List Mention) →
     All (IsResolved bytes (mentions_among (listed 0 mentions)))
@@ -121,10 +103,8 @@ got_cons mention mentions index at one later e = grind (arith, got_first, got_la
 got_listed : (mentions : List Mention) (index at : ℕ) (one : Mentioned) →
     slice_get (listed index mentions) at ≡ Some one → GotListed mentions index one
 got_listed [] index at one e = cc
-got_listed (Nothing ∷ mentions) index at one e = got_later Nothing mentions index one
-    (got_listed mentions _ at one e)
-got_listed (mention ∷ mentions) index at one e = got_cons mention mentions index at one
-    (λ k f. got_listed mentions (suc index) k one f) e
+got_listed (Nothing ∷ mentions) index at one e = grind (arith, got_listed mentions, got_later)
+got_listed (mention ∷ mentions) index at one e = grind (arith, got_listed mentions, got_cons)
 
 pub got-listed : (mentions : List Mention) (at : ℕ) (one : Mentioned) →
     slice_get (listed 0 mentions) at ≡ Some one → slice_get mentions one.index ≡ Some one.mention

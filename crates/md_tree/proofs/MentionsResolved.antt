@@ -1,49 +1,28 @@
 -- The target of a mention: the first definition with its identifier, or none.
-use Rattle.std.proofs.Common.{arith, ◌≡◌, ◌⊎◌, ℕ, suc, ◌<◌, true, false, Option, Some, None, List}
-use Rattle.std.proofs.Common.{[], ◌∷◌, length, get_or, inl, inr, true≢false, refl, sym, ap, ◌∙◌}
-use Rattle.std.proofs.Common.{subst}
+use Rattle.std.proofs.Common.{arith, ◌≡◌, ℕ, suc, ◌<◌, true, false, Option, Some, None, List, []}
+use Rattle.std.proofs.Common.{◌∷◌, length, get_or, refl, sym, ◌∙◌, subst}
 use Rattle.std.specs.Prelude.{Bool}
 use Rattle.std.specs.Option.{ok_or}
+use Rattle.std.proofs.lemmas.Slice.Eq.{bytes_eq-Decides}
 use Rattle.md_tree.proofs.Common.{slice_get_within, get_or_from_slice_get, option_map, is_some}
-use Rattle.md_tree.proofs.Common.{if◌then◌else◌, slice_get, Ok, Err, Contains, get_or-map}
-use Rattle.md_tree.proofs.Common.{slice_get-get_or, Position, Mention, Reference, Call, Mentioned}
-use Rattle.md_tree.proofs.Common.{Rule, identifier_at, defined, footnoted, mentions_among}
-use Rattle.md_tree.proofs.Common.{IsResolved, is_same, which, IsUnresolvedBy}
+use Rattle.md_tree.proofs.Common.{slice_get, Ok, Err, Contains, get_or-map, slice_get-get_or}
+use Rattle.md_tree.proofs.Common.{Position, Mention, Reference, Call, Mentioned, Rule}
+use Rattle.md_tree.proofs.Common.{identifier_at, defined, footnoted, mentions_among, IsResolved}
+use Rattle.md_tree.proofs.Common.{which, IsUnresolvedBy}
 use Rattle.md_tree.specs.declared.rule.Rule.TheVariants as rule
 use Rattle.md_tree.specs.Numbers.{IsNowhere, RefersTo}
-use Rattle.md_tree.proofs.OneMoreIdentifier.{Identifier, same-is, same-self}
+use Rattle.md_tree.proofs.OneMoreIdentifier.{Identifier, same-self}
 
 -- ---- the target of a mention
-none_is : (y : Identifier) → Contains [] y → ⊥
-none_is y h = omega (arith, h.1)
-
-first_or_later : (x y : Identifier) (xs : List Identifier) → Contains (x ∷ xs) y →
-    (x ≡ y) ⊎ Contains xs y
-first_or_later x y xs h = grind arith
-
-none_mapped : (o : Option ℕ) → option_map (λ place. suc place) o ≡ None → o ≡ None
-none_mapped o e = grind arith
+got_first_or_later : (x y : Identifier) (xs : List Identifier) (place : ℕ) →
+    ((p : ℕ) → which xs y ≡ Some p → slice_get xs p ≡ Some y) →
+    which (x ∷ xs) y ≡ Some place → slice_get (x ∷ xs) place ≡ Some y
+got_first_or_later x y xs place later e = grind (arith, bytes_eq-Decides)
 
 which_got : (xs : List Identifier) (y : Identifier) (place : ℕ) → which xs y ≡ Some place →
     slice_get xs place ≡ Some y
 which_got [] y place e = cc
-which_got (x ∷ xs) y place e = elim (is_same x y) as (λ b. is_same x y ≡ b → (if b then Some 0
-    else option_map (λ p. suc p) (which xs y)) ≡ Some place → slice_get (x ∷ xs) place ≡ Some y) [
-      | true ↦ λ t h. first (same-is x y t) h
-      | false ↦ λ t h. later _ h (λ p f. which_got xs y p f)
-    ] refl e
-  where
-    first : x ≡ y → Some 0 ≡ Some place → slice_get (x ∷ xs) place ≡ Some y
-    first same h =
-        let none : 0 ≡ place = cc in
-        subst (λ n. slice_get (x ∷ xs) n ≡ Some y) none (ap Some same)
-
-    later : (o : Option ℕ) → option_map (λ p. suc p) o ≡ Some place →
-        ((p : ℕ) → o ≡ Some p → slice_get xs p ≡ Some y) → slice_get (x ∷ xs) place ≡ Some y
-    later None h there = cc
-    later (Some p) h there =
-        let one : suc p ≡ place = cc in
-        subst (λ n. slice_get (x ∷ xs) n ≡ Some y) one (there p refl)
+which_got (x ∷ xs) y place e = got_first_or_later x y xs place (which_got xs y) e
 
 which_there : (xs : List Identifier) (y : Identifier) (place : ℕ) →
     which xs y ≡ Some place → Contains xs y
@@ -52,15 +31,8 @@ which_there xs y place e =
     (place, slice_get_within xs place y got, get_or_from_slice_get xs place y y got)
 
 which_lost : (xs : List Identifier) (y : Identifier) → which xs y ≡ None → Contains xs y → ⊥
-which_lost [] y e h = none_is y h
-which_lost (x ∷ xs) y e h = elim (is_same x y) as (λ b. is_same x y ≡ b → (if b then Some 0
-    else option_map (λ p. suc p) (which xs y)) ≡ None → ⊥) [
-      | true ↦ λ t f. cc
-      | false ↦ λ t f. elim (first_or_later x y xs h) [
-        | inl a ↦ true≢false (sym (same-self x) ∙ ap (λ z. is_same x z) a ∙ t)
-        | inr b ↦ which_lost xs y (none_mapped _ f) b
-      ]
-    ] refl e
+which_lost [] y e h = grind arith
+which_lost (x ∷ xs) y e h = grind (arith, same-self, which_lost xs y)
 
 pub resolved-reference :
     (bytes : List ℕ) (mentions : List Mention) (label : Position) (number : Option ℕ) → number

@@ -62,8 +62,7 @@ fine_meets bytes names forest around before fine = grind (arith, EachNode-map, u
 pub fine_path_shaped : (holds : Reads) (path : List Level) →
     IsFinePath holds path → IsShapedPath path
 fine_path_shaped holds [] fine = tt
-fine_path_shaped holds (level ∷ path) fine =
-    grind (arith, fine_path_shaped holds path fine.1, fine_shaped)
+fine_path_shaped holds (level ∷ path) fine = grind (arith, fine_path_shaped holds path, fine_shaped)
 
 pub free_anything : AllowsFree Anything
 free_anything around before start end target = tt

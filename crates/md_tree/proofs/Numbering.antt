@@ -8,8 +8,8 @@ use Rattle.std.specs.BTreeMap.{UpdatesBy}
 use Rattle.std.proofs.lemmas.List.{at_drop_more}
 use Rattle.md_tree.proofs.Common.{option_map, if◌then◌else◌, slice_get, Position, Fact, Mention}
 use Rattle.md_tree.proofs.Common.{Definition, FootnoteDefinition, Mentioned, defined, defined_by}
-use Rattle.md_tree.proofs.Common.{footnoted_by, mentions_among, is_same, which, with_number}
-use Rattle.md_tree.proofs.Common.{put_number, numbered, NumbersFrom, IdentifiersBefore}
+use Rattle.md_tree.proofs.Common.{footnoted_by, mentions_among, is_same, which, put_number}
+use Rattle.md_tree.proofs.Common.{numbered, NumbersFrom, IdentifiersBefore}
 use Rattle.md_tree.specs.Numbers.{found_in}
 use Rattle.md_tree.proofs.OneMoreIdentifier.{Text, Identifier, identifier_of, text_cmp, Numbered}
 use Rattle.md_tree.proofs.OneMoreIdentifier.{Known, compared}
@@ -77,24 +77,17 @@ footnoted_by-other bytes mention others no_such = grind arith
 pub put-none : (facts : List Fact) (index number : ℕ) → number ≡ 0 →
     put_number index number facts ≡ facts
 put-none [] index number none = refl
-put-none (fact ∷ facts) zero number none = ap (λ n. with_number n fact ∷ facts) none
-put-none (fact ∷ facts) (suc index) number none =
-    ap (λ fs. fact ∷ fs) (put-none facts index number none)
+put-none (fact ∷ facts) index number none = grind (arith, put-none facts)
 
 pub put-past : (facts : List Fact) (index number : ℕ) → length facts ≤ index →
     put_number index number facts ≡ facts
 put-past [] index number past = refl
-put-past (fact ∷ facts) zero number past = absurd (omega (arith, past))
-put-past (fact ∷ facts) (suc index) number past =
-    let lower : length facts ≤ index = omega (arith, past) in
-    ap (λ fs. fact ∷ fs) (put-past facts index number lower)
+put-past (fact ∷ facts) index number past = grind (arith, put-past facts)
 
 pub put-nowhere : (facts : List Fact) (index number : ℕ) → slice_get facts index ≡ None →
     put_number index number facts ≡ facts
 put-nowhere [] index number none = refl
-put-nowhere (fact ∷ facts) zero number none = cc
-put-nowhere (fact ∷ facts) (suc index) number none =
-    ap (λ fs. fact ∷ fs) (put-nowhere facts index number none)
+put-nowhere (fact ∷ facts) index number none = grind (arith, put-nowhere facts)
 
 pub put-set : (facts : List Fact) (index number : ℕ) (fact : Fact) →
     slice_get facts index ≡ Some fact → 0 < number →

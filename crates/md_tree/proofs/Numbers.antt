@@ -1,15 +1,13 @@
 -- What is kept of a document's events: what is found at them, with a number at each
 -- exit of a mention.
 use Rattle.std.proofs.Common.{arith, ◌≡◌, ℕ, zero, suc, true, Option, Some, List, [], ◌∷◌, ◌++◌}
-use Rattle.std.proofs.Common.{length, refl, sym, ap, subst}
+use Rattle.std.proofs.Common.{length, refl, sym, subst}
 use Rattle.md_tree.proofs.Common.{map, slice_get, option_map, Name, Enter, Exit, Event, Fact}
-use Rattle.md_tree.proofs.Common.{index_after, facts_at, facts_of, fact_at, partner_alone}
-use Rattle.md_tree.proofs.Common.{tables_with, tables_after, facts-flatten, standing_of, Forest}
-use Rattle.md_tree.proofs.Common.{Empty, Node, flatten, entering, exiting, lie, Referral, Missing}
-use Rattle.md_tree.proofs.Common.{Mention, Nothing, reading_of, target_of, partner_event}
-use Rattle.md_tree.proofs.Common.{position_there, position_at, position_ended, mention_of}
-use Rattle.md_tree.proofs.Common.{mentions_of, with_number, number_for, facts_with, place_of}
-use Rattle.md_tree.proofs.Common.{definition_for, is_of_definitions}
+use Rattle.md_tree.proofs.Common.{facts_at, facts_of, facts-flatten, standing_of, Forest, Empty}
+use Rattle.md_tree.proofs.Common.{Node, flatten, lie, Referral, Mention, Nothing, reading_of}
+use Rattle.md_tree.proofs.Common.{partner_event, position_there, position_at, position_ended}
+use Rattle.md_tree.proofs.Common.{mention_of, mentions_of, with_number, number_for, facts_with}
+use Rattle.md_tree.proofs.Common.{place_of, definition_for, is_of_definitions}
 use Rattle.md_base.specs.declared.event.Name.TheVariants.{Link, Image}
 
 -- ---- what doesn't change by numbers
@@ -41,8 +39,7 @@ at-with events numbers facts index = grind (arith, there-with)
 pub length-with : (numbers : List ℕ) (facts : List Fact) →
     length (facts_with numbers facts) ≡ length facts
 length-with [] facts = refl
-length-with (number ∷ numbers) [] = refl
-length-with (number ∷ numbers) (fact ∷ facts) = ap suc (length-with numbers facts)
+length-with (number ∷ numbers) facts = grind (arith, length-with numbers)
 
 -- ---- events, facts and mentions of a document, one beside another
 
@@ -62,27 +59,14 @@ AreRecorded _ _ _ = ⊥
 recorded_append : (xs ys : List Event) (fs gs : List Fact) (ms ns : List Mention) →
     AreRecorded xs fs ms → AreRecorded ys gs ns → AreRecorded (xs ++ ys) (fs ++ gs) (ms ++ ns)
 recorded_append [] ys [] gs [] ns one two = two
-recorded_append (x ∷ xs) ys (f ∷ fs) gs (m ∷ ms) ns one two =
-    (one.0, recorded_append xs ys fs gs ms ns one.1 two)
+recorded_append (x ∷ xs) ys (f ∷ fs) gs (m ∷ ms) ns one two = grind (arith, recorded_append xs)
 recorded_append _ ys _ gs _ ns one two = absurd one
 
 recorded : (forest : Forest) (index tables : ℕ) →
     AreRecorded (flatten forest) (facts_of index tables forest) (mentions_of forest)
 recorded Empty index tables = tt
 recorded (Node name start end children rest) index tables =
-    let exit = index_after (suc index) children in
-    let more = tables_with name (tables_after tables children) in
-    let entry_recorded : IsRecorded (entering name start) (fact_at index tables name children)
-    Nothing =
-    (λ e. refl, λ e. cc) in
-    let exit_recorded : IsRecorded (exiting name end) (partner_alone index)
-    (mention_of (reading_of (standing_of name)) (target_of children Missing)) =
-    (λ e. cc, λ e. (refl, (target_of children Missing, refl))) in (
-      entry_recorded,
-      recorded_append (flatten children) (exiting name end ∷ flatten rest)
-          (facts_of _ tables children) _ _ _
-          (recorded children _ tables) (exit_recorded, recorded rest _ more),
-    )
+    grind (arith, recorded children, recorded rest, recorded_append)
 
 -- the three at an index
 abbrev pub RecordedAt : List Event → List Fact → List Mention → ℕ → Event → Type 0
@@ -93,15 +77,11 @@ RecordedAt events facts mentions index event =
 recorded_at : (events : List Event) (facts : List Fact) (mentions : List Mention) (index : ℕ)
     (event : Event) → AreRecorded events facts mentions → slice_get events index ≡ Some event →
     RecordedAt events facts mentions index event
-recorded_at [] facts mentions index event all e = cc
 recorded_at (x ∷ events) (f ∷ facts) (m ∷ mentions) zero event all e =
-    let same : x ≡ event = cc in
-    subst (λ y. RecordedAt (x ∷ events) (f ∷ facts) (m ∷ mentions) 0 y) same
-    (f, m, refl, refl, all.0)
+    let same : x ≡ event = cc in rw (← same) (f, m, refl, refl, all.0)
 recorded_at (x ∷ events) (f ∷ facts) (m ∷ mentions) (suc index) event all e =
     recorded_at events facts mentions index event all.1 e
-recorded_at (x ∷ events) [] mentions index event all e = absurd all
-recorded_at (x ∷ events) (f ∷ facts) [] index event all e = absurd all
+recorded_at _ _ _ index event all e = grind arith
 
 pub recorded-at : (forest : Forest) (events : List Event) (index : ℕ) (event : Event) →
     flatten forest ≡ events → slice_get events index ≡ Some event →

@@ -18,10 +18,7 @@ module _ (number : Mention → ℕ) (none : number Nothing ≡ 0) where
       numbered number (listed index mentions) facts ≡ facts
   past_listed [] index facts past = refl
   past_listed (mention ∷ mentions) index facts past =
-      let more : length facts ≤ suc index = omega (arith, past) in
-      one_listed mention mentions index facts
-      ∙ ap (λ fs. numbered number (listed (suc index) mentions) fs) (put-past facts index _ past)
-      ∙ past_listed mentions _ facts more
+      grind (arith, past_listed mentions, one_listed, put-past)
 
   put_after : (before facts : List Fact) (n index : ℕ) → length before ≡ index →
       put_number index n (before ++ facts) ≡ before ++ put_number 0 n facts

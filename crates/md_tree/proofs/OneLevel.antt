@@ -1,6 +1,7 @@
 -- What is found on a spine by the symbol of a name: the alignments of each node with it.
+use Rattle.md_tree.proofs.SettledPatterns.{and_right, and_left}
 use Rattle.std.proofs.Common.{arith, ◌≡◌, Bool, true, false, ◌||◌, cond, Option, List, [], ◌∷◌}
-use Rattle.std.proofs.Common.{◌++◌, refl, sym, ap, ◌∙◌}
+use Rattle.std.proofs.Common.{refl}
 use denote.Enum.Bare.{sameb}
 use Rattle.md_tree.proofs.Common.{list_all, list_all-append, the_type, AlignKind, Name}
 use Rattle.md_tree.proofs.Common.{GfmTableDelimiterCellValue, Symbol, Role, Standing, Through}
@@ -11,7 +12,6 @@ use Rattle.md_tree.proofs.Common.{alignments, in_each}
 use Rattle.md_pattern.specs.declared.kinds.Symbol.TheVariants as symbol
 use Rattle.md_base.specs.NameTests.{leads_to_values}
 use Rattle.md_base.specs.Is.{is as is_named}
-use Rattle.md_tree.proofs.SettledPatterns.{and_left, and_right}
 
 -- ---- names by their symbols
 
@@ -75,10 +75,4 @@ module _ (test : Name → Bool) (only : Name) (one : Symbol) (p : Symbol → Boo
   pub level : (forest : Forest) → Level forest
   level Empty around before shaped all = refl
   level (Node name start end children rest) around before shaped all =
-      let st = standing_of name in
-      let both = sym (list_all-append p _ _) ∙ all in
-      let here = any_node name children around before (level children) shaped.0.1 shaped.1
-      (and_left _ _ both) _ refl in
-      let after = level rest around _ shaped.2 (and_right _ _ both) in
-      ap (λ xs. xs ++ alignments rest) here ∙ ap (λ ys. cond (test name) (found children)
-      (cond (is_transparent name) (in_each test found children) []) ++ ys) after
+      grind (arith, level children, level rest, list_all-append, any_node, and_left, and_right)

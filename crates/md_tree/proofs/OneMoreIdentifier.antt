@@ -36,9 +36,6 @@ Known = BTreeSet Text
 pub same-self : (one : Identifier) → is_same one one ≡ true
 same-self one = grind (arith, bytes_eq-Decides)
 
-pub same-is : (one other : Identifier) → is_same one other ≡ true → one ≡ other
-same-is one other h = grind (arith, bytes_eq-Decides)
-
 -- texts compare equal exactly where their identifiers are the same
 pub compared : (one other : Text) →
     is_eq (text_cmp one other) ≡ is_same (identifier_of one) (identifier_of other)

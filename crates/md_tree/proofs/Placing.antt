@@ -21,6 +21,9 @@ module _ {A : Type 0} (xs before inner rest later : List A) (entry exit : A) (is
   pub in_node : xs ≡ (before ++ entry ∷ []) ++ (inner ++ (exit ∷ (rest ++ later)))
   in_node = at_entry ∙ sym (append_assoc before _ _)
 
+  pub got_entry : (n : ℕ) → length before ≡ n → slice_get xs n ≡ Some entry
+  got_entry n e = ap (λ ys. slice_get ys n) at_entry ∙ get_at before _ entry n e
+
   at_exit : xs ≡ ((before ++ entry ∷ []) ++ inner) ++ (exit ∷ (rest ++ later))
   at_exit = in_node ∙ sym (append_assoc _ inner _)
 
@@ -65,12 +68,9 @@ module _ (events : List Event) (facts : List Fact) where
       let two = length_one found fact ∙ ap suc f in
       let inside = length_events children (suc index) (before ++ first ∷ []) one in
       let facts_to = length_facts children (suc index) tables (found ++ fact ∷ []) two in (
-        node_there index fact name start end (ap (λ es. slice_get es index)
-            (at_entry events before inner _ later first last is)
-            ∙ get_at before (inner ++ (last ∷ (flatten rest ++ later))) first index e)
-            (ap (λ fs. slice_get fs index)
-            (at_entry facts found facts_inside facts_after more fact other are)
-            ∙ get_at found (facts_inside ++ (other ∷ (facts_after ++ more))) fact index f)
+        node_there index fact name start end
+            (got_entry events before inner (flatten rest) later first last is index e)
+            (got_entry facts found facts_inside facts_after more fact other are index f)
             (ap (λ es. slice_get es exit) (at_exit events before inner _ later first last is)
             ∙ get_at ((before ++ first ∷ []) ++ inner) (flatten rest ++ later) last exit inside),
         all_there children _ tables _ (last ∷ (flatten rest ++ later)) _ (other
@@ -87,8 +87,7 @@ module _ (events : List Event) (facts : List Fact) where
   all_at : (forest : Forest) (index : ℕ) → AllAt (position_there events facts) (suc index) forest →
       AllAt (position_at events facts) (suc index) forest
   all_at Empty index all = tt
-  all_at (Node name start end children rest) index all =
-      grind (arith, all_at children _ all.1, all_at rest _ all.2)
+  all_at (Node name start end children rest) index all = grind (arith, all_at children, all_at rest)
 
 -- a row's children are there
 abbrev HasThem : List Event → List Fact → Row → Type 0

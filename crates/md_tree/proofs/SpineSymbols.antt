@@ -1,9 +1,9 @@
 -- Which symbols a spine may have that matches a pattern.
+use Rattle.md_tree.proofs.SettledPatterns.{and_right, and_left, and_both, taken}
 use Rattle.std.proofs.Common.{arith, ◌≡◌, Bool, true, List, [], ◌∷◌, ◌++◌, refl, ap, ◌∙◌}
 use Rattle.md_tree.proofs.Common.{list_all, list_all-append, Symbol, Role, Item, members, class_of}
 use Rattle.md_tree.proofs.Common.{takes, pattern_of, Fits, spine, IsTail, IsGrouped, Matches}
 use Rattle.md_tree.proofs.Common.{begun_by, is_whole}
-use Rattle.md_tree.proofs.SettledPatterns.{and_left, and_right, and_both, taken}
 
 -- each symbol of an item's class passes
 abbrev pub passes : (Symbol → Bool) → Item → Bool
@@ -13,8 +13,8 @@ own_pass : (p : Symbol → Bool) (item : Item) (own : List Symbol) → passes p 
     list_all (takes (class_of item)) own ≡ true → list_all p own ≡ true
 own_pass p item [] all there = refl
 own_pass p item (seen ∷ own) all there =
-    and_both _ _ (taken p (members _) seen (and_left _ _ there) all) (own_pass p item own all
-    (and_right _ _ there))
+    and_both _ _ (taken p (members _) seen (and_left _ _ there) all)
+    (own_pass p item own all (and_right _ _ there))
 
 all_append : (p : Symbol → Bool) (xs ys : List Symbol) → list_all p xs ≡ true →
     list_all p ys ≡ true → list_all p (xs ++ ys) ≡ true
@@ -23,9 +23,7 @@ all_append p xs ys e f = list_all-append p xs ys ∙ and_both _ _ e f
 fits_pass : (p : Symbol → Bool) (items : List Item) (symbols : List Symbol) →
     list_all (passes p) items ≡ true → Fits items symbols → list_all p symbols ≡ true
 fits_pass p [] symbols all fit = ap (list_all p) fit
-fits_pass p (item ∷ items) symbols all fit =
-    ap (list_all p) fit.2 ∙ all_append p fit.0 fit.1 (own_pass p item fit.0
-    (and_left _ _ all) fit.3) (fits_pass p items fit.1 (and_right _ _ all) fit.5)
+fits_pass p (item ∷ items) symbols all fit = grind (arith, fits_pass p items, all_append, own_pass)
 
 -- a symbol that begins no group
 abbrev pub alone : Symbol → Bool
@@ -38,10 +36,7 @@ alone_tail first tail e is = grind arith
 grouped_alone : (firsts spine : List Symbol) → list_all alone firsts ≡ true →
     IsGrouped firsts spine → spine ≡ firsts
 grouped_alone [] spine all is = is
-grouped_alone (first ∷ firsts) spine all is =
-    let tail = alone_tail first is.0 (and_left _ _ all) is.3 in
-    is.2 ∙ ap (λ t. first ∷ t ++ is.1) tail ∙ ap (λ s. first
-    ∷ s) (grouped_alone firsts is.1 (and_right _ _ all) is.4)
+grouped_alone (first ∷ firsts) spine all is = grind (arith, grouped_alone firsts, alone_tail)
 
 -- the symbols of a spine that matches a pattern
 pub matches_pass : (p : Symbol → Bool) (around : Role) (symbols : List Symbol) →

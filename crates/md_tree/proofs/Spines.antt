@@ -29,8 +29,8 @@ spine-names Empty around before shaped = refl
 spine-names (Node name start end children rest) around before shaped =
     grind (
       arith,
-      spine-names children _ _ shaped.1,
-      spine-names rest _ _ shaped.2,
+      spine-names children,
+      spine-names rest,
       node_shows,
       looked_through,
       symbols-append,

@@ -49,8 +49,7 @@ pub Feeds-split : (from to : State) (symbols others : List Symbol) →
     Feeds from (symbols ++ others) to →
     (middle : State) × Feeds from symbols middle × Feeds middle others to
 Feeds-split from to [] others f = (from, refl, f)
-Feeds-split from to (symbol ∷ symbols) others f =
-    grind (arith, Feeds-split f.0 to symbols others f.2)
+Feeds-split from to (symbol ∷ symbols) others f = grind (arith, Feeds-split f.0 to symbols)
 
 option_map-option_map : {A B C : Type 0} (f : A → B) (g : B → C) (o : Option A) →
     option_map g (option_map f o) ≡ option_map (λ x. g (f x)) o
@@ -90,34 +89,19 @@ seek_leaves all (item ∷ items) k symbol e =
 moved_spot : (all : List Item) (stage : Stage) (k : ℕ) (symbol : Symbol) →
     option_map (λ (n : ℕ × Stage). At (drop n.0 all) n.1) (moved stage k (drop k all) symbol)
     ≡ spot_after (drop k all) stage symbol
-moved_spot all Whole k symbol =
-    option_map-option_map (λ n. (n, begun_by symbol)) (λ (n : ℕ × Stage). At (drop n.0 all) n.1)
-    (seek k _ symbol)
-    ∙ sym (option_map-option_map (λ n. drop n all) (λ left. At left (begun_by symbol))
-    _) ∙ ap (option_map (λ left. At left (begun_by symbol))) (seek_leaves all _ k symbol refl)
-moved_spot all stage k symbol =
-    option_map-option_map (λ n. (k, n)) (λ (n : ℕ × Stage). At (drop n.0 all) n.1) _
+moved_spot all Whole k symbol = simp (← seek_leaves all _ k symbol refl, option_map-option_map)
+moved_spot all stage k symbol = grind arith
 
 advance_spot : (state : State) (symbol : Symbol) → option_map spot_of (advance state symbol)
     ≡ spot_after (items_of state) state.stage symbol
 advance_spot state symbol =
-    option_map-option_map (λ (n : ℕ × Stage). record {
-      role = state.role;
-      before = Some symbol;
-      position = n.0;
-      stage = n.1;
-    }) spot_of _ ∙ moved_spot _ state.stage state.position symbol
+    rw option_map-option_map (moved_spot _ state.stage state.position symbol)
 
 -- what a symbol leaves alone
 pub advance_role : (state next : State) (symbol : Symbol) → advance state symbol ≡ Some next →
     (next.role ≡ state.role) × (next.before ≡ Some symbol)
 advance_role state next symbol e =
-    let m = option_map-some (λ (n : ℕ × Stage). record {
-      role = state.role;
-      before = Some symbol;
-      position = n.0;
-      stage = n.1;
-    }) _ next e in
+    let m = option_map-some _ _ next e in
     (ap (λ (s : State). s.role) (sym m.2), ap (λ (s : State). s.before) (sym m.2))
 
 pub at_items : (items left : List Item) (stage next : Stage) → At items stage ≡ At left next →
@@ -150,10 +134,9 @@ Goes-from_feeds from (symbol ∷ symbols) to f = (
 Goes-append : (items left : List Item) (stage next : Stage) (symbols others : List Symbol)
     (to : Spot) → Goes items stage symbols (At left next) → Goes left next others to →
     Goes items stage (symbols ++ others) to
-Goes-append items left stage next [] others to g h =
-    let same = at_items items left stage next g in rw (same.0, same.1) h
+Goes-append items left stage next [] others to g h = grind arith
 Goes-append items left stage next (symbol ∷ symbols) others to g h =
-    (g.0, g.1, g.2, Goes-append g.0 left g.1 next symbols others to g.3 h)
+    grind (arith, Goes-append g.0 left g.1 next symbols others to g.3 h)
 
 goes_endings : (left : List Item) (n : ℕ) →
     Goes left Setext (replicate n LineEnding ++ SetextUnderline ∷ []) (At left Whole)

@@ -3,7 +3,7 @@ use Rattle.std.proofs.Common.{◌≡◌, Bool, true, cond, if◌then◌else◌, 
 use Rattle.std.proofs.Common.{◌∷◌, refl, ap, arith}
 use Rattle.md_tree.proofs.Common.{list_all, Symbol, Item, Once, Maybe, Many, class_of, takes, Fits}
 use Rattle.md_tree.proofs.Common.{is_optional}
-use Rattle.md_tree.proofs.SettledPatterns.{and_both, and_left, and_right}
+use Rattle.md_tree.proofs.SettledPatterns.{and_both}
 
 -- the rest of a pattern after a symbol
 abbrev pub kept : Item → List Item → List Item
@@ -39,8 +39,7 @@ left_out item items symbols optional fit = grind arith
 
 pub fits_nothing : (items : List Item) → list_all is_optional items ≡ true → Fits items []
 fits_nothing [] e = refl
-fits_nothing (item ∷ items) e =
-    left_out item items [] (and_left _ _ e) (fits_nothing items (and_right _ _ e))
+fits_nothing (item ∷ items) e = grind (arith, fits_nothing items, left_out)
 
 fits_back_optional :
     (item : Item) (items left : List Item) (symbol : Symbol) (symbols : List Symbol) →
@@ -61,6 +60,4 @@ fits_back_taken item items left symbol symbols fit again taken t e =
 pub fits_back : (items left : List Item) (symbol : Symbol) (symbols : List Symbol) →
     left_after items symbol ≡ Some left → Fits left symbols → Fits items (symbol ∷ symbols)
 fits_back [] left symbol symbols e fit = cc
-fits_back (item ∷ items) left symbol symbols e fit =
-    fits_back_taken item items left symbol symbols fit
-    (λ f. fits_back items left symbol symbols f fit) _ refl e
+fits_back (item ∷ items) left symbol symbols e fit = grind (arith, fits_back items, fits_back_taken)

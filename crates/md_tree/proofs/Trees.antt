@@ -1,29 +1,26 @@
 -- A tree with the shape of the grammar is read from its first event to its last.
-use Rattle.std.proofs.Common.{arith, ◌≡◌, suc, true, Option, None, List, [], ◌∷◌, ◌++◌, refl, sym}
-use Rattle.std.proofs.Common.{ap, ◌∙◌, subst}
+use Rattle.std.proofs.Common.{arith, ◌≡◌, true, Option, None, List, [], ◌∷◌, ◌++◌, sym, ap, ◌∙◌}
 use Rattle.md_tree.proofs.Common.{Point, Name, Event, Symbol, Role, Flow, State, Forest, Empty}
 use Rattle.md_tree.proofs.Common.{Node, flatten, standing_of, spine, shown, Matches, Claim}
-use Rattle.md_tree.proofs.Common.{EachNode, last_symbol, place, target_after, target_of, mention_of}
-use Rattle.md_tree.proofs.Common.{mentions_with, index_after, is_complete, Reads, Course, Runs}
+use Rattle.md_tree.proofs.Common.{EachNode, last_symbol, is_complete, Reads, Course, Runs}
 use Rattle.md_tree.proofs.Common.{beginning}
 use Rattle.md_tree.proofs.Spots.{Feeds, Feeds-split, advance_role}
 use Rattle.md_tree.proofs.Groups.{Feeds-matches}
-use Rattle.md_tree.proofs.NodesRead.{IsFine, AllowsFree, mentions_over, after_nodes, node_runs}
+use Rattle.md_tree.proofs.NodesRead.{after_node, IsFine, AllowsFree, after_nodes, node_runs}
 use Rattle.md_tree.proofs.NodesRead.{may_hold-from}
 
 pub Runs-append : (holds : Reads) (events others : List Event) (from middle to : Course) →
     Runs holds events from middle → Runs holds others middle to →
     Runs holds (events ++ others) from to
-Runs-append holds [] others from middle to r q = subst (λ c. Runs holds others c to) (sym r) q
+Runs-append holds [] others from middle to r q = grind arith
 Runs-append holds (event ∷ events) others from middle to r q =
     (r.0, r.1, Runs-append holds events others r.0 middle to r.2 q)
 
 pub Runs-split : (holds : Reads) (events others : List Event) (from to : Course) →
     Runs holds (events ++ others) from to → (middle : Course) × Runs holds events from middle
     × Runs holds others middle to
-Runs-split holds [] others from to r = (from, refl, r)
-Runs-split holds (event ∷ events) others from to r =
-    let rest = Runs-split holds events others r.0 to r.2 in (rest.0, (r.0, r.1, rest.1), rest.2)
+Runs-split holds [] others from to r = grind arith
+Runs-split holds (event ∷ events) others from to r = grind (arith, Runs-split holds events)
 
 -- a spine keeps its role, and its last symbol is the last that was read
 pub Feeds-context : (from to : State) (symbols : List Symbol) → Feeds from symbols to →
@@ -49,18 +46,9 @@ Runs-nodes holds free (Node name start stop children rest) from end fine feeds =
     (may_hold-from from.state.role fine.0.0.0) (Runs-nodes holds free children) st fine.0.0.1
     fine.0.1 fine.1 parts.1 in
     let context = Feeds-context from.state middle (shown st _) parts.1 in
-    let after : Course = record {
-      state = middle;
-      target = target_after st from.target (target_of children) (place start stop);
-      open_nodes = from.open_nodes;
-      count = suc _;
-      mentions = mentions_with (index_after _ children) (mention_of _ _)
-          (mentions_over _ children from.mentions);
-    } in
-    let rest_fine = subst (λ b. EachNode (IsFine holds) rest middle.role b) (sym context.1)
-    (subst (λ r. EachNode (IsFine holds) rest r
-    (last_symbol from.state.before (shown st (spine children)))) (sym context.0) fine.2) in
-    let rest_runs = Runs-nodes holds free rest after end rest_fine parts.2 in (
+    let after = after_node st start stop children from middle in
+    let rest_runs = Runs-nodes holds free rest after end (rw (context.0, context.1) fine.2)
+    parts.2 in (
       node.inside,
       node.enters,
       Runs-append holds _ _ node.inside node.last _ node.runs (after, node.exits, rest_runs),

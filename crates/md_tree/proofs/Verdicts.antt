@@ -22,9 +22,7 @@ module _ (holds also : Reads) where
   pub Runs-same : (events : List Event) (from one other : Course) → Runs holds events from one →
       Runs also events from other → one ≡ other
   Runs-same [] from one other e f = sym e ∙ f
-  Runs-same (event ∷ events) from one other e f =
-      let next = steps_same event.kind event.name event.point from e.0 f.0 e.1 f.1 in
-      Runs-same events e.0 one other e.2 (subst (λ c. Runs also events c other) (sym next) f.2)
+  Runs-same (event ∷ events) from one other e f = grind (arith, Runs-same events, steps_same)
 
 -- ---- where a walk has come to
 step_reached : (holds : Reads) (kind : Kind) (seen : List Event) (name : Name) (point : Point)
@@ -84,8 +82,7 @@ module _ (holds : Reads) where
   pub anything_runs : (events : List Event) (from to : Course) → Runs holds events from to →
       Runs Anything events from to
   anything_runs [] from to runs = runs
-  anything_runs (event ∷ events) from to runs =
-      grind (arith, anything_runs events runs.0 to runs.2, anything_steps)
+  anything_runs (event ∷ events) from to runs = grind (arith, anything_runs events, anything_steps)
 
 module _ (bytes : List ℕ) (names : List (List ℕ × List ℕ)) where
   broken_leaves : (broken : Rule) (opens : List Open) (name : Name) (point : Point)
