@@ -6,12 +6,12 @@ use Rattle.std.proofs.Common.{◌∙◌, subst, append_assoc}
 use Rattle.md_tree.proofs.Common.{list_all, Point, Name, Event, Flow, Standing, Referral, Missing}
 use Rattle.md_tree.proofs.Common.{Mentioned, Rule, State, Open, Outer, Forest, Empty, Node, flatten}
 use Rattle.md_tree.proofs.Common.{exiting, standing_of, spine, pattern_of, IsShaped, AreShaped}
-use Rattle.md_tree.proofs.Common.{inner_role, inner_before, broken_rule, reading_of, MeetRules}
-use Rattle.md_tree.proofs.Common.{target_of, Handed, IsGrammatical, IsReadAs, IsChecked, Level}
-use Rattle.md_tree.proofs.Common.{symbol_after, EndsInGroup, EndsBroken, is_complete, is_whole}
-use Rattle.md_tree.proofs.Common.{is_optional, start_of, Reads, Course, Runs, Exits, ExitsWhere}
-use Rattle.md_tree.proofs.Common.{after_exit, entered_on, beginning, Unbroken, BreaksWhere}
-use Rattle.md_tree.proofs.Common.{BreaksAtExit, mentions_of}
+use Rattle.md_tree.proofs.Common.{broken_rule, reading_of, MeetRules, target_of, Handed}
+use Rattle.md_tree.proofs.Common.{IsGrammatical, IsReadAs, IsChecked, Level, symbol_after}
+use Rattle.md_tree.proofs.Common.{EndsInGroup, EndsBroken, is_complete, is_whole, is_optional}
+use Rattle.md_tree.proofs.Common.{start_of, Reads, Course, Runs, Exits, ExitsWhere, after_exit}
+use Rattle.md_tree.proofs.Common.{entered_on, beginning, Unbroken, BreaksWhere, BreaksAtExit}
+use Rattle.md_tree.proofs.Common.{mentions_of}
 use Rattle.md_tree.specs.Refusal.{Begins, LeaveOpen}
 use Rattle.md_tree.specs.Walk.{Broken}
 use Rattle.md_tree.proofs.Listing.{listed, mentions_over-listed}
@@ -20,7 +20,7 @@ use Rattle.md_tree.proofs.HeldGroups.{EndsInGroup-feeds}
 use Rattle.md_tree.proofs.Trees.{Feeds-context}
 use Rattle.md_tree.proofs.Completing.{IsDone-runs, BeginTree-runs}
 use Rattle.md_tree.proofs.OpenPaths.{path_none, Stands, Stands-context, Reached}
-use Rattle.md_tree.proofs.Paths.{Left, Reached-left, Left-closed, Left-inner}
+use Rattle.md_tree.proofs.Paths.{Reached-left, Left-closed, Left-inner}
 use Rattle.md_tree.proofs.ClosedNodes.{Closed}
 use Rattle.md_tree.proofs.NodeClaims.{fine_shaped, fine_meets, fine_path_shaped}
 use Rattle.md_tree.proofs.Verdicts.{Runs-same, Runs-checked, Reached-runs}
@@ -59,12 +59,6 @@ module _ (bytes : List ℕ) (names : List (List ℕ × List ℕ)) (broken : Rule
       (((a ++ x ∷ []) ++ c) ++ y ∷ []) ≡ a ++ (x ∷ c ++ y ∷ [])
   events_ended a c x y = append_assoc _ c (y ∷ []) ∙ append_assoc a (x ∷ []) _
 
-  breaks_left : (seen : List Event) (name : Name) (point : Point) (course next : Course) →
-      (left : Left (Unbroken bytes names) (Broken bytes names broken) seen name point course next) →
-      BreaksAtExit bytes names broken course.open_nodes name point course →
-      BreaksWhere bytes names broken left.open_node.outer left.open_node.start point course
-  breaks_left seen name point course next left breaks = grind arith
-
   -- the node that ends breaks the rule
   pub EndsBroken-exit : (seen : List Event)
       (name : Name) (point : Point) (course : Course) → Reached (Unbroken bytes names) seen course →
@@ -75,24 +69,23 @@ module _ (bytes : List ℕ) (names : List (List ℕ × List ℕ)) (broken : Rule
       let ending = Broken bytes names broken in
       let exits = exits_broken course.open_nodes name point course breaks in
       let next = exits.0 in
-      let left = Reached-left holds ending seen name point course next reached exits.1 in
+      let left = Reached-left ending name point next reached exits.1 in
       let level = left.level in
-      let closed = Left-closed holds ending seen name point course next left in
+      let closed = Left-closed left in
       let outer = Stands-context left.path left.others left.around left.found left.stands in
       let context = Feeds-context left.around left.here (spine level.before) left.feeds in
       let role_here = context.0 ∙ outer.0 in
       let before_here = context.1 ∙ ap (λ b. symbol_after b level.before) outer.1 in
       let node = Node level.name level.start point left.nodes Empty in
-      let inner = fine_shaped holds left.nodes (inner_role _ left.here.role left.here.before)
-      (inner_before _ left.here.before)
-      (Left-inner holds ending seen name point course next left) in
+      let inner = fine_shaped holds left.nodes _ _ (Left-inner left) in
       let shaped_here : AreShaped node left.here.role left.here.before =
       ((closed.apart, closed.shaped), inner, tt) in
       let breaks_here = broken_there (standing_of level.name) level.name level.start point
       left.nodes left.here next.state left.base (target_of level.before left.found) left.inner
-      next.target left.open_node.outer course left.entered_is (subst
-      (λ s. BreaksWhere bytes names broken left.open_node.outer s point course) left.start_is
-      (breaks_left seen name point course next left breaks)) closed in
+      next.target left.open_node.outer course left.entered_is
+      (rw left.start_is at
+      (subst (λ os. BreaksAtExit bytes names broken os name point course) left.opens_are breaks).1)
+      closed in
       record {
         path = left.path;
         nodes = level.before;

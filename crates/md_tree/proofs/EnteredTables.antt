@@ -1,13 +1,13 @@
 -- The tables of a document of the grammar have a table's shape.
-use Rattle.std.proofs.Common.{arith, ◌≡◌, ℕ, Option, Some, None, sym, ap, ◌∙◌, subst}
-use Rattle.md_tree.proofs.Common.{slice_get, All, Event, Name, GfmTable, Symbol, Role, Forest}
-use Rattle.md_tree.proofs.Common.{standing_of, EachNode, IsShapedNode, IsStanding, AreShaped}
-use Rattle.md_tree.proofs.Common.{inner_role, inner_before, Handed, IsChecked, IsReadAs}
-use Rattle.md_tree.proofs.Common.{IsGrammatical, EntersAt, children_of, IsEnteredAt, IsTable}
+use Rattle.std.proofs.Common.{arith, ◌≡◌, ℕ, Option, Some, None, sym, ap, ◌∙◌}
+use Rattle.md_tree.proofs.Common.{All, Event, Name, GfmTable, Symbol, Role, Forest, standing_of}
+use Rattle.md_tree.proofs.Common.{EachNode, IsShapedNode, IsStanding, AreShaped, inner_role}
+use Rattle.md_tree.proofs.Common.{inner_before, Handed, IsChecked, IsReadAs, IsGrammatical}
+use Rattle.md_tree.proofs.Common.{EntersAt, IsEnteredAt, IsTable}
 use Rattle.md_pattern.specs.declared.kinds.Role.TheVariants as role
 use Rattle.md_tree.proofs.OneTree.{flatten_one}
 use Rattle.md_tree.proofs.EventRows.{rows_all, Row, rows_of}
-use Rattle.md_tree.proofs.Entering.{past_row, inside_rows, event_there, children_there}
+use Rattle.md_tree.proofs.Entering.{row_at}
 
 -- a table has its shape
 abbrev IsTableRow : Row → Type 0
@@ -42,11 +42,8 @@ IsTable-entered given index checked enters children entered =
     let shape = IsGrammatical.shape (IsReadAs.grammatical checked.1) in
     let one : entered.0 ≡ forest =
     flatten_one GfmTable (Event.point enters.0) entered.0 forest (entered.1 ∙ sym flattened) in
-    let got : slice_get (children_of forest) index ≡ Some (Some children) =
-    subst (λ f. slice_get (children_of f) index ≡ Some (Some children)) one entered.2 in
-    let inside = inside_rows given index GfmTable enters forest flattened in
-    let past = past_row given index GfmTable enters in
-    let name_is = ap (λ (e : Event). e.name)
-    (event_there given index GfmTable enters forest flattened) ∙ enters.3 in
-    rows_shaped forest 0 0 role.Flow None shape.0 index past inside name_is children
-    (children_there given index GfmTable enters forest flattened children got)
+    let got = rw one at entered.2 in
+    let here = row_at given forest index enters.0 flattened enters.1 in
+    let children_are : here.row.children ≡ Some children = cc (here.children_are, got) in
+    here.said IsTableRow (rows_shaped forest 0 0 role.Flow None shape.0)
+    (ap Event.name here.event_is ∙ enters.3) children children_are

@@ -34,14 +34,9 @@ module _ (number : Mention → ℕ) (none : number Nothing ≡ 0) where
       ap (λ fs. numbered number (listed index (mention ∷ mentions)) fs) (append-nil before)
       ∙ past_listed (mention ∷ mentions) index before (within e) ∙ sym (append-nil before)
   all_listed (mention ∷ mentions) index before (fact ∷ facts) e =
-      grind (
-        arith,
-        all_listed mentions _ _ facts (length_one before (with_number (number mention)
-            fact) ∙ ap suc e),
-        one_listed,
-        put_after,
-        append_assoc,
-      )
+      let here = length_one before (with_number (number mention) fact) ∙ ap suc e in
+      let later = all_listed mentions _ _ facts here in
+      grind (arith, later, one_listed, put_after, append_assoc)
 
 -- two ways to number that are alike
 module _ (one other : Mention → ℕ) (alike : (mention : Mention) → one mention ≡ other mention) where

@@ -74,8 +74,8 @@ pub record Left (holds ending : Reads) (events : List Event) (name : Name) (poin
   pub path_fine : IsFinePath holds (level ∷ path)
   pub nodes_fine : EachNode (IsFine holds) nodes base.role base.before
 
-module _ (holds ending : Reads) (events : List Event) (name : Name) (point : Point)
-    (from to : Course) where
+module _ {holds : Reads} (ending : Reads) {events : List Event} (name : Name) (point : Point)
+    {from : Course} (to : Course) where
   left_from : (path : List Level) (opens : List Open) (nodes : Forest) (base : State)
       (found : Referral) → from.open_nodes ≡ opens → Stands path opens base found →
       Feeds base (spine nodes) from.state → from.target ≡ target_of nodes found →
@@ -94,6 +94,8 @@ module _ (holds ending : Reads) (events : List Event) (name : Name) (point : Poi
       Exits ending from.open_nodes name point from to → Left holds ending events name point from to
   Reached-left reached exits = grind (arith, left_from)
 
+module _ {holds ending : Reads} {events : List Event} {name : Name} {point : Point}
+    {from to : Course} where
   pub Left-closed : (left : Left holds ending events name point from to) →
       Closed ending (standing_of left.level.name) left.level.name left.level.start point left.nodes
       left.here to.state (target_of left.level.before left.found) to.target
@@ -125,9 +127,9 @@ pub Reached-exit : (holds : Reads) (events : List Event) (name : Name) (point : 
     Reached holds events from → Exits holds from.open_nodes name point from to →
     Reached holds (events ++ exiting name point ∷ []) to
 Reached-exit holds events name point from to reached exits =
-    let left = Reached-left holds holds events name point from to reached exits in
+    let left = Reached-left holds name point to reached exits in
     let level = left.level in
-    let closed_here = Left-closed holds holds events name point from to left in
+    let closed_here = Left-closed left in
     let stands : Stands left.path to.open_nodes left.around left.found =
     subst (λ os. Stands left.path os left.around left.found)
     (sym (exits_open holds left.open_node.outer level.start point left.others from to left.exits))
@@ -137,7 +139,7 @@ Reached-exit holds events name point from to reached exits =
     let outer = Stands-context left.path to.open_nodes left.around left.found stands in
     let node_fine : EachNode (IsFine holds) node left.here.role left.here.before = (
       ((closed_here.apart, closed_here.shaped), closed_here.read),
-      Left-inner holds holds events name point from to left,
+      Left-inner left,
       tt,
     ) in
     record {

@@ -1,15 +1,15 @@
 -- The entry and its partner give the position of each node of a document. So a look-up by index
 -- finds the position in the tree: `reads` of `Checked` depends on it.
-use Rattle.std.proofs.Common.{◌≡◌, ℕ, suc, ◌+◌, Some, List, [], ◌∷◌, ◌++◌, length, get_or, refl}
-use Rattle.std.proofs.Common.{sym, ap, ◌∙◌, subst, append_assoc, append-nil, arith}
+use Rattle.std.proofs.Common.{◌≡◌, ℕ, suc, Some, List, [], ◌∷◌, ◌++◌, length, refl, sym, ap, ◌∙◌}
+use Rattle.std.proofs.Common.{subst, append_assoc, append-nil, arith}
 use Rattle.md_tree.proofs.Common.{slice_get, All, Name, Point, Event, Fact, Forest, Empty, Node}
 use Rattle.md_tree.proofs.Common.{flatten, entering, exiting, place, Handed, EntersAt, IsEnteredAt}
 use Rattle.md_tree.proofs.Common.{index_after, partner_alone, tables_with, tables_after, fact_at}
 use Rattle.md_tree.proofs.Common.{facts_of, facts_at, position_there, position_at, length_one}
 use Rattle.md_tree.proofs.Common.{facts-flatten}
 use Rattle.md_pattern.proofs.CountedFacts.{length_facts, regrouped}
-use Rattle.md_tree.proofs.EventRows.{rows_all, Row, rows_of, numbered_rows, numbered_get}
-use Rattle.md_tree.proofs.Entering.{get_at, past_row, inside_rows, children_there}
+use Rattle.md_tree.proofs.EventRows.{rows_all, Row, rows_of}
+use Rattle.md_tree.proofs.Entering.{get_at, row_at}
 use Rattle.md_tree.proofs.Searching.{AllAt}
 
 -- a list with a node's part in it, split at the entry, after it, at the exit and after that
@@ -117,16 +117,10 @@ children-placed given index name enters children entered =
     let forest = entered.0 in
     let events = given.events in
     let facts = facts_at events in
-    let rows = rows_of 0 0 forest in
-    let past = past_row given index name enters in
-    let inside = inside_rows given index name enters forest entered.1 in
+    let here = row_at given forest index enters.0 entered.1 enters.1 in
     let all = all_there events facts forest 0 0 [] [] [] [] refl refl (sym entered.1
     ∙ sym (append-nil _)) (facts-flatten forest events entered.1 ∙ sym (append-nil _)) in
-    let none : 0 + index ≡ index = omega arith in
-    let index_is : Row.index (get_or rows index past) ≡ index =
-    numbered_get rows 0 (index_after 0 forest) index past (numbered_rows forest 0 0) inside
-    ∙ none in
-    let there = rows_there events facts forest 0 0 all index past inside children
-    (children_there given index name enters forest entered.1 children entered.2) in
-    all_at events facts children index
-    (subst (λ i. AllAt (position_there events facts) (suc i) children) index_is there)
+    let children_are : here.row.children ≡ Some children = cc (here.children_are, entered.2) in
+    let there = here.said (HasThem events facts) (rows_there events facts forest 0 0 all)
+    children children_are in
+    all_at events facts children index (rw here.index_is at there)

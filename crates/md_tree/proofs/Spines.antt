@@ -10,10 +10,10 @@ use Rattle.md_tree.proofs.OneLevel.{is_through}
 looked_through : (name : Name) → is_transparent name ≡ is_through (standing_of name)
 looked_through name = grind arith
 
-symbols-append : (names others : List Name) →
+appended : (names others : List Name) →
     symbols_of (names ++ others) ≡ symbols_of names ++ symbols_of others
-symbols-append [] others = refl
-symbols-append (name ∷ names) others = grind (arith, symbols-append names others, append_assoc)
+appended [] others = refl
+appended (name ∷ names) others = grind (arith, appended names others, append_assoc)
 
 -- what one node shows
 node_shows : (standing : Standing) (name : Name) (through : Bool) (children : Forest)
@@ -27,11 +27,4 @@ pub spine-names : (forest : Forest) (around : Role) (before : Option Symbol) →
     AreShaped forest around before → spine forest ≡ symbols_of (spine_names forest)
 spine-names Empty around before shaped = refl
 spine-names (Node name start end children rest) around before shaped =
-    grind (
-      arith,
-      spine-names children,
-      spine-names rest,
-      node_shows,
-      looked_through,
-      symbols-append,
-    )
+    grind (arith, spine-names children, spine-names rest, node_shows, looked_through, appended)

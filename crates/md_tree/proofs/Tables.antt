@@ -88,19 +88,13 @@ map_cond : {A B : Type 0} (f : A → B) (passed transparent : Bool) (own inner :
     ≡ cond passed (map f own) (cond transparent (map f inner) [])
 map_cond f passed transparent own inner = grind arith
 
-map_in_each : {A B : Type 0} (f : A → B) (test : Name → Bool) (found : Forest → List A)
-    (other : Forest → List B) → ((children : Forest) → map f (found children) ≡ other children) →
-    (forest : Forest) → map f (in_each test found forest) ≡ in_each test other forest
-map_in_each f test found other same Empty = refl
-map_in_each f test found other same (Node name start end children rest) =
-    grind (
-      arith,
-      map_in_each f test found other same rest,
-      map_in_each f test found other same
-          children,
-      map-append,
-      map_cond,
-    )
+module _ {A B : Type 0} (f : A → B) (test : Name → Bool) (found : Forest → List A)
+    (other : Forest → List B)
+    (same : (children : Forest) → map f (found children) ≡ other children) where
+  map_in_each : (forest : Forest) → map f (in_each test found forest) ≡ in_each test other forest
+  map_in_each Empty = refl
+  map_in_each (Node name start end children rest) =
+      grind (arith, map_in_each children, map_in_each rest, map-append, map_cond)
 
 pub alignments-values_of_table : (children : Forest) → IsTable children →
     alignments children ≡ map alignment_of (values_of_table children)

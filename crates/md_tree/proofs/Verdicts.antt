@@ -36,13 +36,9 @@ module _ (holds : Reads) where
       Runs holds events from to → Reached holds (seen ++ events) to
   runs_reached [] seen from to reached runs = grind (arith, append-nil)
   runs_reached (event ∷ events) seen from to reached runs =
-      grind (
-        arith,
-        runs_reached events _ runs.0 to (step_reached holds event.kind seen event.name
-            event.point from runs.0 reached runs.1) runs.2,
-        append_assoc,
-        step_reached,
-      )
+      rw (append_assoc seen (event ∷ []) events) at (runs_reached events (seen ++ event ∷ []) runs.0
+      to (step_reached holds event.kind seen event.name event.point from runs.0 reached runs.1)
+      runs.2)
 
   pub Reached-runs : (events : List Event) (to : Course) → Runs holds events beginning to →
       Reached holds events to
