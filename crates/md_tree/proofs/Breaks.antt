@@ -1,12 +1,10 @@
 -- Which rules a node can break, and how a walk stops at its exit.
-use Rattle.std.proofs.Common.{arith, true≢false, ◌∙◌, ◌≡◌, ℕ, true, false, Option, Some, List, ◌∷◌}
-use Rattle.std.proofs.Common.{sym}
+use Rattle.std.proofs.Common.{arith, ◌≡◌, ℕ, true, Option, Some, List, ◌∷◌}
 use Rattle.md_tree.proofs.Common.{Point, Name, Exit, Symbol, Role, Reading, Referral, Rule}
-use Rattle.md_tree.proofs.Common.{CompileError, Position, Open, Outer, place, broken_rule}
-use Rattle.md_tree.proofs.Common.{is_complete, Course, StopsAtExit, IsStop, IsStopInside}
+use Rattle.md_tree.proofs.Common.{CompileError, Open, Outer, place, broken_rule, is_complete}
+use Rattle.md_tree.proofs.Common.{Course, IsStop, IsStopInside}
 use Rattle.md_pattern.specs.declared.kinds.Reading.TheVariants as reading
 use Rattle.md_tree.specs.declared.rule.Rule.TheVariants as rule
-use Rattle.md_tree.specs.declared.rule.CompileError.TheVariants as error
 use Rattle.md_tree.specs.Walk.{StopsInside}
 
 -- a rule that is judged when a node ends
@@ -30,34 +28,13 @@ module _ (bytes : List ℕ) (names : List (List ℕ × List ℕ)) where
       ≡ Some broken → StopsInside bytes names broken outer (place start end) course
   StopsInside-broken broken outer start end course complete e = grind arith
 
-  exit_stops : (broken : Rule) (others : List Open) (open_node : Open) (outer : Outer) (name : Name)
-      (point : Point) (course : Course) → course.open_nodes ≡ open_node ∷ others →
-      open_node.name ≡ name → open_node.outer ≡ Some outer →
-      StopsInside bytes names broken outer (place open_node.start point) course →
-      StopsAtExit bytes names broken name point course
-  exit_stops rule.Order others open_node outer name point course opens_are same outer_is stops =
-      rw (opens_are, outer_is) (λ next exits. true≢false (sym exits.1.0 ∙ stops))
-  exit_stops rule.Mdx others open_node outer name point course opens_are same outer_is stops =
-      grind (arith, of_node)
-  exit_stops broken others open_node outer name point course opens_are same outer_is stops =
-      rw (opens_are, outer_is) (same, stops)
-
-  -- the same, as a refusal
-  pub IsStop-inside : (index : ℕ) (refusal : CompileError) (others : List Open) (open_node : Open)
-      (outer : Outer) (name : Name) (point : Point) (course : Course) →
+  -- the same, as a refusal; which nodes are open doesn't matter inside
+  pub IsStop-inside : (index : ℕ) (refusal : CompileError) (others left : List Open)
+      (open_node : Open) (outer : Outer) (name : Name) (point : Point) (course : Course) →
       course.open_nodes ≡ open_node ∷ others → open_node.name ≡ name →
       open_node.outer ≡ Some outer →
-      IsStopInside bytes names index outer (place open_node.start point) course refusal →
+      IsStopInside bytes names index outer (place open_node.start point)
+      (record course { open_nodes = left }) refusal →
       IsStop bytes names index Exit name point course refusal
-  IsStop-inside index error.Memory others open_node outer name point course opens_are
-      same outer_is stops = tt
-  IsStop-inside index (error.Event named broken) others open_node outer name point course
-      opens_are same outer_is stops =
-      grind (arith, exit_stops)
-
-  -- the open nodes don't matter inside
-  pub IsStopInside-same : (index : ℕ) (refusal : CompileError) (outer : Outer)
-      (position : Position) (course : Course) (others : List Open) →
-      IsStopInside bytes names index outer position course refusal →
-      IsStopInside bytes names index outer position (record course { open_nodes = others }) refusal
-  IsStopInside-same index refusal outer position course others stops = grind arith
+  IsStop-inside index refusal others left open_node outer name point course opens_are same
+      outer_is stops = grind arith

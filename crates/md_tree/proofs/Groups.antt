@@ -110,7 +110,7 @@ goes_back : (items left : List Item) (stage : Stage) (symbols : List Symbol) →
     Goes items stage symbols (At left Whole) → list_all is_optional left ≡ true →
     ReadsOn items stage symbols
 goes_back items left stage [] g out =
-    let same = at_items items left stage Whole g in
+    let same = at_items g in
     record {
       tail = [];
       others = [];
@@ -134,7 +134,7 @@ Feeds-matches role spine matches =
     goes_whole (pattern_of role) matches.0 spine (pattern_settled role) matches.1 matches.2 in
     let feeds = Feeds-from_goes _ spine _ whole.1 in
     let end = feeds.0 in
-    let same = at_items _ whole.0 end.stage Whole feeds.2 in (
+    let same = at_items feeds.2 in (
       end,
       feeds.1,
       and_both _ _ (ap is_whole same.1) (rw same.0 whole.2),

@@ -9,7 +9,7 @@ use symbol_variants.{ReferenceMarker, ReferenceNumeric, ReferenceHexadecimal, Re
 use symbol_variants.{SetextText, LineEnding}
 use Rattle.md_pattern.specs.Spine.{IsBegunGroup}
 use Rattle.md_tree.proofs.Spots.{At, spot_after, Goes, at_items, Feeds, Goes-from_feeds}
-use Rattle.md_tree.proofs.Groups.{spot_whole, spot_inside}
+use Rattle.md_tree.proofs.Groups.{spot_inside}
 
 -- what has been read of a group
 abbrev pub IsHeld : Stage → List Symbol → Type 0
@@ -46,13 +46,7 @@ pub record EndsHeld (stage : Stage) (symbols : List Symbol) : Type 0 where
 
 held_step_whole : (items left : List Item) (next : Stage) (symbol : Symbol) (read : List Symbol) →
     spot_after items Whole symbol ≡ Some (At left next) → EndsHeld next (read ++ symbol ∷ [])
-held_step_whole items left next symbol read e =
-    record {
-      before = read;
-      group = symbol ∷ [];
-      parts = refl;
-      held = rw (spot_whole items left next symbol e).1 at (held_first symbol);
-    }
+held_step_whole items left next symbol read e = grind arith
 
 held_step_inside :
     (items left : List Item) (stage next : Stage) (symbol : Symbol) (read : List Symbol) →
@@ -82,7 +76,7 @@ held_all items left stage last [] read g ends =
       before = ends.before;
       group = ends.group;
       parts = append-nil read ∙ ends.parts;
-      held = rw (at_items items left stage last g).1 at ends.held;
+      held = rw (at_items g).1 at ends.held;
     }
 held_all items left stage last (symbol ∷ symbols) read g ends =
     rw (append_assoc read (symbol ∷ []) symbols) at

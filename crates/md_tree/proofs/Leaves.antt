@@ -1,6 +1,6 @@
 -- A node without children, which is entered and exited at once.
 use Rattle.std.proofs.Common.{arith, ◌≡◌, ◌⊎◌, inl, inr, true, false, ℕ, suc, Option, Some, None}
-use Rattle.std.proofs.Common.{List, ◌∷◌, refl, ap, ◌∙◌}
+use Rattle.std.proofs.Common.{List, refl, ap, ◌∙◌}
 use Rattle.md_tree.proofs.Common.{Point, Name, is_table, Rule, CompileError, Symbol, Role, Reading}
 use Rattle.md_tree.proofs.Common.{Free, Through, Space, Solid, standing_of, role_for, Referral}
 use Rattle.md_tree.proofs.Common.{Missing, State, place, target_at, broken_rule, start_of, may_hold}
@@ -10,7 +10,7 @@ use Rattle.md_tree.proofs.Common.{Passes, Unbroken, IsStopAtLeaf, IsStopInside}
 use Rattle.md_tree.specs.declared.rule.Rule.TheVariants as rule
 use Rattle.md_tree.specs.declared.rule.CompileError.TheVariants as error
 use Rattle.md_pattern.specs.declared.kinds.Role.TheVariants as role
-use Rattle.md_tree.proofs.Breaks.{IsStop-inside, IsStopInside-same, StopsInside-broken}
+use Rattle.md_tree.proofs.Breaks.{IsStop-inside, StopsInside-broken}
 
 -- the course inside such a node, without the node among the open ones
 abbrev pub inside : Entry → Course → Course
@@ -70,11 +70,9 @@ module _ (name : Name) (start end : Point) (from : Course) (entry : Entry)
       inr (
         after_entry entry name start from,
         enters,
-        IsStop-inside bytes names (suc index) refusal from.open_nodes
+        IsStop-inside bytes names (suc index) refusal from.open_nodes from.open_nodes
             (record { name = name; start = start; outer = entry.outer }) outer name end
-            _ refl refl outer_is
-            (IsStopInside-same bytes names _ refusal outer _ (inside entry from)
-            (record { name = name; start = start; outer = entry.outer } ∷ from.open_nodes) stops),
+            _ refl refl outer_is stops,
       )
 
 -- a node without children that stands on no spine
@@ -90,8 +88,8 @@ passes-over bytes names name start end from holds (inr space) =
     (Unbroken bytes names) _ _ refl (refl, refl, refl)
 
 -- a node without children that stands on the spine
-module _ (name : Name) (symbol : Symbol) (usual : Role) (reading : Reading)
-    (next : State) (start end : Point) (from : Course) (holds : may_hold from.state.role ≡ true)
+module _ (name : Name) {symbol : Symbol} {usual : Role} {reading : Reading}
+    {next : State} (start end : Point) (from : Course) (holds : may_hold from.state.role ≡ true)
     (stands : standing_of name ≡ Solid symbol usual reading)
     (moves : advance from.state symbol ≡ Some next) where
   abbrev outer : Outer

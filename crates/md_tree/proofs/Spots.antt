@@ -104,9 +104,9 @@ advance_role state next symbol e =
     let m = option_map-some _ _ next e in
     (ap (λ (s : State). s.role) (sym m.2), ap (λ (s : State). s.before) (sym m.2))
 
-pub at_items : (items left : List Item) (stage next : Stage) → At items stage ≡ At left next →
+pub at_items : {items left : List Item} {stage next : Stage} → At items stage ≡ At left next →
     (items ≡ left) × (stage ≡ next)
-at_items items left stage next e = (cc, cc)
+at_items e = (cc, cc)
 
 -- what spots do, states do
 pub Feeds-from_goes : (from : State) (symbols : List Symbol) (to : Spot) →
@@ -117,7 +117,7 @@ Feeds-from_goes from (symbol ∷ symbols) to g =
     let step =
     option_map-some spot_of _ _ (advance_spot from symbol ∙ g.2) in
     let next = step.0 in
-    let same = at_items _ g.0 next.stage g.1 step.2 in
+    let same = at_items step.2 in
     let rest = Feeds-from_goes next symbols to (rw (same.0, same.1) g.3) in
     (rest.0, (next, step.1, rest.1), rest.2)
 

@@ -1,9 +1,8 @@
 -- The symbols that a spine still needs before it may end; each of them has a least node.
-use Rattle.std.proofs.Common.{◌≡◌, ℕ, zero, suc, true, Option, List, [], ◌∷◌, ◌++◌, drop, refl}
+use Rattle.std.proofs.Common.{arith, ◌≡◌, ℕ, zero, suc, true, Option, List, [], ◌∷◌, ◌++◌, drop}
 use Rattle.md_tree.proofs.Common.{list_all, Symbol, Role, Class, Item, Once, Maybe, Many, Stage}
-use Rattle.md_tree.proofs.Common.{Whole, Marker, Numeric, Hexadecimal, Setext, State, pattern_of}
+use Rattle.md_tree.proofs.Common.{Whole, Setext, State, pattern_of}
 use Rattle.md_pattern.specs.declared.kinds.Symbol.TheVariants as symbol
-use Rattle.md_pattern.specs.declared.kinds.Role.TheVariants as role
 use Rattle.md_pattern.specs.declared.kinds.Class.TheVariants.{String, Phrasing, Flow, Only, Either}
 use Rattle.md_pattern.specs.declared.kinds.Class.TheVariants.{OrLine}
 use Rattle.md_tree.proofs.EndsAfter.{ends_after}
@@ -45,35 +44,20 @@ Completes state symbols = (ends_after state symbols ≡ true) × (list_all has_l
 -- no pattern has more than six items
 from_position : (around : Role) (before : Option Symbol) (position : ℕ) →
     Completes (at_position around before position) (missing_at around position Whole)
-from_position role.Flow before zero = (refl, refl)
-from_position _ before zero = (refl, refl)
-from_position role.Flow before (suc zero) = (refl, refl)
-from_position _ before (suc zero) = (refl, refl)
-from_position role.Flow before (suc (suc zero)) = (refl, refl)
-from_position _ before (suc (suc zero)) = (refl, refl)
-from_position role.Flow before (suc (suc (suc zero))) = (refl, refl)
-from_position _ before (suc (suc (suc zero))) = (refl, refl)
-from_position role.Flow before (suc (suc (suc (suc zero)))) = (refl, refl)
-from_position _ before (suc (suc (suc (suc zero)))) = (refl, refl)
-from_position role.Flow before (suc (suc (suc (suc (suc zero))))) = (refl, refl)
-from_position _ before (suc (suc (suc (suc (suc zero))))) = (refl, refl)
-from_position role.Flow before (suc (suc (suc (suc (suc (suc zero)))))) = (refl, refl)
-from_position _ before (suc (suc (suc (suc (suc (suc zero)))))) = (refl, refl)
-from_position role.Flow before (suc (suc (suc (suc (suc (suc (suc more))))))) = (refl, refl)
-from_position _ before (suc (suc (suc (suc (suc (suc (suc more))))))) = (refl, refl)
+from_position around before zero = grind arith
+from_position around before (suc zero) = grind arith
+from_position around before (suc (suc zero)) = grind arith
+from_position around before (suc (suc (suc zero))) = grind arith
+from_position around before (suc (suc (suc (suc zero)))) = grind arith
+from_position around before (suc (suc (suc (suc (suc zero))))) = grind arith
+from_position around before (suc (suc (suc (suc (suc (suc zero)))))) = grind arith
+from_position around before (suc (suc (suc (suc (suc (suc (suc more))))))) = grind arith
 
 from_stage : (around : Role) (before : Option Symbol) (position : ℕ) (stage : Stage) →
     Completes (record { position = position; role = around; before = before; stage = stage })
     (missing_at around position stage)
 from_stage around before position Whole = from_position around before position
-from_stage around before position Setext =
-    from_position around _ position
-from_stage around before position Marker =
-    from_position around _ position
-from_stage around before position Numeric =
-    from_position around _ position
-from_stage around before position Hexadecimal =
-    from_position around _ position
+from_stage around before position _ = from_position around _ position
 
 abbrev pub missing : State → List Symbol
 missing state = missing_at state.role state.position state.stage
