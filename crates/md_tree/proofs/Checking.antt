@@ -1,7 +1,7 @@
 -- What a check may say of a list of events: why each refusal is one, and that a list that passes is
 -- of the grammar. The contracts of `check` and of `Reader` follow from it.
-use Rattle.std.proofs.Common.{◌≡◌, ℕ, suc, ◌<◌, false, Some, List, [], length, take, get_or, refl}
-use Rattle.std.proofs.Common.{sym, ap, ◌∙◌, subst, arith}
+use Rattle.std.proofs.Common.{rules, ◌≡◌, ℕ, suc, ◌<◌, false, Some, List, [], length, take, get_or}
+use Rattle.std.proofs.Common.{refl, sym, ap, ◌∙◌, subst, arith}
 use Rattle.md_tree.proofs.Common.{map, slice_get, All, take-suc, slice_get_within}
 use Rattle.md_tree.proofs.Common.{get_or_from_slice_get, Data, Event, Mention, Mentioned, Rule}
 use Rattle.md_tree.proofs.Common.{CompileError, mentions_of, mentions_among, IsResolved, Handed}
@@ -90,31 +90,25 @@ module _ (given : Handed) (mentioned : List Mentioned) (index : ℕ) (mention : 
 refused_lost : (given : Handed) (mentioned : List Mentioned) (index : ℕ) (broken : Rule) →
     IsWalked given mentioned → IsUnresolvedBy given.bytes mentioned index broken →
     IsRefusal given (error.Event index broken)
-refused_lost given mentioned index rule.Definition walked lost = record {
-  order = tt;
-  mdx = tt;
-  of_node = tt;
-  lost = (lost.0, ends_unresolved given mentioned index _ walked lost.1);
-  outside = lost_outside given mentioned index _ walked lost.1;
-}
-refused_lost given mentioned index rule.Footnote walked lost = record {
-  order = tt;
-  mdx = tt;
-  of_node = tt;
-  lost = (lost.0, ends_unresolved given mentioned index _ walked lost.1);
-  outside = lost_outside given mentioned index _ walked lost.1;
-}
+refused_lost given mentioned index rule.Definition walked lost =
+    search (
+      rules,
+      lost.0,
+      ends_unresolved given mentioned index _ walked lost.1,
+      lost_outside given mentioned index _ walked lost.1,
+    )
+refused_lost given mentioned index rule.Footnote walked lost =
+    search (
+      rules,
+      lost.0,
+      ends_unresolved given mentioned index _ walked lost.1,
+      lost_outside given mentioned index _ walked lost.1,
+    )
 refused_lost given mentioned index _ walked lost = absurd lost
 
 pub IsRefusal-lost : (given : Handed) (mentioned : List Mentioned) (refused : CompileError) →
     IsWalked given mentioned → IsUnresolved given.bytes mentioned refused → IsRefusal given refused
-IsRefusal-lost given mentioned error.Memory walked lost = record {
-  order = tt;
-  mdx = tt;
-  of_node = tt;
-  lost = tt;
-  outside = tt;
-}
+IsRefusal-lost given mentioned error.Memory walked lost = search rules
 IsRefusal-lost given mentioned (error.Event index broken) walked lost =
     refused_lost given mentioned index broken walked lost
 

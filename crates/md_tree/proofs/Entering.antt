@@ -1,19 +1,19 @@
 -- What stands at an index of a document's events is what the tree says of the node that is entered
 -- there.
-use Rattle.md_tree.proofs.EventRows.{position_rows, rows_all, Row, entry_row, rows_of, event_rows}
-use Rattle.md_tree.proofs.EventRows.{children_rows, fact_rows, numbered_rows, numbered_get}
+use Rattle.std.proofs.Common.{◌≡◌, ℕ, ◌+◌, ◌<◌, true, cond, Some, List, [], ◌∷◌, ◌++◌, length}
+use Rattle.std.proofs.Common.{get_or, refl, sym, ap, ◌∙◌, subst, append_assoc, append-nil, arith}
 use Rattle.md_tree.proofs.Common.{positions_of, slice_get_within, map, option_map, slice_get, All}
 use Rattle.md_tree.proofs.Common.{map-append, length-map, slice_get-get_or, slice_get-map}
 use Rattle.md_tree.proofs.Common.{AlignKind, Point, Name, Enter, Event, Fact, Forest, Empty, Node}
 use Rattle.md_tree.proofs.Common.{flatten, entering, is_table, alignments, Handed, EntersAt}
 use Rattle.md_tree.proofs.Common.{children_of, IsEnteredAt, EntersNode, index_after, tables_after}
 use Rattle.md_tree.proofs.Common.{fact_at, facts_of, facts_at, tables_at, facts-flatten}
-use Rattle.std.proofs.Common.{◌≡◌, ℕ, ◌+◌, ◌<◌, true, cond, Some, List, [], ◌∷◌, ◌++◌, length}
-use Rattle.std.proofs.Common.{get_or, refl, sym, ap, ◌∙◌, subst, append_assoc, append-nil, arith}
 use Rattle.md_pattern.specs.Partners.{partners_of}
 use Rattle.md_pattern.specs.Columns.{tables_of}
 use Rattle.md_pattern.proofs.CountedFacts.{length_table, length_tables}
 use Rattle.md_pattern.proofs.Passing.{tables-flatten}
+use Rattle.md_tree.proofs.EventRows.{position_rows, rows_all, Row, entry_row, rows_of, event_rows}
+use Rattle.md_tree.proofs.EventRows.{children_rows, fact_rows, numbered_rows, numbered_get}
 
 -- what is found at an entry, with the alignments of the tables
 abbrev pub IsFound : List (List AlignKind) → Row → Type 0

@@ -2,8 +2,8 @@
 use Rattle.std.proofs.Common.{arith, MatchOption, ◌≡◌, ℕ, zero, suc, false, Some, List, [], ◌∷◌}
 use Rattle.std.proofs.Common.{◌++◌, replicate, refl, ap, ◌∙◌, append_assoc, append-nil}
 use Rattle.md_tree.proofs.Common.{option_map, Symbol, Role, Item, Stage, Whole, Marker, Numeric}
-use Rattle.md_tree.proofs.Common.{Hexadecimal, Setext, State, pattern_of, EndsInGroup, begun_by}
-use Rattle.md_tree.proofs.Common.{next_stage, items_of, is_whole, start_of}
+use Rattle.md_tree.proofs.Common.{Hexadecimal, Setext, State, pattern_of, EndsInGroup, next_stage}
+use Rattle.md_tree.proofs.Common.{items_of, is_whole, start_of}
 use Rattle.md_pattern.specs.declared.kinds.Symbol.TheVariants as symbol_variants
 use symbol_variants.{ReferenceMarker, ReferenceNumeric, ReferenceHexadecimal, ReferenceValue}
 use symbol_variants.{SetextText, LineEnding}
@@ -18,9 +18,6 @@ IsHeld Marker group = group ≡ ReferenceMarker ∷ []
 IsHeld Numeric group = group ≡ ReferenceMarker ∷ ReferenceNumeric ∷ []
 IsHeld Hexadecimal group = group ≡ ReferenceMarker ∷ ReferenceNumeric ∷ ReferenceHexadecimal ∷ []
 IsHeld Setext group = (n : ℕ) × (group ≡ SetextText ∷ replicate n LineEnding)
-
-held_first : (symbol : Symbol) → IsHeld (begun_by symbol) (symbol ∷ [])
-held_first symbol = grind arith
 
 one_ending_more : (n : ℕ) → replicate n LineEnding ++ LineEnding ∷ [] ≡ replicate (suc n) LineEnding
 one_ending_more zero = refl

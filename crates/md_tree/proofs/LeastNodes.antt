@@ -6,7 +6,7 @@ use Rattle.md_tree.proofs.Common.{AreShaped, start_of, may_hold, Matches}
 use Rattle.md_base.specs.declared.event.Name.TheVariants as name
 use Rattle.md_pattern.specs.declared.kinds.Symbol.TheVariants as symbol
 use Rattle.md_pattern.specs.declared.kinds.Role.TheVariants as role
-use Rattle.md_pattern.specs.Shape.{item_in, prefix_in, label_in, code_fence_after, math_fence_after}
+use Rattle.md_pattern.specs.Shape.{item_in, prefix_in, label_in}
 use Rattle.md_tree.proofs.OpenPaths.{joined, spine-joined, EachNode-joined}
 use Rattle.md_tree.proofs.ClosedNodes.{not_childless}
 use Rattle.md_tree.proofs.EndsAfter.{ends_after, matches_after}
@@ -70,14 +70,6 @@ label_ends around = grind arith
 bare : (around : Role) → ends_after (start_of around) [] ≡ true → Matches around []
 bare around e = matches_after around [] e
 
-code_fence_ends : (before : Option Symbol) →
-    ends_after (start_of (code_fence_after before)) [] ≡ true
-code_fence_ends before = grind arith
-
-math_fence_ends : (before : Option Symbol) →
-    ends_after (start_of (math_fence_after before)) [] ≡ true
-math_fence_ends before = grind arith
-
 prefix_shaped : (around : Role) (before : Option Symbol) → around ≢ role.Childless →
     AreShaped (least symbol.ListItemPrefix) around before
 prefix_shaped around before apart = grind (arith, not_childless, prefix_ends, matches_after, bare)
@@ -93,44 +85,18 @@ label_shaped around before apart = grind (arith, not_childless, label_ends, matc
 
 footnote_shaped : (around : Role) (before : Option Symbol) → around ≢ role.Childless →
     AreShaped (least symbol.FootnotePrefix) around before
-footnote_shaped around before apart =
-    let inner = not_childless role.FootnotePrefix refl in (
-      (apart, matches_after role.FootnotePrefix _ refl),
-      ((inner, bare role.String refl), tt, tt),
-      tt,
-    )
+footnote_shaped around before apart = search (apart, not_childless, matches_after, bare, refl)
 
 head_shaped : (around : Role) (before : Option Symbol) → around ≢ role.Childless →
     AreShaped (least symbol.TableHead) around before
-head_shaped around before apart =
-    let inner = not_childless role.TableHead refl in (
-      (apart, matches_after role.TableHead _ refl),
-      ((inner, bare role.TableRow refl), tt, ((inner, bare role.TableDelimiterRow refl), tt, tt)),
-      tt,
-    )
+head_shaped around before apart = search (apart, not_childless, matches_after, bare, refl)
 
 least_shaped : (one : Symbol) (around : Role) (before : Option Symbol) → around ≢ role.Childless →
     has_least one ≡ true → AreShaped (least one) around before
-least_shaped symbol.ReferenceValue _ _ apart e = ((apart, bare role.Empty refl), tt, tt)
-least_shaped symbol.SetextUnderline _ _ apart e = ((apart, bare role.Empty refl), tt, tt)
 least_shaped symbol.FootnotePrefix around before apart e = footnote_shaped around before apart
-least_shaped symbol.FootnoteLabel _ _ apart e = ((apart, bare role.String refl), tt, tt)
-least_shaped symbol.ListItem around before apart e = item_shaped around before apart
-least_shaped symbol.ListItemPrefix around before apart e = prefix_shaped around before apart
-least_shaped symbol.ListItemMarker _ _ apart e = ((apart, bare role.Empty refl), tt, tt)
-least_shaped symbol.HeadingSequence _ _ apart e = ((apart, bare role.Empty refl), tt, tt)
-least_shaped symbol.CodeFence around before apart e =
-    ((apart, bare (code_fence_after before) (code_fence_ends before)), tt, tt)
-least_shaped symbol.MathFence around before apart e =
-    ((apart, bare (math_fence_after before) (math_fence_ends before)), tt, tt)
-least_shaped symbol.Label around before apart e = label_shaped around before apart
-least_shaped symbol.LabelText _ _ apart e = ((apart, bare role.Phrasing refl), tt, tt)
-least_shaped symbol.DefinitionLabel _ _ apart e = ((apart, bare role.String refl), tt, tt)
 least_shaped symbol.TableHead around before apart e = head_shaped around before apart
-least_shaped symbol.TableRow _ _ apart e = ((apart, bare role.TableRow refl), tt, tt)
-least_shaped symbol.TableDelimiterRow _ _ apart e =
-    ((apart, bare role.TableDelimiterRow refl), tt, tt)
-least_shaped _ around before apart e = cc
+least_shaped _ around before apart e =
+    grind (arith, matches_after, item_shaped, prefix_shaped, label_shaped)
 
 least_spine : (one : Symbol) → cond (has_least one) (spine (least one)) (one ∷ []) ≡ one ∷ []
 least_spine one = grind arith

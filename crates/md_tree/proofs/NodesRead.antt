@@ -1,4 +1,6 @@
 -- A node that is fine is read: it is entered, its children are read, and it is left.
+use Rattle.std.proofs.Common.{arith, ◌≡◌, ◌≢◌, ℕ, suc, true, Option, Some, MatchOption, List, refl}
+use Rattle.std.proofs.Common.{sym, ap, ◌∙◌}
 use Rattle.md_tree.proofs.Common.{Mdx, ExitsWhere, option_map, Point, Name, Symbol, Role, Childless}
 use Rattle.md_tree.proofs.Common.{Free, Standing, Through, Space, Solid, Referral, Missing}
 use Rattle.md_tree.proofs.Common.{Mentioned, State, Entry, Forest, Empty, Node, flatten}
@@ -7,8 +9,6 @@ use Rattle.md_tree.proofs.Common.{IsStanding, inner_role, inner_before, reading_
 use Rattle.md_tree.proofs.Common.{target_after, target_of, mention_of, mentions_with, index_after}
 use Rattle.md_tree.proofs.Common.{may_hold, start_of, Reads, Course, Runs, Exits, after_entry}
 use Rattle.md_tree.proofs.Common.{entered, entered_on}
-use Rattle.std.proofs.Common.{arith, ◌≡◌, ◌≢◌, ℕ, suc, true, Option, Some, MatchOption, List, refl}
-use Rattle.std.proofs.Common.{sym, ap, ◌∙◌}
 use Rattle.md_tree.proofs.Spots.{Feeds, advance_role}
 use Rattle.md_tree.proofs.Groups.{Feeds-matches}
 

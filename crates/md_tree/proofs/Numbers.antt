@@ -1,7 +1,7 @@
 -- What is kept of a document's events: what is found at them, with a number at each
 -- exit of a mention.
 use Rattle.std.proofs.Common.{arith, ◌≡◌, ℕ, zero, suc, true, Option, Some, List, [], ◌∷◌, ◌++◌}
-use Rattle.std.proofs.Common.{length, refl, sym, subst}
+use Rattle.std.proofs.Common.{length, refl}
 use Rattle.md_tree.proofs.Common.{map, slice_get, option_map, Name, Enter, Exit, Event, Fact}
 use Rattle.md_tree.proofs.Common.{facts_at, facts_of, facts-flatten, standing_of, Forest, Empty}
 use Rattle.md_tree.proofs.Common.{Node, flatten, lie, Referral, Mention, Nothing, reading_of}
@@ -88,9 +88,7 @@ pub recorded-at : (forest : Forest) (events : List Event) (index : ℕ) (event :
     RecordedAt events (facts_at events) (mentions_of forest) index event
 recorded-at forest events index event flattened here =
     recorded_at events (facts_at events) (mentions_of forest) index event
-    (subst (λ es. AreRecorded es (facts_at events) (mentions_of forest)) flattened
-    (subst (λ fs. AreRecorded (flatten forest) fs (mentions_of forest))
-    (sym (facts-flatten forest events flattened)) (recorded forest 0 0))) here
+    (rw (← flattened, facts-flatten forest (flatten forest) refl) (recorded forest 0 0)) here
 
 -- what is kept at an index
 pub got-with : (number : Mention → ℕ) (mentions : List Mention) (facts : List Fact) (index : ℕ)

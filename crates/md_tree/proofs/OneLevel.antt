@@ -1,25 +1,18 @@
 -- What is found on a spine by the symbol of a name: the alignments of each node with it.
-use Rattle.md_tree.proofs.SettledPatterns.{and_right, and_left}
 use Rattle.std.proofs.Common.{arith, ◌≡◌, Bool, true, false, ◌||◌, cond, Option, List, [], ◌∷◌}
 use Rattle.std.proofs.Common.{refl}
 use denote.Enum.Bare.{sameb}
 use Rattle.md_tree.proofs.Common.{list_all, list_all-append, the_type, AlignKind, Name}
-use Rattle.md_tree.proofs.Common.{GfmTableDelimiterCellValue, Symbol, Role, Standing, Through}
-use Rattle.md_tree.proofs.Common.{Space, Solid, Forest, Empty, Node, is_transparent, is_table_head}
-use Rattle.md_tree.proofs.Common.{is_delimiter_row, standing_of, spine, shown, EachNode}
-use Rattle.md_tree.proofs.Common.{IsShapedNode, IsStanding, inner_role, inner_before, alignment_of}
-use Rattle.md_tree.proofs.Common.{alignments, in_each}
+use Rattle.md_tree.proofs.Common.{GfmTableDelimiterCellValue, Symbol, Role, Standing, Solid, Forest}
+use Rattle.md_tree.proofs.Common.{Empty, Node, is_transparent, is_table_head, is_delimiter_row}
+use Rattle.md_tree.proofs.Common.{standing_of, spine, shown, EachNode, IsShapedNode, IsStanding}
+use Rattle.md_tree.proofs.Common.{inner_role, inner_before, alignment_of, alignments, in_each}
 use Rattle.md_pattern.specs.declared.kinds.Symbol.TheVariants as symbol
 use Rattle.md_base.specs.NameTests.{leads_to_values}
 use Rattle.md_base.specs.Is.{is as is_named}
+use Rattle.md_tree.proofs.SettledPatterns.{and_right, and_left}
 
 -- ---- names by their symbols
-
--- a transparent name
-abbrev pub is_through : Standing → Bool
-is_through Through = true
-is_through Space = true
-is_through _ = false
 
 -- a name with this symbol
 abbrev pub has_symbol : Symbol → Standing → Bool
@@ -27,11 +20,8 @@ has_symbol one (Solid other usual reading) = sameb the_type one other
 has_symbol one _ = false
 
 pub record Named (name : Name) : Type 0 where
-  pub transparent : is_transparent name ≡ is_through (standing_of name)
   pub value : is_named GfmTableDelimiterCellValue name
       ≡ has_symbol symbol.TableDelimiterValue (standing_of name)
-  pub leads : leads_to_values name
-      ≡ (is_through (standing_of name) || (is_table_head name || is_delimiter_row name))
   pub head : is_table_head name ≡ has_symbol symbol.TableHead (standing_of name)
   pub row : is_delimiter_row name ≡ has_symbol symbol.TableDelimiterRow (standing_of name)
 

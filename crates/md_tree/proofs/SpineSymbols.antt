@@ -1,9 +1,9 @@
 -- Which symbols a spine may have that matches a pattern.
-use Rattle.md_tree.proofs.SettledPatterns.{and_right, and_left, and_both, taken}
 use Rattle.std.proofs.Common.{arith, ◌≡◌, Bool, true, List, [], ◌∷◌, ◌++◌, refl, ap, ◌∙◌}
 use Rattle.md_tree.proofs.Common.{list_all, list_all-append, Symbol, Role, Item, members, class_of}
 use Rattle.md_tree.proofs.Common.{takes, pattern_of, Fits, spine, IsTail, IsGrouped, Matches}
 use Rattle.md_tree.proofs.Common.{begun_by, is_whole}
+use Rattle.md_tree.proofs.SettledPatterns.{and_right, and_left, and_both, taken}
 
 -- each symbol of an item's class passes
 abbrev pub passes : (Symbol → Bool) → Item → Bool

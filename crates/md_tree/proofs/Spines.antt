@@ -1,11 +1,16 @@
 -- The spine of shaped nodes is the same by names and by symbols.
-use Rattle.std.proofs.Common.{arith, ◌≡◌, Bool, cond, Option, List, [], ◌∷◌, ◌++◌, refl}
-use Rattle.std.proofs.Common.{append_assoc}
-use Rattle.md_tree.proofs.Common.{Name, Symbol, Role, Standing, Forest, Empty, Node, standing_of}
-use Rattle.md_tree.proofs.Common.{spine, shown, IsStanding, AreShaped, is_transparent}
+use Rattle.std.proofs.Common.{false, true, arith, ◌≡◌, Bool, cond, Option, List, [], ◌∷◌, ◌++◌}
+use Rattle.std.proofs.Common.{refl, append_assoc}
+use Rattle.md_tree.proofs.Common.{Space, Through, Name, Symbol, Role, Standing, Forest, Empty, Node}
+use Rattle.md_tree.proofs.Common.{standing_of, spine, shown, IsStanding, AreShaped, is_transparent}
 use Rattle.md_base.specs.Children.{spine_names}
 use Rattle.md_tree.specs.Laws.{symbols_of}
-use Rattle.md_tree.proofs.OneLevel.{is_through}
+
+-- a transparent name
+abbrev is_through : Standing → Bool
+is_through Through = true
+is_through Space = true
+is_through _ = false
 
 looked_through : (name : Name) → is_transparent name ≡ is_through (standing_of name)
 looked_through name = grind arith

@@ -1,6 +1,6 @@
 -- An event that stops a walk is refused for what it breaks.
-use Rattle.std.proofs.Common.{◌≡◌, ℕ, suc, ◌<◌, Some, List, [], ◌∷◌, ◌++◌, length, take, drop}
-use Rattle.std.proofs.Common.{get_or, sym, subst, arith}
+use Rattle.std.proofs.Common.{rules, ◌≡◌, ℕ, suc, ◌<◌, Some, List, [], ◌∷◌, ◌++◌, length, take}
+use Rattle.std.proofs.Common.{drop, get_or, sym, subst, arith}
 use Rattle.std.proofs.Math.Seq.{drop-cons}
 use Rattle.md_tree.proofs.Common.{slice_get, take-suc, take-append-drop, slice_get-get_or, Point}
 use Rattle.md_tree.proofs.Common.{Name, Kind, Enter, Exit, Event, Rule, CompileError, standing_of}
@@ -99,6 +99,5 @@ module _ (given : Handed) (index : ℕ) (d : Event) (course : Course)
 
   pub IsRefusal-stopped : (stopped : CompileError) → IsStop given.bytes given.names index
       event.kind event.name event.point course stopped → IsRefusal given stopped
-  IsRefusal-stopped error.Memory stop =
-      record { order = tt; mdx = tt; of_node = tt; lost = tt; outside = tt }
+  IsRefusal-stopped error.Memory stop = search rules
   IsRefusal-stopped (error.Event named broken) stop = stopped_at named broken stop.0 stop.1
