@@ -15,7 +15,7 @@ use Rattle.md_tree.specs.Refusal.{EndsUnresolved}
 use Rattle.md_tree.specs.Resolve.{RefersNowhere}
 use Rattle.md_tree.proofs.OneTree.{flatten_one}
 use Rattle.md_tree.proofs.Listing.{listed, resolved-listed, all-resolved, got-listed}
-use Rattle.md_tree.proofs.Trees.{Runs-append}
+use Rattle.md_tree.proofs.NodesRead.{Runs-append}
 use Rattle.md_tree.proofs.NumbersPut.{numbered-listed}
 use Rattle.md_tree.proofs.Endings.{LeaveOpen-undone, outside-undone, IsWalked}
 use Rattle.md_tree.proofs.LeastNodes.{somewhere}

@@ -15,9 +15,9 @@ use Rattle.md_tree.proofs.Common.{mentions_of}
 use Rattle.md_tree.specs.Refusal.{Begins, LeaveOpen}
 use Rattle.md_tree.specs.Walk.{Broken}
 use Rattle.md_tree.proofs.Listing.{listed, mentions_over-listed}
-use Rattle.md_tree.proofs.SettledPatterns.{and_both}
-use Rattle.md_tree.proofs.HeldGroups.{EndsInGroup-feeds}
-use Rattle.md_tree.proofs.Trees.{Feeds-context}
+use Rattle.md_tree.proofs.Patterns.{and_both}
+use Rattle.md_tree.proofs.Spots.{EndsInGroup-feeds}
+use Rattle.md_tree.proofs.NodesRead.{Feeds-context}
 use Rattle.md_tree.proofs.Completing.{IsDone-runs, BeginTree-runs}
 use Rattle.md_tree.proofs.OpenPaths.{path_none, Stands, Stands-context, Reached}
 use Rattle.md_tree.proofs.Paths.{Reached-left, Left-closed, Left-inner}

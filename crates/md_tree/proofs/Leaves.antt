@@ -10,7 +10,7 @@ use Rattle.md_tree.proofs.Common.{Passes, Unbroken, IsStopAtLeaf, IsStopInside}
 use Rattle.md_tree.specs.declared.rule.Rule.TheVariants as rule
 use Rattle.md_tree.specs.declared.rule.CompileError.TheVariants as error
 use Rattle.md_pattern.specs.declared.kinds.Role.TheVariants as role
-use Rattle.md_tree.proofs.Breaks.{IsStop-inside, StopsInside-broken}
+use Rattle.md_tree.proofs.Stopped.{IsStop-inside, StopsInside-broken}
 
 -- the course inside such a node, without the node among the open ones
 abbrev pub inside : Entry → Course → Course

@@ -1,14 +1,10 @@
 -- That `check` accepts exactly the grammar: the way ends in `Checking`. And that what is kept of a
 -- document is what its tree says: this way ends in `Kept`.
 pub mod Common
-pub mod Breaks
-pub mod Checking
 pub mod Stopped
-pub mod EndsAfter
+pub mod Checking
+pub mod Spots
 pub mod LeastNodes
-pub mod StillNeeded
-pub mod CompletedSpines
-pub mod SettledSpines
 pub mod Completing
 pub mod Contributing
 pub mod Defining
@@ -17,13 +13,9 @@ pub mod EnteredTables
 pub mod EventRows
 pub mod Entering
 pub mod Placing
-pub mod SettledPatterns
-pub mod TakenFits
-pub mod Greedy
-pub mod OneMoreIdentifier
-pub mod OneMoreEvent
-pub mod Numbering
+pub mod Patterns
 pub mod MentionsResolved
+pub mod OneMoreEvent
 pub mod NumbersPut
 pub mod Numbers
 pub mod OneTree
@@ -32,22 +24,14 @@ pub mod Kept
 pub mod Labels
 pub mod Leaves
 pub mod LeafRuns
-pub mod Spots
-pub mod Groups
-pub mod HeldGroups
 pub mod Listing
 pub mod OpenPaths
 pub mod ClosedNodes
 pub mod Paths
 pub mod TextRuns
-pub mod SearchSteps
-pub mod FoundPlaces
 pub mod Searching
 pub mod Spines
-pub mod SpineSymbols
-pub mod OneLevel
 pub mod Tables
 pub mod NodesRead
-pub mod Trees
 pub mod NodeClaims
 pub mod Verdicts

@@ -6,8 +6,7 @@ use Rattle.md_tree.proofs.Common.{reading_of, broken_rule, MeetRules, target_of,
 use Rattle.md_tree.proofs.Common.{Anything, Unbroken}
 use Rattle.md_tree.specs.Rules.{MeetsRules}
 use Rattle.md_tree.specs.Refusal.{IsShapedPath}
-use Rattle.md_tree.proofs.NodesRead.{IsReadWhere, IsFine, AllowsFree}
-use Rattle.md_tree.proofs.Trees.{EachNode-map}
+use Rattle.md_tree.proofs.NodesRead.{IsReadWhere, IsFine, AllowsFree, EachNode-map}
 use Rattle.md_tree.proofs.OpenPaths.{IsFinePath}
 
 reads_anything : (standing : Standing) (around : Role) (before : Option Symbol) (start end : Point)

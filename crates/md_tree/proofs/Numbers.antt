@@ -1,14 +1,13 @@
 -- What is kept of a document's events: what is found at them, with a number at each
 -- exit of a mention.
-use Rattle.std.proofs.Common.{arith, ◌≡◌, ℕ, zero, suc, true, Option, Some, List, [], ◌∷◌, ◌++◌}
-use Rattle.std.proofs.Common.{length, refl}
+use Rattle.std.proofs.Common.{rules, arith, ◌≡◌, ℕ, zero, suc, true, Option, Some, List, [], ◌∷◌}
+use Rattle.std.proofs.Common.{◌++◌, length, refl}
 use Rattle.md_tree.proofs.Common.{map, slice_get, option_map, Name, Enter, Exit, Event, Fact}
 use Rattle.md_tree.proofs.Common.{facts_at, facts_of, facts-flatten, standing_of, Forest, Empty}
-use Rattle.md_tree.proofs.Common.{Node, flatten, lie, Referral, Mention, Nothing, reading_of}
+use Rattle.md_tree.proofs.Common.{Node, flatten, Referral, Mention, Nothing, reading_of}
 use Rattle.md_tree.proofs.Common.{partner_event, position_there, position_at, position_ended}
 use Rattle.md_tree.proofs.Common.{mention_of, mentions_of, with_number, number_for, facts_with}
 use Rattle.md_tree.proofs.Common.{place_of, definition_for, is_of_definitions}
-use Rattle.md_base.specs.declared.event.Name.TheVariants.{Link, Image}
 
 -- ---- what doesn't change by numbers
 pub partner-with : (numbers : List ℕ) (facts : List Fact) (index : ℕ) →
@@ -109,6 +108,4 @@ pub number-definition : (bytes : List ℕ) (mentions : List Mention) (name : Nam
     (target : Referral) → is_of_definitions name ≡ true → place_of
     (number_for bytes mentions (mention_of (reading_of (standing_of name)) target)) ≡ definition_for
     bytes mentions (mention_of (reading_of (standing_of name)) target)
-number-definition bytes mentions Link target is = grind arith
-number-definition bytes mentions Image target is = grind arith
-number-definition bytes mentions _ target is = absurd (lie is)
+number-definition bytes mentions name target is = search rules

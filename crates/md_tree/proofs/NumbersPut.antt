@@ -5,7 +5,7 @@ use Rattle.md_tree.proofs.Common.{length_one, map, Fact, Mention, Nothing, Refer
 use Rattle.md_tree.proofs.Common.{mentions_among, identifier_at, which, number_of, with_number}
 use Rattle.md_tree.proofs.Common.{put_number, numbered, number_for, facts_with}
 use Rattle.md_tree.proofs.Listing.{listed, defined_listed}
-use Rattle.md_tree.proofs.Numbering.{put-none, put-past}
+use Rattle.md_tree.proofs.MentionsResolved.{put-none, put-past}
 
 -- a mention of nothing writes no number
 module _ (number : Mention → ℕ) (none : number Nothing ≡ 0) where

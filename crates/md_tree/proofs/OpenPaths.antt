@@ -8,8 +8,7 @@ use Rattle.md_tree.proofs.Common.{last_symbol, target_of, Level, opening, role_i
 use Rattle.md_tree.proofs.Common.{symbol_after, start_of, Reads, Course, entered, entered_on}
 use Rattle.md_tree.proofs.Common.{beginning}
 use Rattle.md_tree.proofs.Spots.{Feeds, option_map-some}
-use Rattle.md_tree.proofs.NodesRead.{IsFine}
-use Rattle.md_tree.proofs.Trees.{Feeds-context}
+use Rattle.md_tree.proofs.NodesRead.{IsFine, Feeds-context}
 
 -- nodes, and nodes after them
 abbrev pub joined : Forest → Forest → Forest

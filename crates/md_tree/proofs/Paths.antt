@@ -7,8 +7,7 @@ use Rattle.md_tree.proofs.Common.{EachNode, inner_role, inner_before, target_of,
 use Rattle.md_tree.proofs.Common.{may_hold, Reads, Course, Exits, ExitsWhere, after_entry, entered}
 use Rattle.md_tree.proofs.Common.{entered_on}
 use Rattle.md_tree.proofs.Spots.{Feeds, Feeds-append}
-use Rattle.md_tree.proofs.NodesRead.{IsFine}
-use Rattle.md_tree.proofs.Trees.{Feeds-context}
+use Rattle.md_tree.proofs.NodesRead.{IsFine, Feeds-context}
 use Rattle.md_tree.proofs.OpenPaths.{Reached, Stands-context, Stands, IsFinePath, may_hold_true}
 use Rattle.md_tree.proofs.OpenPaths.{entered_context, joined, flatten-joined, spine-joined}
 use Rattle.md_tree.proofs.OpenPaths.{target_of-joined, EachNode-joined}

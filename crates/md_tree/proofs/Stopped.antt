@@ -1,19 +1,56 @@
--- An event that stops a walk is refused for what it breaks.
-use Rattle.std.proofs.Common.{rules, ◌≡◌, ℕ, suc, ◌<◌, Some, List, [], ◌∷◌, ◌++◌, length, take}
-use Rattle.std.proofs.Common.{drop, get_or, sym, subst, arith}
-use Rattle.std.proofs.Math.Seq.{drop-cons}
-use Rattle.md_tree.proofs.Common.{slice_get, take-suc, take-append-drop, slice_get-get_or, Point}
-use Rattle.md_tree.proofs.Common.{Name, Kind, Enter, Exit, Event, Rule, CompileError, standing_of}
-use Rattle.md_tree.proofs.Common.{Handed, EndsBroken, IsRefusal, Course, Runs, StepsBy, beginning}
-use Rattle.md_tree.proofs.Common.{Anything, Unbroken, BreaksAtExit, StopsBy, IsStop}
+-- Which rules a node can break, and how a walk stops at its exit.
+use Rattle.std.proofs.Common.{arith, ◌≡◌, ℕ, true, Option, Some, List, ◌∷◌, rules, suc, ◌<◌, []}
+use Rattle.std.proofs.Common.{◌++◌, length, take, drop, get_or, sym, subst}
+use Rattle.md_tree.proofs.Common.{Point, Name, Exit, Symbol, Role, Reading, Referral, Rule}
+use Rattle.md_tree.proofs.Common.{CompileError, Open, Outer, place, broken_rule, is_complete}
+use Rattle.md_tree.proofs.Common.{Course, IsStop, IsStopInside, slice_get, take-suc}
+use Rattle.md_tree.proofs.Common.{take-append-drop, slice_get-get_or, Kind, Enter, Event}
+use Rattle.md_tree.proofs.Common.{standing_of, Handed, EndsBroken, IsRefusal, Runs, StepsBy}
+use Rattle.md_tree.proofs.Common.{beginning, Anything, Unbroken, BreaksAtExit, StopsBy}
+use Rattle.md_pattern.specs.declared.kinds.Reading.TheVariants as reading
 use Rattle.md_tree.specs.declared.rule.Rule.TheVariants as rule
+use Rattle.md_tree.specs.Walk.{StopsInside}
+use Rattle.std.proofs.Math.Seq.{drop-cons}
 use Rattle.md_tree.specs.declared.rule.CompileError.TheVariants as error
 use Rattle.md_pattern.specs.declared.kinds.Standing.TheVariants as standing
 use Rattle.md_tree.specs.Refusal.{IsOrder, IsMdx, IsBroken, IsLost}
 use Rattle.md_tree.specs.Refusal as refusal
-use Rattle.md_tree.proofs.Breaks.{IsOfNode, of_node}
 use Rattle.md_tree.proofs.Verdicts.{Reached-runs, BeginNoTree-stuck, outside-stopped}
 use Rattle.md_tree.proofs.Endings.{EndsBroken-exit}
+
+-- a rule that is judged when a node ends
+abbrev pub IsOfNode : Rule → Type 0
+IsOfNode rule.Order = ⊥
+IsOfNode rule.Mdx = ⊥
+IsOfNode rule.Definition = ⊥
+IsOfNode rule.Footnote = ⊥
+IsOfNode _ = Unit {0}
+
+module _ (bytes : List ℕ) (names : List (List ℕ × List ℕ)) where
+  pub of_node : (reads : Reading) (around : Role)
+      (before : Option Symbol) (start end : Point) (target : Referral) (broken : Rule) →
+      broken_rule bytes names reads around before start end target ≡ Some broken → IsOfNode broken
+  of_node reading.Text around before start end target broken e = grind arith
+  of_node _ around before start end target broken e = grind arith
+
+  pub StopsInside-broken : (broken : Rule) (outer : Outer)
+      (start end : Point) (course : Course) → is_complete course.state ≡ true →
+      broken_rule bytes names outer.reading outer.state.role outer.before start end course.target
+      ≡ Some broken → StopsInside bytes names broken outer (place start end) course
+  StopsInside-broken broken outer start end course complete e = grind arith
+
+  -- the same, as a refusal; which nodes are open doesn't matter inside
+  pub IsStop-inside : (index : ℕ) (refusal : CompileError) (others left : List Open)
+      (open_node : Open) (outer : Outer) (name : Name) (point : Point) (course : Course) →
+      course.open_nodes ≡ open_node ∷ others → open_node.name ≡ name →
+      open_node.outer ≡ Some outer →
+      IsStopInside bytes names index outer (place open_node.start point)
+      (record course { open_nodes = left }) refusal →
+      IsStop bytes names index Exit name point course refusal
+  IsStop-inside index refusal others left open_node outer name point course opens_are same
+      outer_is stops = grind arith
+
+-- An event that stops a walk is refused for what it breaks.
 
 module _ (bytes : List ℕ) (names : List (List ℕ × List ℕ)) where
   -- a rule that is judged when a node ends stops a walk at an exit alone
@@ -62,13 +99,7 @@ module _ (given : Handed) (index : ℕ) (d : Event) (course : Course)
   seen_more = take-suc given.events index d inside
 
   broken_node : (broken : Rule) → IsOfNode broken → Stops broken → IsBroken given index broken
-  broken_node broken of stops = (
-    inside,
-    subst (λ es. EndsBroken given.bytes given.names es broken) (sym seen_more)
-        (ends_broken given.bytes given.names broken event.kind event.name event.point
-        (take index given.events) course runs (at_exit given.bytes given.names broken event.kind
-        event.name event.point course of stops)),
-  )
+  broken_node broken of stops = search (rules, seen_more, ends_broken, at_exit)
 
   said_order : (broken : Rule) → Stops broken → IsOrder given (error.Event index broken)
   said_order broken stops = grind (arith, seen_more, BeginNoTree-stuck, order_stuck)

@@ -1,14 +1,12 @@
 -- Facts about a list of events, from how a walk over it continues, stops or ends.
-use Rattle.std.proofs.Common.{arith, ◌≡◌, ℕ, Bool, true, cond, None, MatchOption, List, [], ◌∷◌}
-use Rattle.std.proofs.Common.{◌++◌, sym, ◌∙◌, subst, append_assoc, append-nil}
-use Rattle.md_tree.proofs.Common.{Point, Name, Kind, Enter, Event, Flow, Standing, Mdx, Referral}
-use Rattle.md_tree.proofs.Common.{Rule, State, Entry, Open, Forest, flatten, IsShaped, MeetRules}
-use Rattle.md_tree.proofs.Common.{Handed, IsGrammatical, IsReadAs, IsChecked, BeginNoTree}
-use Rattle.md_tree.proofs.Common.{is_complete, Reads, Course, Runs, Steps, StepsBy, Exits}
-use Rattle.md_tree.proofs.Common.{entered_on, beginning, Anything, Unbroken, BreaksAtExit, StopsBy}
-use Rattle.md_tree.specs.declared.rule.Rule.TheVariants as rule
-use Rattle.md_tree.proofs.Trees.{Runs-split, Runs-document}
-use Rattle.md_tree.proofs.NodesRead.{after_nodes}
+use Rattle.std.proofs.Common.{rules, arith, ◌≡◌, ℕ, Bool, true, cond, None, MatchOption, List, []}
+use Rattle.std.proofs.Common.{◌∷◌, ◌++◌, sym, ◌∙◌, subst, append_assoc, append-nil}
+use Rattle.md_tree.proofs.Common.{Point, Name, Kind, Event, Flow, Standing, Mdx, Referral, Rule}
+use Rattle.md_tree.proofs.Common.{State, Entry, Open, Forest, flatten, IsShaped, MeetRules, Handed}
+use Rattle.md_tree.proofs.Common.{IsGrammatical, IsReadAs, IsChecked, BeginNoTree, is_complete}
+use Rattle.md_tree.proofs.Common.{Reads, Course, Runs, Steps, StepsBy, Exits, entered_on, beginning}
+use Rattle.md_tree.proofs.Common.{Anything, Unbroken, BreaksAtExit, StopsBy}
+use Rattle.md_tree.proofs.NodesRead.{Runs-split, Runs-document, after_nodes}
 use Rattle.md_tree.proofs.OpenPaths.{Reached, Reached-beginning}
 use Rattle.md_tree.proofs.Paths.{Reached-enter, Reached-exit}
 use Rattle.md_tree.proofs.NodeClaims.{shaped_anything, free_anything, fine_unbroken, free_unbroken}
@@ -89,9 +87,8 @@ module _ (bytes : List ℕ) (names : List (List ℕ × List ℕ)) where
   stop_steps : (kind : Kind) (broken : Rule) (name : Name)
       (point : Point) (course next : Course) → StopsBy bytes names kind broken name point course →
       StepsBy (Unbroken bytes names) kind name point course next → ⊥
-  stop_steps Enter rule.Order name point course next stops here = stops next here
-  stop_steps _ _ name point course next stops here =
-      grind (arith, mdx_enters, anything_exits, broken_leaves)
+  stop_steps kind broken name point course next stops here =
+      search (rules, mdx_enters, anything_exits, broken_leaves)
 
 -- a grammatical document is walked to its end
 pub Runs-checked : (given : Handed) (forest : Forest) → flatten forest ≡ given.events →

@@ -4,7 +4,7 @@ use Rattle.std.proofs.Common.{◌≡◌, ◌-◌, ◌++◌, ◌∷◌, [], ℕ, 
 use Rattle.std.proofs.Common.{append_assoc, arith}
 use Rattle.md_tree.proofs.Common.{Position, Definition, Mentioned, defined, defined_by}
 use Rattle.md_tree.proofs.Common.{mentions_among, NumbersFrom}
-use Rattle.md_tree.proofs.Numbering.{NumbersFrom-put, defined-last, defined_by-other}
+use Rattle.md_tree.proofs.MentionsResolved.{NumbersFrom-put, defined-last, defined_by-other}
 use Rattle.md_tree.proofs.resolve.definitions.Goals as goal
 
 -- how many definitions there are up to a mention

@@ -2,8 +2,7 @@
 -- numbered. The search doesn't derive the mentions' definitions from the numbers: `Numbering` does.
 use Rattle.std.proofs.Common.{below_more, get_or, sym}
 use Rattle.md_tree.proofs.Common.{mentions_among, IsResolved, number_for}
-use Rattle.md_tree.proofs.Numbering.{numbered-kept}
-use Rattle.md_tree.proofs.MentionsResolved.{IsResolved-at, IsUnresolvedBy-at}
+use Rattle.md_tree.proofs.MentionsResolved.{numbered-kept, IsResolved-at, IsUnresolvedBy-at}
 use Rattle.md_tree.proofs.resolve.resolve.Goals as goal
 
 pub returns-in-Err-clause-refused : goal.returns-in-Err-clause-refused

@@ -7,7 +7,7 @@ use Rattle.md_tree.proofs.Common.{reverse, reverse-append, name_table, Event, Ai
 use Rattle.md_tree.proofs.Common.{outer_of, opens_at, opens_seen, course_of}
 use Rattle.md_tree.specs.declared.open_nodes.Open.{Open as KeptOpen}
 use Rattle.md_tree.specs.Walk.{open_seen, targets_around, is_aimed}
-use Rattle.md_tree.proofs.Breaks.{IsStop-inside}
+use Rattle.md_tree.proofs.Stopped.{IsStop-inside}
 use Rattle.md_tree.proofs.walk.Walk.exit.Goals as goal
 
 -- a claim of an error
