@@ -1,11 +1,14 @@
 -- The mentions that a walk keeps are all except the empty ones, each with the index of its event.
 -- So what is resolved among those kept is resolved among all, as the grammar requires.
 use Rattle.std.proofs.Common.{◌≡◌, ℕ, suc, ◌+◌, Some, List, [], ◌∷◌, ◌++◌, refl, sym, ap, ◌∙◌}
-use Rattle.std.proofs.Common.{append_assoc, append-nil, arith}
+use Rattle.std.proofs.Common.{append_assoc, append-nil, arith, ◌≤◌, length}
 use Rattle.md_tree.proofs.Common.{slice_get, All, All-cons, All-nil, All-head, All-tail, Mention}
 use Rattle.md_tree.proofs.Common.{Nothing, Mentioned, Forest, Empty, Node, index_after, mentions_of}
 use Rattle.md_tree.proofs.Common.{mentions_with, mentions_among, defined, footnoted, IsResolved}
+use Rattle.md_tree.proofs.Common.{length_one, map, Fact, Reference, identifier_at, which, number_of}
+use Rattle.md_tree.proofs.Common.{with_number, put_number, numbered, number_for, facts_with}
 use Rattle.md_tree.proofs.NodesRead.{mentions_over}
+use Rattle.md_tree.proofs.MentionsResolved.{put-none, put-past}
 
 -- those of these mentions that are of something, where the first is of the event at an index
 abbrev pub listed : ℕ → List Mention → List Mentioned
@@ -113,3 +116,57 @@ got-listed mentions at one e =
     let place = got.at in
     let none : 0 + place ≡ place = omega arith in
     ap (λ i. slice_get mentions i) (got.index_is ∙ none) ∙ got.got
+
+-- Numbers written one by one are those of the list.
+
+-- a mention of nothing writes no number
+module _ (number : Mention → ℕ) (none : number Nothing ≡ 0) where
+  one_listed : (mention : Mention) (mentions : List Mention) (index : ℕ) (facts : List Fact) →
+      numbered number (listed index (mention ∷ mentions)) facts
+      ≡ numbered number (listed (suc index) mentions) (put_number index (number mention) facts)
+  one_listed mention mentions index facts = grind (arith, put-none)
+
+  past_listed : (mentions : List Mention) (index : ℕ) (facts : List Fact) → length facts ≤ index →
+      numbered number (listed index mentions) facts ≡ facts
+  past_listed [] index facts past = refl
+  past_listed (mention ∷ mentions) index facts past =
+      grind (arith, past_listed mentions, one_listed, put-past)
+
+  put_after : (before facts : List Fact) (n index : ℕ) → length before ≡ index →
+      put_number index n (before ++ facts) ≡ before ++ put_number 0 n facts
+  put_after [] facts n index e = ap (λ i. put_number i n facts) (sym e)
+  put_after (fact ∷ before) facts n index e = grind (arith, put_after before facts n _ refl)
+
+  numbered_listed : (mentions : List Mention) (index : ℕ) (before facts : List Fact) →
+      length before ≡ index → numbered number (listed index mentions) (before ++ facts)
+      ≡ before ++ facts_with (map number mentions) facts
+  numbered_listed [] index before facts e = refl
+  numbered_listed (mention ∷ mentions) index before [] e =
+      let within : length before ≡ index → length before ≤ index = λ same. omega (arith, same) in
+      ap (λ fs. numbered number (listed index (mention ∷ mentions)) fs) (append-nil before)
+      ∙ past_listed (mention ∷ mentions) index before (within e) ∙ sym (append-nil before)
+  numbered_listed (mention ∷ mentions) index before (fact ∷ facts) e =
+      let here = length_one before (with_number (number mention) fact) ∙ ap suc e in
+      let later = numbered_listed mentions _ _ facts here in
+      grind (arith, later, one_listed, put_after, append_assoc)
+
+-- two ways to number that are alike
+module _ (one other : Mention → ℕ) (alike : (mention : Mention) → one mention ≡ other mention) where
+  alike_all : (mentions : List Mention) → map one mentions ≡ map other mentions
+  alike_all [] = refl
+  alike_all (mention ∷ mentions) = grind (arith, alike_all mentions)
+
+pub numbered-listed : (bytes : List ℕ) (mentions : List Mention) (facts : List Fact) →
+    numbered (number_for bytes (mentions_among (listed 0 mentions))) (listed 0 mentions) facts
+    ≡ facts_with (map (number_for bytes mentions) mentions) facts
+numbered-listed bytes mentions facts =
+    let some = mentions_among (listed 0 mentions) in
+    numbered_listed (number_for bytes some) refl mentions 0 [] facts refl
+    ∙ ap (λ numbers. facts_with numbers facts) (alike_all _ _ alike mentions)
+  where
+    alike : (mention : Mention) → number_for bytes (mentions_among (listed 0 mentions)) mention
+        ≡ number_for bytes mentions mention
+    alike (Reference label) =
+        ap (λ ds. number_of (which ds (identifier_at bytes label)))
+        (defined_listed bytes mentions 0)
+    alike _ = refl

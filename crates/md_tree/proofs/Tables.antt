@@ -1,7 +1,8 @@
--- The alignments of a table of the grammar are those of its delimiter row's values. First which
--- symbols a spine may have that matches a pattern.
+-- The alignments of a table of the grammar are those of its delimiter row's values, and the tables
+-- of a document of the grammar have a table's shape. First which symbols a spine may have that
+-- matches a pattern.
 use Rattle.std.proofs.Common.{arith, ◌≡◌, Bool, true, List, [], ◌∷◌, ◌++◌, refl, ap, ◌∙◌, false}
-use Rattle.std.proofs.Common.{◌||◌, cond, Option, not, ◌&&◌, None, sym}
+use Rattle.std.proofs.Common.{◌||◌, cond, Option, not, ◌&&◌, None, sym, ℕ, Some}
 use Rattle.md_tree.proofs.Common.{list_all, list_all-append, Symbol, Role, Item, members, class_of}
 use Rattle.md_tree.proofs.Common.{takes, pattern_of, Fits, spine, IsTail, IsGrouped, Matches}
 use Rattle.md_tree.proofs.Common.{begun_by, is_whole, the_type, AlignKind, Name}
@@ -9,7 +10,8 @@ use Rattle.md_tree.proofs.Common.{GfmTableDelimiterCellValue, Standing, Solid, F
 use Rattle.md_tree.proofs.Common.{is_transparent, is_table_head, is_delimiter_row, standing_of}
 use Rattle.md_tree.proofs.Common.{shown, EachNode, IsShapedNode, IsStanding, inner_role}
 use Rattle.md_tree.proofs.Common.{inner_before, alignment_of, alignments, in_each, map, map-append}
-use Rattle.md_tree.proofs.Common.{GfmTableHead, AreShaped, IsTable}
+use Rattle.md_tree.proofs.Common.{GfmTableHead, AreShaped, IsTable, All, Event, GfmTable, Handed}
+use Rattle.md_tree.proofs.Common.{IsChecked, IsReadAs, IsGrammatical, EntersAt, IsEnteredAt}
 use Rattle.md_tree.proofs.Patterns.{and_right, and_left, and_both, taken}
 use denote.Enum.Bare.{sameb}
 use Rattle.md_pattern.specs.declared.kinds.Symbol.TheVariants as symbol
@@ -18,6 +20,9 @@ use Rattle.md_base.specs.Is.{is as is_named}
 use Rattle.md_base.specs.declared.event.Name.TheVariants.{GfmTableDelimiterRow}
 use Rattle.md_pattern.specs.declared.kinds.Role.TheVariants as role
 use Rattle.md_tree.specs.Tables.{values_of_row, values_of_head, values_of_table}
+use Rattle.md_tree.proofs.OneTree.{flatten_one}
+use Rattle.md_tree.proofs.EventRows.{rows_all, Row, rows_of}
+use Rattle.md_tree.proofs.Entering.{row_at}
 
 -- each symbol of an item's class passes
 abbrev pub passes : (Symbol → Bool) → Item → Bool
@@ -208,3 +213,44 @@ alignments-values_of_table children table =
     let rows = map_in_each alignment_of is_delimiter_row values_of_row of_row values in
     table_level children table
     ∙ sym (map_in_each alignment_of is_table_head values_of_head of_head rows children)
+
+-- The tables of a document of the grammar have a table's shape.
+
+-- a table has its shape
+abbrev IsTableRow : Row → Type 0
+IsTableRow row = row.event.name ≡ GfmTable → (children : Forest) →
+    row.children ≡ Some children → IsTable children
+
+entry_shape : (name : Name) (children : Forest) (around : Role) (before : Option Symbol) →
+    IsStanding (standing_of name) around before children → EachNode IsShapedNode children
+    (inner_role (standing_of name) around before) (inner_before (standing_of name) before) →
+    name ≡ GfmTable → (other : Forest) → Some children ≡ Some other → IsTable other
+entry_shape name children around before stands shaped is other e = grind arith
+
+rows_shaped : (forest : Forest) (index tables : ℕ) (around : Role) (before : Option Symbol) →
+    AreShaped forest around before → All IsTableRow (rows_of index tables forest)
+rows_shaped forest index tables around before shaped =
+    rows_all IsTableRow
+    (λ index tables nodes. (r : Role) × (b : Option Symbol) × AreShaped nodes r b)
+    (λ index tables name start end children rest holds. (
+      entry_shape name children holds.0 holds.1 holds.2.0.1 holds.2.1,
+      λ is other e. cc,
+      (_, _, holds.2.1),
+      (holds.0, _, holds.2.2),
+    )) forest index tables (around, before, shaped)
+
+-- where a document of the grammar enters a table, its children have a table's shape
+pub IsTable-entered : (given : Handed) (index : ℕ) → IsChecked given →
+    EntersAt given.events index GfmTable →
+    (children : Forest) → IsEnteredAt given index children → IsTable children
+IsTable-entered given index checked enters children entered =
+    let forest = checked.0 in
+    let flattened = IsReadAs.flattened checked.1 in
+    let shape = IsGrammatical.shape (IsReadAs.grammatical checked.1) in
+    let one : entered.0 ≡ forest =
+    flatten_one GfmTable (Event.point enters.0) entered.0 forest (entered.1 ∙ sym flattened) in
+    let got = rw one at entered.2 in
+    let here = row_at given forest index enters.0 flattened enters.1 in
+    let children_are : here.row.children ≡ Some children = cc (here.children_are, got) in
+    here.said IsTableRow (rows_shaped forest 0 0 role.Flow None shape.0)
+    (ap Event.name here.event_is ∙ enters.3) children children_are

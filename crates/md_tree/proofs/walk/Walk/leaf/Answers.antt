@@ -3,8 +3,8 @@
 -- computes.
 use Rattle.std.proofs.Common.{Some, None, sym, ap, ◌∙◌, add-one, suc}
 use Rattle.md_tree.proofs.Common.{option_map, name_table, point_at, course_of, state_of}
-use Rattle.md_tree.proofs.Leaves.{passes-over, Passes-solid, IsStopAtLeaf-open, IsStopAtLeaf-broken}
-use Rattle.md_tree.proofs.Leaves.{no-table-over, no-table-solid}
+use Rattle.md_tree.proofs.Leaves.{passes-over, Passes-solid, IsStopAtLeaf-open}
+use Rattle.md_tree.proofs.Leaves.{IsStopAtLeaf-broken, no-table-over, no-table-solid}
 use Rattle.md_tree.proofs.walk.Walk.leaf.Goals as goal
 
 pub returns-in-Through-clause-ok : goal.returns-in-Through-clause-ok
