@@ -220,9 +220,6 @@ IsWalked-done given course runs none complete =
       mentions_are = ap (λ (c : Course). c.mentions) same ∙ mentions_over-listed done.forest;
     }
 
--- What a check may say of a list of events: why each refusal is one, and that a list that passes is
--- of the grammar. The contracts of `check` and of `Reader` follow from it.
-
 -- ---- one event more
 pub Runs-more : (holds : Reads) (events : List Event) (index : ℕ) (d : Event) (from to : Course) →
     index < length events → Runs holds (take index events) beginning from →

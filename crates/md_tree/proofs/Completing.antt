@@ -61,10 +61,6 @@ module _ (holds : Reads) where
       settled_runs events runs.0 to
       (settled_step event.kind event.name event.point from runs.0 settled runs.1) runs.2
 
--- What has been read without an error begins a tree with the shape of the grammar: the
--- innermost spine is completed by the least nodes that its pattern still needs, its node ends,
--- and so outwards.
-
 -- ---- from where nodes are open to the end of a document
 
 -- events that end all that is open

@@ -103,8 +103,7 @@ pub record RowAt (given : Handed) (forest : Forest) (index : ℕ) (event : Event
 
 column_got : {A : Type 0} (f : Row → A) (rows : List Row) (column : List A) (index : ℕ) (row : Row) →
     map f rows ≡ column → slice_get rows index ≡ Some row → slice_get column index ≡ Some (f row)
-column_got f rows column index row same got =
-    ap (λ xs. slice_get xs index) (sym same) ∙ slice_get-map f rows index ∙ ap (option_map f) got
+column_got f rows column index row same got = grind (arith, slice_get-map)
 
 pub row_at : (given : Handed) (forest : Forest) (index : ℕ) (event : Event) →
     flatten forest ≡ given.events → slice_get given.events index ≡ Some event →

@@ -65,9 +65,6 @@ pub definitions-entered : (events : List Event) (forest : Forest) → flatten fo
 definitions-entered events forest flattened =
     all_definitions events forest 0 [] [] refl (sym flattened ∙ sym (append-nil _))
 
--- What a `Checked` keeps is what the tree of its events says, at each index of an event. The calls
--- of `Checked` only look something up: what they answer is right by this.
-
 module _ (inside : Inside) (given : Handed) (index : ℕ) (kept : IsKept inside)
     (same : handed_of inside ≡ given) where
   -- the document's nodes

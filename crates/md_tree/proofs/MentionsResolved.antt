@@ -1,8 +1,8 @@
 -- The target of a mention: the first definition with its identifier, or none. First identifiers that
 -- are the same, and a set of them with one more.
-use Rattle.std.proofs.Common.{arith, ◌≡◌, ℕ, suc, Bool, true, false, cond, Option, Some, None}
-use Rattle.std.proofs.Common.{List, ◌∷◌, refl, ap, ◌∙◌, add_assoc, zero, ◌+◌, ◌<◌, ◌≤◌, [], ◌++◌}
-use Rattle.std.proofs.Common.{length, get_or, drop, sym, subst}
+use Rattle.std.proofs.Common.{arith, ◌≡◌, ℕ, suc, Bool, true, false, cond, Option, Some, None, List}
+use Rattle.std.proofs.Common.{◌∷◌, refl, ap, ◌∙◌, add_assoc, ◌+◌, ◌<◌, ◌≤◌, [], ◌++◌, length}
+use Rattle.std.proofs.Common.{get_or, drop, sym, subst}
 use Rattle.std.specs.Prelude.{◌||◌, string_bytes, String, set, Bool}
 use Rattle.std.specs.Option.{option_cmp, ok_or}
 use Rattle.std.specs.String.{string_cmp}
@@ -14,9 +14,9 @@ use Rattle.std.specs.BTreeSet.{BTreeSet, contains, Updates}
 use Rattle.std.proofs.lemmas.Map.Text.{is_eq-slice_cmp}
 use Rattle.std.proofs.lemmas.Slice.Eq.{bytes_eq-Decides}
 use Rattle.md_tree.proofs.Common.{option_map, is_some, if◌then◌else◌, is_same, which}
-use Rattle.md_tree.proofs.Common.{IdentifiersBefore, slice_get, Position, Fact, Mention}
-use Rattle.md_tree.proofs.Common.{Definition, FootnoteDefinition, Mentioned, defined, defined_by}
-use Rattle.md_tree.proofs.Common.{footnoted_by, mentions_among, put_number, numbered, NumbersFrom}
+use Rattle.md_tree.proofs.Common.{IdentifiersBefore, slice_get, Position, Fact, Mention, Definition}
+use Rattle.md_tree.proofs.Common.{FootnoteDefinition, Mentioned, defined, defined_by, footnoted_by}
+use Rattle.md_tree.proofs.Common.{mentions_among, put_number, numbered, NumbersFrom}
 use Rattle.md_tree.proofs.Common.{slice_get_within, get_or_from_slice_get, Ok, Err, Contains}
 use Rattle.md_tree.proofs.Common.{get_or-map, slice_get-get_or, Reference, Call, Rule}
 use Rattle.md_tree.proofs.Common.{identifier_at, footnoted, IsResolved, IsUnresolvedBy}
@@ -153,14 +153,7 @@ pub put-set : (facts : List Fact) (index number : ℕ) (fact : Fact) →
     slice_get facts index ≡ Some fact → 0 < number →
     set facts index (record fact { read_at = number }) ≡ put_number index number facts
 put-set [] index number fact is some = cc
-put-set (first ∷ facts) zero zero fact is some = absurd (omega (arith, some))
-put-set (first ∷ facts) zero (suc place) fact is some =
-    ap (λ (f : Fact). record f { read_at = suc place } ∷ facts) (sym (same first fact is))
-  where
-    same : (one other : Fact) → Some one ≡ Some other → one ≡ other
-    same one other e = cc
-put-set (first ∷ facts) (suc index) number fact is some =
-    ap (λ fs. first ∷ fs) (put-set facts index number fact is some)
+put-set (first ∷ facts) index number fact is some = grind (arith, put-set facts)
 
 -- a loop over mentions keeps their numbers
 module _ (number : Mention → ℕ) (mentioned : List Mentioned) (i : ℕ) (facts all : List Fact)
@@ -173,8 +166,6 @@ module _ (number : Mention → ℕ) (mentioned : List Mentioned) (i : ℕ) (fact
       ap (λ fs. numbered number (drop (i + 1) mentioned) fs) (put
       ∙ ap (λ k. put_number (Mentioned.index (get_or mentioned i n)) k facts) (sym same))
       ∙ sym (at_drop_more (λ ms. numbered number ms facts) mentioned i n inside) ∙ so_far
-
--- The target of a mention: the first definition with its identifier, or none.
 
 -- ---- the target of a mention
 got_first_or_later : (x y : Identifier) (xs : List Identifier) (place : ℕ) →
@@ -206,34 +197,18 @@ resolved-reference bytes mentions label number is = grind (arith, which_there, w
 module _ (bytes : List ℕ) (mentions : List Mention) (label : Position) (known : Bool)
     (is : known ≡ is_some (which (footnoted bytes mentions) (identifier_at bytes label))) where
   pub resolved-call : known ≡ true → RefersTo bytes mentions (Call label) (Ok 0)
-  resolved-call there = (
-    there_is _
-        (λ place e. which_there (footnoted bytes mentions) (identifier_at bytes label) place e)
-        (sym is ∙ there),
-    refl,
-  )
-    where
-      there_is : {P : Type 0} (o : Option ℕ) → ((place : ℕ) → o ≡ Some place → P) →
-          is_some o ≡ true → P
-      there_is None get e = cc
-      there_is (Some place) get e = get place refl
+  resolved-call there = grind (arith, which_there)
 
   pub lost-call : known ≡ false → RefersTo bytes mentions (Call label) (Err rule.Footnote)
-  lost-call lost = (refl, which_lost (footnoted bytes mentions) _ (none_is_there _ (sym is ∙ lost)))
-    where
-      none_is_there : (o : Option ℕ) → is_some o ≡ false → o ≡ None
-      none_is_there None e = refl
-      none_is_there (Some place) e = cc
+  lost-call lost = grind (arith, which_lost)
 
 -- a lost mention is unresolved
 lost : (bytes : List ℕ) (mentioned : List Mentioned) (mention : Mention) (at index : ℕ)
     (broken : Rule) → slice_get mentioned at ≡ Some (record { index = index; mention = mention }) →
     IsNowhere bytes (mentions_among mentioned) mention broken →
     IsUnresolvedBy bytes mentioned index broken
-lost bytes mentioned (Reference label) at index broken here is =
-    subst (λ r. IsUnresolvedBy bytes mentioned index r) (sym is.0) (label, (at, here, is.1))
-lost bytes mentioned (Call label) at index broken here is =
-    subst (λ r. IsUnresolvedBy bytes mentioned index r) (sym is.0) (label, (at, here, is.1))
+lost bytes mentioned (Reference label) at index broken here is = rw is.0 (label, (at, here, is.1))
+lost bytes mentioned (Call label) at index broken here is = rw is.0 (label, (at, here, is.1))
 lost bytes mentioned _ at index broken here is = absurd is
 
 pub IsUnresolvedBy-at : (bytes : List ℕ) (mentioned : List Mentioned) (at : ℕ) (n : Mentioned)

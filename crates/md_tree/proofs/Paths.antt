@@ -84,10 +84,8 @@ module _ {holds : Reads} (ending : Reads) {events : List Event} (name : Name) (p
   left_from (level ∷ path) (open_node ∷ others) nodes base found opens_are stands feeds target
       events_are path_fine fine exits =
       grind (arith, may_hold_true)
-  left_from [] [] nodes base found opens_are stands feeds
-      target events_are path_fine fine exits = absurd exits
   left_from _ _ nodes base found opens_are stands feeds
-      target events_are path_fine fine exits = absurd stands
+      target events_are path_fine fine exits = grind arith
 
   pub Reached-left : Reached holds events from →
       Exits ending from.open_nodes name point from to → Left holds ending events name point from to

@@ -129,8 +129,6 @@ pub fits_back : (items left : List Item) (symbol : Symbol) (symbols : List Symbo
 fits_back [] left symbol symbols e fit = cc
 fits_back (item ∷ items) left symbol symbols e fit = grind (arith, fits_back items, fits_back_taken)
 
--- In a settled pattern, the first item that takes a symbol is the right one.
-
 many_taken : (item : Item) (taken : Bool) → taken ≡ true →
     (is_many item || not taken) ≡ true → (n : ℕ) → IsCount item n
 many_taken item taken t e n = grind arith

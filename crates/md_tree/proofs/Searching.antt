@@ -216,8 +216,6 @@ reader_finds Definition children h = place_found is_definition_label children
 reader_finds GfmFootnoteDefinition children h = alone (spot want.FootnotePrefix children) children
 reader_finds _ children h = absurd (lie h)
 
--- The search over a spine finds the place that a name reads.
-
 -- a transparent node is nothing that is sought
 passed_by : (w : Wanted) (name : Name) → is_transparent name ≡ true →
     (seeks w name ≡ false) × (refers w name ≡ false)

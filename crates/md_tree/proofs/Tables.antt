@@ -121,8 +121,6 @@ module _ (test : Name → Bool) (only : Name) (one : Symbol) (p : Symbol → Boo
   level (Node name start end children rest) around before shaped all =
       grind (arith, level children, level rest, list_all-append, any_node, and_left, and_right)
 
--- The alignments of a table of the grammar are those of its delimiter row's values.
-
 -- ---- the three levels
 value_is : (name : Name) → is_named GfmTableDelimiterCellValue name ≡ true →
     name ≡ GfmTableDelimiterCellValue
@@ -213,8 +211,6 @@ alignments-values_of_table children table =
     let rows = map_in_each alignment_of is_delimiter_row values_of_row of_row values in
     table_level children table
     ∙ sym (map_in_each alignment_of is_table_head values_of_head of_head rows children)
-
--- The tables of a document of the grammar have a table's shape.
 
 -- a table has its shape
 abbrev IsTableRow : Row → Type 0
