@@ -1,8 +1,8 @@
 -- The target of a mention: the first definition with its identifier, or none. First identifiers that
 -- are the same, and a set of them with one more.
 use Rattle.std.proofs.Common.{arith, ◌≡◌, ℕ, suc, Bool, true, false, cond, Option, Some, None, List}
-use Rattle.std.proofs.Common.{◌∷◌, refl, ap, ◌∙◌, add_assoc, ◌+◌, ◌<◌, ◌≤◌, [], ◌++◌, length}
-use Rattle.std.proofs.Common.{get_or, drop, sym, subst}
+use Rattle.std.proofs.Common.{◌∷◌, refl, ap, ◌∙◌, ◌+◌, ◌<◌, ◌≤◌, [], ◌++◌, length, get_or, drop}
+use Rattle.std.proofs.Common.{sym}
 use Rattle.std.specs.Prelude.{◌||◌, string_bytes, String, set, Bool}
 use Rattle.std.specs.Option.{option_cmp, ok_or}
 use Rattle.std.specs.String.{string_cmp}
@@ -103,15 +103,11 @@ pub defined-last : (bytes : List ℕ) (before : List Mentioned) (last : Mentione
     ≡ length (defined bytes (mentions_among before)) + length (defined_by bytes last.mention [])
 defined-last bytes [] last = none_more _
 defined-last bytes (one ∷ before) last =
-    more one.mention _
-    ∙ ap (λ n. length (defined_by bytes one.mention []) + n) (defined-last bytes before last)
-    ∙ sym (add_assoc _ _ _)
-    ∙ ap (λ n. n + length (defined_by bytes last.mention [])) (sym (more one.mention _))
+    grind (arith, more one.mention, defined-last bytes before)
   where
     more : (mention : Mention) (later : List Identifier) → length (defined_by bytes mention later)
         ≡ length (defined_by bytes mention []) + length later
-    more (Definition label) later = let n = length later in omega arith
-    more _ later = none_more (length later)
+    more mention later = grind arith
 
 -- a loop over mentions knows what they define, which F gives
 pub IdentifiersBefore-at : (F : List Mentioned → List Identifier) (mentioned : List Mentioned)
@@ -120,8 +116,7 @@ pub IdentifiersBefore-at : (F : List Mentioned → List Identifier) (mentioned :
     (left : List Identifier) → F (get_or mentioned i n ∷ drop (i + 1) mentioned) ≡ left →
     IdentifiersBefore known left (F mentioned)
 IdentifiersBefore-at F mentioned i known inside before n left is =
-    subst (λ xs. IdentifiersBefore known xs (F mentioned))
-    (at_drop_more F mentioned i n inside ∙ is) before
+    rw (at_drop_more F mentioned i n inside ∙ is) at before
 
 -- what a mention that defines nothing adds
 pub defined_by-other : (bytes : List ℕ) (mention : Mention) (others : List Identifier) →

@@ -1,7 +1,7 @@
 -- The search over a spine finds the place that a name reads. First one step of a search: from the
 -- state before a node to the state after it.
 use Rattle.std.proofs.Common.{arith, ◌≡◌, ℕ, Bool, true, false, cond, Option, Some, None, refl, ap}
-use Rattle.std.proofs.Common.{suc, ◌∙◌, subst}
+use Rattle.std.proofs.Common.{suc, ◌∙◌}
 use Rattle.md_tree.proofs.Common.{unwrap_or, Name, Point, Position, Wanted, Sought, Forest}
 use Rattle.md_tree.proofs.Common.{is_heading_mark, is_item_value, is_label_text, is_reference}
 use Rattle.md_tree.proofs.Common.{is_definition_label, is_footnote_label, or_else, first_on_spine}
@@ -260,11 +260,8 @@ module _ (at : At) (none : at 0 ≡ None) where
       sought_after name index (sought_over _ children _) s in
       let here = node_step index name start end children s all.0
       (searched children _ all.1) (is_transparent name) refl in
-      let after_it =
-      subst
-      (λ w. Searched at middle (sought_over later rest middle) (spot w rest) (reference w rest))
-      (Searched.wanted here) (searched rest later all.2 middle) in
-      joined at s middle _ _ _ _ _ here after_it
+      joined at s middle _ _ _ _ _ here (rw (Searched.wanted here) at
+      (searched rest later all.2 middle))
 
   -- what a name reads
   pub reads-found : (name : Name) (children : Forest) (index : ℕ) → AllAt at index children →

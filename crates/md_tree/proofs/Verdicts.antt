@@ -54,8 +54,7 @@ BeginNoTree-stuck holds seen event course runs stuck = λ forest more shaped fla
     (shaped_anything forest Flow None shaped.0) shaped.1 in
     let end = after_nodes forest document.0 beginning in
     let parts = Runs-split Anything seen _ beginning end
-    (subst (λ es. Runs Anything es beginning end) (flattened ∙ append_assoc seen _ more)
-    document.1) in
+    (rw (flattened ∙ append_assoc seen _ more) at document.1) in
     let same = Runs-same Anything holds seen beginning parts.0 course parts.1 runs in
     stuck parts.2.0 (subst (λ c. Steps Anything event c parts.2.0) same parts.2.1)
 
