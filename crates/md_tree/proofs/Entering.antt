@@ -101,8 +101,9 @@ pub record RowAt (given : Handed) (forest : Forest) (index : ℕ) (event : Event
   pub children_are : slice_get (children_of forest) index ≡ Some row.children
   pub position_is : slice_get (positions_of forest) index ≡ Some row.position
 
-column_got : {A : Type 0} (f : Row → A) (rows : List Row) (column : List A) (index : ℕ) (row : Row) →
-    map f rows ≡ column → slice_get rows index ≡ Some row → slice_get column index ≡ Some (f row)
+column_got : {A : Type 0} (f : Row → A) (rows : List Row) (column : List A) (index : ℕ)
+    (row : Row) → map f rows ≡ column →
+    slice_get rows index ≡ Some row → slice_get column index ≡ Some (f row)
 column_got f rows column index row same got = grind (arith, slice_get-map)
 
 pub row_at : (given : Handed) (forest : Forest) (index : ℕ) (event : Event) →

@@ -1,5 +1,5 @@
--- The target of a mention: the first definition with its identifier, or none. First identifiers that
--- are the same, and a set of them with one more.
+-- The target of a mention: the first definition with its identifier, or none. First: identifiers
+-- that are the same, and a set of them with one more.
 use Rattle.std.proofs.Common.{arith, ◌≡◌, ℕ, suc, Bool, true, false, cond, Option, Some, None, List}
 use Rattle.std.proofs.Common.{◌∷◌, refl, ap, ◌∙◌, ◌+◌, ◌<◌, ◌≤◌, [], ◌++◌, length, get_or, drop}
 use Rattle.std.proofs.Common.{sym}

@@ -1,6 +1,6 @@
 -- In a settled pattern, the first item that takes a symbol is the right one, and the symbols that
--- are taken so fit the pattern. In a settled pattern, after an item that may be left out, each later
--- item that takes one of its symbols may be there any number of times.
+-- are taken so fit the pattern. Settled: after an item that may be left out, each later item that
+-- takes one of its symbols may be there any number of times.
 use Rattle.std.proofs.Common.{arith, ◌≡◌, Bool, true, false, not, ◌&&◌, ◌||◌, List, [], ◌∷◌, refl}
 use Rattle.std.proofs.Common.{cond, if◌then◌else◌, Option, Some, None, ap, ℕ, ◌++◌, length, sym}
 use denote.Enum.Bare.{sameb}
