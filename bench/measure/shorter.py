@@ -7,7 +7,7 @@ In a copy of the crate, beside each lemma of LINES lines of proof or more (3 if 
 writes two of the same statement, one proved by `grind arith`, and one by `grind` with the lemmas
 that its proof cites. It checks the copy, and prints for each that passes the lines that it saves,
 most first. With --again a lemma that calls itself is tried too, clause by clause, with what it
-calls as facts. It changes nothing: put what it prints into the file, remove the imports that
+calls as facts. It changes nothing: write what it prints into the file, remove the imports that
 nothing uses (`rattle check --fix-imports`), and check the crate.
 
 The crates below must have been built, in this clone or in CLONE, by `rt ci CRATE` there. A check
