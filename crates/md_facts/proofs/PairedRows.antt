@@ -100,7 +100,8 @@ paired-rows all (Node name start end children rest) index outermost seen later e
       (closing ∷ (after ++ later)) one-seen refl inner-there) (
         own false exit refl,
         paired-rows all rest (suc exit) outermost
-            (((seen ++ opening ∷ []) ++ inner) ++ closing ∷ []) later (length_one ((seen ++ opening ∷ []) ++ inner) closing ∙ ap suc inner-seen) nil
+            (((seen ++ opening ∷ []) ++ inner) ++ closing ∷ []) later
+            (length_one ((seen ++ opening ∷ []) ++ inner) closing ∙ ap suc inner-seen) nil
             (after_node all seen inner after later opening closing same),
       ),
 )

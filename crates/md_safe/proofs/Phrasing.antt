@@ -43,7 +43,7 @@ none-done x = record {
   later = omega arith;
 }
 
--- tokens that lead to another place, and what is done from there
+-- tokens after which the parser is at another place, and what is done from there
 onward : {x : Position} {next : Nodes} {left : List Entry} {more : ℕ} {forest rest : Forest} →
     put x.node.children forest ≡ put next rest → run (parser_of x) (tokens forest)
     ≡ run (parser_of (with_children x next left more)) (tokens rest) → Keeps x.active left →

@@ -1,15 +1,13 @@
 -- A node that ends is valid, and extends its parent's spine.
-use Rattle.std.proofs.Common.{◌≡◌, ◌≢◌, true, false, Option, Some, None, List, refl, sym, ap, ◌∙◌}
-use Rattle.std.proofs.Common.{subst}
+use Rattle.std.proofs.Common.{arith, ◌≡◌, ◌≢◌, true, false, Option, Some, None, List, refl, sym, ap}
+use Rattle.std.proofs.Common.{◌∙◌, subst}
 use Rattle.md_tree.proofs.Common.{Point, Name, Symbol, Role, Childless, Reading, Free, Standing}
-use Rattle.md_tree.proofs.Common.{Through, Space, Solid, Mdx, Referral, Missing, State, Entry, Open}
+use Rattle.md_tree.proofs.Common.{Through, Space, Solid, Referral, Missing, State, Entry, Open}
 use Rattle.md_tree.proofs.Common.{Outer, Forest, Empty, Node, spine, shown, EachNode, IsStanding}
 use Rattle.md_tree.proofs.Common.{role_for, place, target_at, target_after, target_of, may_hold}
 use Rattle.md_tree.proofs.Common.{start_of, Reads, Course, ExitsWhere, entered_on}
-use Rattle.md_tree.proofs.Spots.{Feeds, advance_role, option_map-some}
-use Rattle.md_tree.proofs.Groups.{matches_feeds}
+use Rattle.md_tree.proofs.Spots.{Feeds, advance_role, option_map-some, matches_feeds}
 use Rattle.md_tree.proofs.NodesRead.{IsReadWhere, IsFine}
-use Rattle.md_tree.proofs.OpenPaths.{some_entry}
 
 -- a node that ends is valid, and extends its parent's spine
 pub record Closed (holds : Reads) (standing : Standing) (name : Name) (start end : Point)
@@ -31,12 +29,7 @@ nothing_inside holds (Node name start end children rest) before fine = absurd (f
 -- an entry's parts
 pub entry_is : (a b : Entry) → Some a ≡ Some b →
     (a.state ≡ b.state) × (a.target ≡ b.target) × (a.outer ≡ b.outer)
-entry_is a b e =
-    let same = some_entry a b e in (
-      ap (λ (n : Entry). n.state) same,
-      ap (λ (n : Entry). n.target) same,
-      ap (λ (n : Entry). n.outer) same,
-    )
+entry_is a b e = grind arith
 
 -- a node that ends, by how its name stands
 module _ (holds ending : Reads) (name : Name) (start end : Point) (children : Forest)
@@ -54,17 +47,7 @@ module _ (holds ending : Reads) (name : Name) (start end : Point) (children : Fo
   Closes standing = Closed ending standing name start end children here to.state found to.target
 
   closed_through : Enters Through → Closes Through
-  closed_through e =
-      let parts = entry_is (record { state = here; target = found; outer = None }) _ e in
-      let exit = subst (λ o. ExitsWhere ending o start end others last to) (sym parts.2) exits in
-      record {
-        apart = not_childless here.role may;
-        shaped = tt;
-        read = tt;
-        feeds = subst (λ s. Feeds here (spine children) s) (ap Course.state (sym exit))
-            (subst (λ s. Feeds s (spine children) last.state) (sym parts.0) feeds);
-        target_is = ap Course.target exit ∙ target ∙ ap (target_of children) (sym parts.1);
-      }
+  closed_through e = grind arith
 
   closed_space : Enters Space → Closes Space
   closed_space e =
@@ -86,12 +69,7 @@ module _ (holds ending : Reads) (name : Name) (start end : Point) (children : Fo
       Enters (Solid symbol usual reading) → Closes (Solid symbol usual reading)
   closed_solid symbol usual reading e =
       let role = role_for here.role here.before usual in
-      let m = option_map-some (λ (next : State). record {
-        state = start_of role;
-        target = Missing;
-        outer =
-            Some (record { state = next; before = here.before; target = found; reading = reading });
-      }) _ _ e in
+      let m = option_map-some _ _ _ e in
       let next = m.0 in
       let base_is : start_of role ≡ base = ap Entry.state m.2 in
       let inner_is : Missing ≡ inner = ap Entry.target m.2 in
@@ -101,18 +79,12 @@ module _ (holds ending : Reads) (name : Name) (start end : Point) (children : Fo
       target ∙ ap (target_of children) (sym inner_is) in
       record {
         apart = not_childless here.role may;
-        shaped = matches_feeds role _ last.state
-            (subst (λ s. Feeds s (spine children) last.state) (sym base_is) feeds) exit.0;
-        read = subst (λ r. ending reading r here.before start end (target_of children Missing))
-            (advance_role here next symbol m.1).0
-            (subst (λ t. ending reading next.role here.before start end t) target_here exit.1);
+        shaped = matches_feeds role _ last.state (rw (← base_is) at feeds) exit.0;
+        read = rw (← (advance_role here next symbol m.1).0, ← target_here) exit.1;
         feeds = (next, m.1, ap Course.state (sym exit.2));
         target_is = ap Course.target exit.2
             ∙ ap (λ t. target_at reading found t (place start end)) target_here;
       }
 
   pub closed : (standing : Standing) → Enters standing → Closes standing
-  closed Through e = closed_through e
-  closed Space e = closed_space e
-  closed (Solid symbol usual reading) e = closed_solid symbol usual reading e
-  closed Mdx e = cc
+  closed standing e = grind (arith, closed_through, closed_space, closed_solid)

@@ -1,24 +1,65 @@
 -- What has been read without an error begins a tree with the shape of the grammar: the
 -- innermost spine is completed by the least nodes that its pattern still needs, its node ends,
--- and so outwards.
-use Rattle.std.proofs.Common.{◌≡◌, true, Option, Some, None, List, [], ◌∷◌, ◌++◌, refl, sym, ap}
-use Rattle.std.proofs.Common.{◌∙◌, subst}
-use Rattle.md_tree.proofs.Common.{Event, State, Forest, flatten, exiting, spine, EachNode, IsShaped}
-use Rattle.md_tree.proofs.Common.{is_complete, Reads, Outer, Open, Course, Runs, Exits, ExitsWhere}
-use Rattle.md_tree.proofs.Common.{after_exit, after_through, beginning, Anything, opening}
+-- and so outwards. First: open nodes wait for spines on which nodes may stand, and no event leaves
+-- this.
+use Rattle.std.proofs.Common.{arith, ◌≡◌, Bool, cond, Option, Some, None, MatchOption, List, []}
+use Rattle.std.proofs.Common.{◌∷◌, refl, subst, true, ◌++◌, sym, ap, ◌∙◌}
+use Rattle.md_tree.proofs.Common.{Point, Name, Kind, Enter, Exit, Event, Standing, may_hold, Reads}
+use Rattle.md_tree.proofs.Common.{Outer, Open, Entry, Course, Runs, StepsBy, Exits, after_entry}
+use Rattle.md_tree.proofs.Common.{entered_on, Forest, flatten, exiting, EachNode, IsShaped}
+use Rattle.md_tree.proofs.Common.{is_complete, after_exit, after_through, beginning, Anything}
+use Rattle.md_tree.proofs.Common.{opening}
+use Rattle.md_tree.proofs.LeastNodes.{IsSettled, somewhere, completion, completed}
 use Rattle.md_pattern.specs.declared.kinds.Role.TheVariants as role
 use Rattle.md_tree.specs.Refusal.{BeginTree}
-use Rattle.md_tree.proofs.SettledPatterns.{and_left}
-use Rattle.md_tree.proofs.Spots.{Feeds}
-use Rattle.md_tree.proofs.Groups.{matches_feeds, whole_stage}
-use Rattle.md_tree.proofs.NodesRead.{IsFine, after_nodes}
-use Rattle.md_tree.proofs.Trees.{Runs-append}
-use Rattle.md_tree.proofs.OpenPaths.{path_none, Stands}
+use Rattle.md_tree.proofs.Patterns.{and_left}
+use Rattle.md_tree.proofs.Spots.{matches_feeds, whole_stage}
+use Rattle.md_tree.proofs.NodesRead.{IsFine, after_nodes, Runs-append}
+use Rattle.md_tree.proofs.OpenPaths.{path_none}
 use Rattle.md_tree.proofs.NodeClaims.{fine_shaped}
 use Rattle.md_tree.proofs.Verdicts.{Reached-runs, anything_runs}
-use Rattle.md_tree.proofs.LeastNodes.{somewhere}
-use Rattle.md_tree.proofs.CompletedSpines.{IsSettled, completion, completed}
-use Rattle.md_tree.proofs.SettledSpines.{WaitsSettled, AreSettled, settled_runs}
+
+-- ---- open nodes wait for spines on which nodes may stand
+abbrev pub WaitsSettled : Option Outer → Type 0
+WaitsSettled None = Unit {0}
+WaitsSettled (Some outer) = IsSettled outer.state
+
+abbrev pub AreSettled : List Open → Type 0
+AreSettled [] = Unit {0}
+AreSettled (open_node ∷ others) = WaitsSettled open_node.outer × AreSettled others
+
+abbrev pub HasSettled : Course → Type 0
+HasSettled course = IsSettled course.state × AreSettled course.open_nodes
+
+abbrev EntersSettled : Entry → Type 0
+EntersSettled entry = IsSettled entry.state × WaitsSettled entry.outer
+
+-- ---- no event leaves this
+settled_enter : (standing : Standing) (named : Name) (point : Point) (from to : Course) →
+    HasSettled from → (b : Bool) → may_hold from.state.role ≡ b → (o : Option Entry) →
+    entered_on standing from.state from.target ≡ o →
+    MatchOption (cond b o None) ⊥ (λ entry. to ≡ after_entry entry named point from) → HasSettled to
+settled_enter standing named point from to settled b holds o is enters = grind arith
+
+module _ (holds : Reads) where
+  settled_exit : (opens : List Open) (named : Name) (point : Point) (from to : Course) →
+      IsSettled from.state → AreSettled opens → Exits holds opens named point from to →
+      HasSettled to
+  settled_exit opens named point from to here settled exits = grind arith
+
+  settled_step : (kind : Kind) (named : Name) (point : Point) (from to : Course) → HasSettled from →
+      StepsBy holds kind named point from to → HasSettled to
+  settled_step Enter named point from to settled step =
+      settled_enter _ named point from to settled _ refl _ refl step
+  settled_step Exit named point from to settled step =
+      settled_exit from.open_nodes named point from to settled.0 settled.1 step
+
+  pub settled_runs : (events : List Event) (from to : Course) → HasSettled from →
+      Runs holds events from to → HasSettled to
+  settled_runs [] from to settled runs = subst HasSettled runs settled
+  settled_runs (event ∷ events) from to settled runs =
+      settled_runs events runs.0 to
+      (settled_step event.kind event.name event.point from runs.0 settled runs.1) runs.2
 
 -- ---- from where nodes are open to the end of a document
 
@@ -42,11 +83,7 @@ leaving : (open_node : Open) (others : List Open) (from : Course) (outer : Optio
     is_complete from.state ≡ true → WaitsSettled outer → Leaving open_node others from
 leaving open_node others from None is complete waits = record {
   to = after_through others from;
-  exits = (
-    refl,
-    subst (λ o. ExitsWhere Anything o open_node.start somewhere others from
-        (after_through others from)) (sym is) refl,
-  );
+  exits = (refl, rw is);
   opens = refl;
   settled = λ _. whole_stage from.state.stage (and_left _ _ complete);
 }
@@ -54,11 +91,7 @@ leaving open_node others from (Some outer) is complete waits =
     let to = after_exit outer open_node.start somewhere others from in
     record {
       to = to;
-      exits = (
-        refl,
-        subst (λ o. ExitsWhere Anything o open_node.start somewhere others from to) (sym is)
-            (complete, tt, refl),
-      );
+      exits = (refl, rw is (complete, tt, refl));
       opens = refl;
       settled = waits;
     }
@@ -106,11 +139,10 @@ pub IsDone-runs : (holds : Reads) (events : List Event) (course : Course) →
     course.open_nodes ≡ [] → is_complete course.state ≡ true → IsDone holds events
 IsDone-runs holds events course runs none complete =
     let reached = Reached-runs holds events course runs in
-    let path = path_none reached.path reached.base reached.found
-    (subst (λ os. Stands reached.path os reached.base reached.found) none reached.stands) in
-    let fine = subst (λ (s : State). EachNode (IsFine holds) reached.nodes s.role s.before) path.1
-    reached.nodes_fine in
-    let feeds = subst (λ s. Feeds s (spine reached.nodes) course.state) path.1 reached.feeds in
+    let path = path_none reached.path course.open_nodes reached.base reached.found none
+    reached.stands in
+    let fine = rw path.1 at reached.nodes_fine in
+    let feeds = rw path.1 at reached.feeds in
     record {
       forest = reached.nodes;
       flattened = sym (reached.events_are ∙ ap (λ p. opening p ++ flatten reached.nodes) path.0);

@@ -1,21 +1,18 @@
 -- What stands at an index of a document's events is what the tree says of the node that is entered
 -- there.
-use Rattle.std.proofs.Common.{◌≡◌, ℕ, suc, ◌+◌, ◌<◌, true, cond, Some, None, List, [], ◌∷◌, ◌++◌}
-use Rattle.std.proofs.Common.{length, get_or, refl, sym, ap, ◌∙◌, subst, append_assoc, append-nil}
-use Rattle.std.proofs.Common.{arith}
-use Rattle.md_tree.proofs.Common.{slice_get_within, map, option_map, slice_get, All, get_or-map}
-use Rattle.md_tree.proofs.Common.{map-append, length-map, All-cons, All-append, All-nil}
-use Rattle.md_tree.proofs.Common.{slice_get-get_or, slice_get-map, get_or_from_slice_get, AlignKind}
-use Rattle.md_tree.proofs.Common.{Point, Name, Enter, Event, Fact, Forest, Empty, Node, flatten}
-use Rattle.md_tree.proofs.Common.{entering, is_table, alignments, Handed, EntersAt, children_of}
-use Rattle.md_tree.proofs.Common.{IsEnteredAt, EntersNode, index_after, partner_alone, tables_with}
-use Rattle.md_tree.proofs.Common.{tables_after, fact_at, facts_of, facts_at, tables_at}
-use Rattle.md_tree.proofs.Common.{facts-flatten}
+use Rattle.std.proofs.Common.{◌≡◌, ℕ, ◌+◌, ◌<◌, true, cond, Some, List, [], ◌∷◌, ◌++◌, length}
+use Rattle.std.proofs.Common.{get_or, refl, sym, ap, ◌∙◌, subst, append_assoc, append-nil, arith}
+use Rattle.md_tree.proofs.Common.{positions_of, slice_get_within, map, option_map, slice_get, All}
+use Rattle.md_tree.proofs.Common.{map-append, length-map, slice_get-get_or, slice_get-map}
+use Rattle.md_tree.proofs.Common.{AlignKind, Point, Name, Enter, Event, Fact, Forest, Empty, Node}
+use Rattle.md_tree.proofs.Common.{flatten, entering, is_table, alignments, Handed, EntersAt}
+use Rattle.md_tree.proofs.Common.{children_of, IsEnteredAt, EntersNode, index_after, tables_after}
+use Rattle.md_tree.proofs.Common.{fact_at, facts_of, facts_at, tables_at, facts-flatten}
 use Rattle.md_pattern.specs.Partners.{partners_of}
 use Rattle.md_pattern.specs.Columns.{tables_of}
 use Rattle.md_pattern.proofs.CountedFacts.{length_table, length_tables}
 use Rattle.md_pattern.proofs.Passing.{tables-flatten}
-use Rattle.md_tree.proofs.EventRows.{rows_all, Row, entry_row, exit_row, rows_of, event_rows}
+use Rattle.md_tree.proofs.EventRows.{position_rows, rows_all, Row, entry_row, rows_of, event_rows}
 use Rattle.md_tree.proofs.EventRows.{children_rows, fact_rows, numbered_rows, numbered_get}
 
 -- what is found at an entry, with the alignments of the tables
@@ -29,60 +26,41 @@ IsFound ended row =
 pub get_at : {A : Type 0} (xs ys : List A) (y : A) (n : ℕ) → length xs ≡ n →
     slice_get (xs ++ y ∷ ys) n ≡ Some y
 get_at [] ys y n e = subst (λ i. slice_get (y ∷ ys) i ≡ Some y) e refl
-get_at (x ∷ xs) ys y n e =
-    subst (λ i. slice_get (x ∷ (xs ++ y ∷ ys)) i ≡ Some y) e (get_at xs ys y _ refl)
+get_at (x ∷ xs) ys y n e = grind (arith, get_at xs)
 
 table_there : (name : Name) (before later : List (List AlignKind)) (own : List AlignKind) (n : ℕ) →
     length before ≡ n → is_table name ≡ true →
     slice_get (before ++ (cond (is_table name) (own ∷ []) [] ++ later)) n ≡ Some own
-table_there name before later own n e is =
-    ap (λ b. slice_get (before ++ (cond b (own ∷ []) [] ++ later)) n) is
-    ∙ get_at before later own n e
+table_there name before later own n e is = grind (arith, get_at)
 
 entry_found : (ended : List (List AlignKind)) (index tables : ℕ) (name : Name) (start : Point)
     (children : Forest) → (is_table name ≡ true →
     slice_get ended (tables_after tables children) ≡ Some (alignments children)) →
     IsFound ended (entry_row index tables name (entering name start) children)
-entry_found ended index tables name start children there other e =
-    let one : children ≡ other = cc in
-    subst (λ nodes. (t : ℕ) × (fact_at index tables name children ≡ fact_at index t name nodes)
-    × (is_table name ≡ true → slice_get ended (tables_after t nodes) ≡ Some (alignments nodes)))
-    one (tables, refl, there)
+entry_found ended index tables name start children there other e = grind arith
 
-rows_found : (ended before later : List (List AlignKind)) (forest : Forest) (index tables : ℕ) →
-    length before ≡ tables → ended ≡ before ++ (tables_of forest ++ later) →
-    All (IsFound ended) (rows_of index tables forest)
-rows_found ended before later Empty index tables e is = All-nil (IsFound ended)
-rows_found ended before later (Node name start end children rest) index tables e is =
-    let inner = tables_of children in
+-- the tables of some nodes, after as many others
+abbrev HasTables : List (List AlignKind) → ℕ → ℕ → Forest → Type 0
+HasTables ended index tables nodes =
+    (before : List (List AlignKind)) × (later : List (List AlignKind)) × (length before ≡ tables)
+    × (ended ≡ before ++ (tables_of nodes ++ later))
+
+rows_found : (ended : List (List AlignKind)) (forest : Forest) (index tables : ℕ) →
+    HasTables ended index tables forest → All (IsFound ended) (rows_of index tables forest)
+rows_found ended = rows_all (IsFound ended) (HasTables ended)
+    (λ index tables name start end children rest holds.
+    let before = holds.0 ++ tables_of children in
     let own = cond (is_table name) (alignments children ∷ []) [] in
-    let after_rest = tables_of rest in
-    let exit = index_after (suc index) children in
-    let more = tables_with name (tables_after tables children) in
-    let entry : Row = entry_row index tables name (entering name start) children in
-    let last : Row = exit_row exit index name start end in
-    let last_found : IsFound ended last = λ other none. cc in
-    let is_inside : ended ≡ before ++ (inner ++ (own ++ (after_rest ++ later))) =
-    is ∙ ap (λ ts. before ++ ts) (append_assoc inner (own ++ after_rest) later
-    ∙ ap (λ ts. inner ++ ts) (append_assoc own after_rest later)) in
-    let is_own : ended ≡ (before ++ inner) ++ (own ++ (after_rest ++ later)) = is_inside
-    ∙ sym (append_assoc before inner (own ++ (after_rest ++ later))) in
-    let is_rest : ended ≡ ((before ++ inner) ++ own) ++ (after_rest ++ later) = is_own
-    ∙ sym (append_assoc (before ++ inner) own (after_rest ++ later)) in
-    let counted = length_tables children tables before e in
-    let there : is_table name ≡ true →
-    slice_get ended (tables_after tables children) ≡ Some (alignments children) =
-    λ is. ap (λ ts. slice_get ts (tables_after tables children)) is_own
-    ∙ table_there name (before ++ inner) (after_rest ++ later) (alignments children)
-    (tables_after tables children) counted is in
-    All-cons (IsFound ended) entry (rows_of (suc index) tables children ++ last
-    ∷ rows_of (suc exit) more rest) (entry_found ended index tables name start children there)
-    (All-append (IsFound ended) (rows_of (suc index) tables children) (last
-    ∷ rows_of (suc exit) more rest) (rows_found ended before (own
-    ++ (after_rest ++ later)) children (suc index) tables e is_inside)
-    (All-cons (IsFound ended) last (rows_of _ more rest) last_found
-    (rows_found ended ((before ++ inner) ++ own) later rest (suc exit) more (length_table name
-    _ _ _ counted) is_rest)))
+    let after = tables_of rest ++ holds.1 in
+    let counted = length_tables children tables holds.0 holds.2 in
+    let is_own : ended ≡ before ++ (own ++ after) = holds.3 ∙ simp append_assoc in (
+      entry_found ended index tables name start children
+          (λ is. ap (λ ts. slice_get ts (tables_after tables children)) is_own
+          ∙ table_there name before after (alignments children) _ counted is),
+      λ other none. cc,
+      (holds.0, own ++ after, holds.2, holds.3 ∙ simp append_assoc),
+      (before ++ own, holds.1, length_table name _ _ _ counted, holds.3 ∙ simp append_assoc),
+    ))
 
 -- an entry has children
 abbrev HasChildren : Row → Type 0
@@ -96,18 +74,6 @@ rows_have forest index tables = rows_all HasChildren (λ index tables nodes. Uni
 pub got_inside : {A : Type 0} (xs : List A) (index : ℕ) (x : A) →
     slice_get xs index ≡ Some x → index < length xs
 got_inside xs index x e = slice_get_within xs index x e
-
--- what is got at an index of a list that another is mapped to
-pub got_mapped : {A B : Type 0} (f : A → B) (xs : List A) (ys : List B) (index : ℕ) (x : A)
-    (y : B) → map f xs ≡ ys →
-    index < length xs → slice_get ys index ≡ Some y → f (get_or xs index x) ≡ y
-got_mapped f xs ys index x y same inside e =
-    sym (get_or-map f xs index x y inside) ∙ ap (λ zs. get_or zs index y) same
-    ∙ get_or_from_slice_get ys index y y e
-
-pub mapped_long : {A B : Type 0} (f : A → B) (xs : List A) (ys : List B) → map f xs ≡ ys →
-    length xs ≡ length ys
-mapped_long f xs ys same = sym (length-map xs f) ∙ ap length same
 
 -- the partners, wherever the index is
 pub partners_there : (forest : Forest) (events : List Event) (facts : List Fact) (index : ℕ) →
@@ -123,63 +89,61 @@ partners_there forest events facts index flattened is =
         map (λ (f : Fact). f.partner) (facts_of index tables forest) ≡ partners_of index forest
     partners Empty index tables = refl
     partners (Node name start end children rest) index tables =
-        let exit = index_after (suc index) children in
-        let more = tables_with name (tables_after tables children) in
-        ap (λ ps. exit ∷ ps)
-        (map-append (λ (f : Fact). f.partner) (facts_of (suc index) tables children) _
-        ∙ ap (λ ps. ps ++ index ∷ map (λ (f : Fact). f.partner) (facts_of (suc exit) more rest))
-        (partners children _ tables)
-        ∙ ap (λ ps. partners_of (suc index) children ++ index ∷ ps) (partners rest _ more))
+        grind (arith, partners children, partners rest, map-append)
 
--- at an index of a document's events
+-- the row of an event of a document
+pub record RowAt (given : Handed) (forest : Forest) (index : ℕ) (event : Event) : Type 1 where
+  pub row : Row
+  pub said : (P : Row → Type 0) → All P (rows_of 0 0 forest) → P row
+  pub event_is : row.event ≡ event
+  pub index_is : row.index ≡ index
+  pub fact_is : slice_get (facts_at given.events) index ≡ Some row.fact
+  pub children_are : slice_get (children_of forest) index ≡ Some row.children
+  pub position_is : slice_get (positions_of forest) index ≡ Some row.position
+
+column_got : {A : Type 0} (f : Row → A) (rows : List Row) (column : List A) (index : ℕ)
+    (row : Row) → map f rows ≡ column →
+    slice_get rows index ≡ Some row → slice_get column index ≡ Some (f row)
+column_got f rows column index row same got = grind (arith, slice_get-map)
+
+pub row_at : (given : Handed) (forest : Forest) (index : ℕ) (event : Event) →
+    flatten forest ≡ given.events → slice_get given.events index ≡ Some event →
+    RowAt given forest index event
+row_at given forest index event flattened here =
+    let rows = rows_of 0 0 forest in
+    let past = entry_row index 0 event.name event forest in
+    let row = get_or rows index past in
+    let events_are = event_rows forest 0 0 ∙ flattened in
+    let facts_are = fact_rows forest 0 0 ∙ sym (facts-flatten forest given.events flattened) in
+    let long = sym (length-map rows (λ (r : Row). r.event)) ∙ ap length events_are in
+    let within = slice_get_within given.events index event here in
+    let inside : index < length rows = omega arith in
+    let got = slice_get-get_or rows index past inside in
+    let there = column_got (λ (r : Row). r.event) rows given.events index row events_are got in
+    let none : 0 + index ≡ index = omega arith in
+    record {
+      row = row;
+      said = λ P all. all index past inside;
+      event_is = cc (there, here);
+      index_is = numbered_get rows 0 (index_after 0 forest) index past (numbered_rows forest 0 0)
+          inside ∙ none;
+      fact_is = column_got (λ (r : Row). r.fact) rows _ index row facts_are got;
+      children_are =
+          column_got (λ (r : Row). r.children) rows _ index row (children_rows forest 0 0) got;
+      position_is =
+          column_got (λ (r : Row). r.position) rows _ index row (position_rows forest 0 0) got;
+    }
+
+-- at an index that enters a node
 module _ (given : Handed) (index : ℕ) (name : Name)
     (enters : EntersAt given.events index name) where
-  abbrev pub event : Event
-  event = enters.0
-
-  abbrev pub past_row : Row
-  past_row = record {
-    event = event;
-    children = None;
-    index = index;
-    fact = partner_alone index;
-    position = None;
-  }
-
-  pub inside_rows : (forest : Forest) → flatten forest ≡ given.events →
-      index < length (rows_of 0 0 forest)
-  inside_rows forest flattened =
-      let long = mapped_long (λ (r : Row). r.event) _ given.events
-      (event_rows forest 0 0 ∙ flattened) in
-      let inside = got_inside given.events index event enters.1 in
-      omega arith
-
-  pub event_there : (forest : Forest) → flatten forest ≡ given.events →
-      Row.event (get_or (rows_of 0 0 forest) index past_row) ≡ event
-  event_there forest flattened =
-      got_mapped (λ (r : Row). r.event) (rows_of 0 0 forest) given.events index past_row event
-      (event_rows forest 0 0 ∙ flattened) (inside_rows forest flattened) enters.1
-
-  pub children_there : (forest : Forest) → flatten forest ≡ given.events → (children : Forest) →
-      slice_get (children_of forest) index ≡ Some (Some children) →
-      Row.children (get_or (rows_of 0 0 forest) index past_row) ≡ Some children
-  children_there forest flattened children got =
-      got_mapped (λ (r : Row). r.children) (rows_of 0 0 forest) (children_of forest) index past_row
-      _ (children_rows forest 0 0) (inside_rows forest flattened) got
-
   pub EntersNode-entered : (forest : Forest) → flatten forest ≡ given.events →
       EntersNode given index
   EntersNode-entered forest flattened =
-      let rows = rows_of 0 0 forest in
-      let row = get_or rows index past_row in
-      let inside = inside_rows forest flattened in
-      let has = rows_have forest 0 0 index past_row inside
-      (ap (λ (e : Event). e.kind) (event_there forest flattened) ∙ enters.2) in
-      let got = ap (λ cs. slice_get cs index) (sym (children_rows forest 0 0))
-      ∙ slice_get-map (λ (r : Row). r.children) rows index
-      ∙ ap (option_map (λ (r : Row). r.children)) (slice_get-get_or rows index past_row inside)
-      ∙ ap Some has.1 in
-      (has.0, (forest, flattened, got))
+      let here = row_at given forest index enters.0 flattened enters.1 in
+      let has = here.said HasChildren (rows_have forest 0 0) (ap Event.kind here.event_is
+      ∙ enters.2) in
+      (has.0, (forest, flattened, here.children_are ∙ ap Some has.1))
 
   -- what is found there
   pub found-entered : (children : Forest) (fact : Fact) → IsEnteredAt given index children →
@@ -189,26 +153,17 @@ module _ (given : Handed) (index : ℕ) (name : Name)
       ≡ Some (alignments children))
   found-entered children fact entered got =
       let forest = entered.0 in
-      let rows = rows_of 0 0 forest in
-      let row = get_or rows index past_row in
-      let inside = inside_rows forest entered.1 in
-      let ended = tables_at given.events in
-      let is_ended : ended ≡ [] ++ (tables_of forest ++ []) =
-      tables-flatten forest given.events entered.1 ∙ sym (append-nil _) in
-      let name_is : row.event.name ≡ name =
-      ap (λ (e : Event). e.name) (event_there forest entered.1) ∙ enters.3 in
-      let children_are : row.children ≡ Some children =
-      children_there forest entered.1 children entered.2 in
-      let none : 0 + index ≡ index = omega arith in
-      let index_is : row.index ≡ index = numbered_get rows 0 (index_after 0 forest) index past_row
-      (numbered_rows forest 0 0) inside ∙ none in
-      let fact_is : row.fact ≡ fact = got_mapped (λ (r : Row). r.fact) rows
-      _ index past_row fact (fact_rows forest 0 0
-      ∙ sym (facts-flatten forest given.events entered.1)) inside got in
-      let there = rows_found ended [] [] forest 0 0 refl is_ended index past_row inside
+      let here = row_at given forest index enters.0 entered.1 enters.1 in
+      let row = here.row in
+      let is_ended = tables-flatten forest given.events entered.1 ∙ sym (append-nil _) in
+      let children_are : row.children ≡ Some children = cc (here.children_are, entered.2) in
+      let fact_is : row.fact ≡ fact = cc (here.fact_is, got) in
+      let name_is = ap Event.name here.event_is ∙ enters.3 in
+      let there = here.said (IsFound (tables_at given.events))
+      (rows_found (tables_at given.events) forest 0 0 ([], [], refl, is_ended))
       children children_are in (
         there.0,
-        sym fact_is ∙ there.1 ∙ ap (λ i. fact_at i there.0 row.event.name children) index_is
+        sym fact_is ∙ there.1 ∙ ap (λ i. fact_at i there.0 row.event.name children) here.index_is
             ∙ ap (λ n. fact_at index there.0 n children) name_is,
         λ is. there.2 (ap is_table name_is ∙ is),
       )
@@ -216,7 +171,5 @@ module _ (given : Handed) (index : ℕ) (name : Name)
   pub facts_at-inside : (forest : Forest) → flatten forest ≡ given.events →
       index < length (facts_at given.events)
   facts_at-inside forest flattened =
-      let long = mapped_long (λ (r : Row). r.fact) _ _
-      (fact_rows forest 0 0 ∙ sym (facts-flatten forest given.events flattened)) in
-      let inside = inside_rows forest flattened in
-      omega arith
+      let here = row_at given forest index enters.0 flattened enters.1 in
+      slice_get_within (facts_at given.events) index here.row.fact here.fact_is

@@ -1,6 +1,6 @@
 -- The events of a document in rows, each with what is found at it, its node's children and place.
-use Rattle.std.proofs.Common.{◌≡◌, ℕ, zero, suc, ◌+◌, ◌<◌, Option, Some, None, List, [], ◌∷◌, ◌++◌}
-use Rattle.std.proofs.Common.{length, get_or, refl, sym, ap, ◌∙◌, subst, arith}
+use Rattle.std.proofs.Common.{◌≡◌, ℕ, suc, ◌+◌, ◌<◌, Option, Some, None, List, [], ◌∷◌, ◌++◌}
+use Rattle.std.proofs.Common.{length, get_or, refl, sym, subst, arith}
 use Rattle.md_tree.proofs.Common.{All, All-cons, All-append, All-nil, map, map-append, Point}
 use Rattle.md_tree.proofs.Common.{Position, Name, Event, Fact, Forest, Empty, Node, flatten}
 use Rattle.md_tree.proofs.Common.{entering, exiting, place, positions_of, children_of, index_after}
@@ -83,15 +83,7 @@ module _ {A : Type 0} (of_row : Row → A) (column : ℕ → ℕ → Forest → 
       map of_row (rows_of index tables forest) ≡ column index tables forest
   column_rows Empty index tables = sym (at_end index tables)
   column_rows (Node name start end children rest) index tables =
-      let entry = of_row (entry_row index tables name _ children) in
-      let exit = exit_row (index_after _ children) index name start end in
-      let more = tables_with name (tables_after tables children) in
-      let later = suc (index_after _ children) in
-      ap (λ xs. entry ∷ xs)
-      (map-append of_row (rows_of _ tables children) (exit ∷ rows_of later more rest)
-      ∙ ap (λ xs. xs ++ of_row exit ∷ map of_row (rows_of later more rest)) (column_rows children
-      _ tables) ∙ ap (λ xs. column (suc index) tables children ++ of_row exit ∷ xs)
-      (column_rows rest later more)) ∙ sym (at_node index tables name start end children rest)
+      grind (arith, column_rows children, column_rows rest, map-append)
 
 pub event_rows : (forest : Forest) (index tables : ℕ) →
     map (λ (r : Row). r.event) (rows_of index tables forest) ≡ flatten forest
@@ -121,24 +113,15 @@ Numbered index (row ∷ rows) next = (row.index ≡ index) × Numbered (suc inde
 numbered_append : (xs ys : List Row) (index middle next : ℕ) → Numbered index xs middle →
     Numbered middle ys next → Numbered index (xs ++ ys) next
 numbered_append [] ys index middle next p q = subst (λ n. Numbered n ys next) (sym p) q
-numbered_append (row ∷ xs) ys index middle next p q =
-    (p.0, numbered_append xs ys _ middle next p.1 q)
+numbered_append (row ∷ xs) ys index middle next p q = grind (arith, numbered_append xs)
 
 pub numbered_rows : (forest : Forest) (index tables : ℕ) →
     Numbered index (rows_of index tables forest) (index_after index forest)
 numbered_rows Empty index tables = refl
 numbered_rows (Node name start end children rest) index tables =
-    let exit = index_after _ children in (
-      refl,
-      numbered_append _ _ _ exit _ (numbered_rows children _ tables) (refl, numbered_rows rest _ _),
-    )
+    grind (arith, numbered_rows children, numbered_rows rest, numbered_append)
 
 pub numbered_get : (rows : List Row) (index next i : ℕ) (d : Row) →
     Numbered index rows next → i < length rows → Row.index (get_or rows i d) ≡ index + i
 numbered_get [] index next i d p inside = absurd (omega arith)
-numbered_get (row ∷ rows) index next zero d p inside =
-    let none : index + 0 ≡ index = omega arith in p.0 ∙ sym none
-numbered_get (row ∷ rows) index next (suc i) d p inside =
-    let one : suc index + i ≡ index + suc i = omega arith in
-    let within : i < length rows = omega arith in
-    numbered_get rows _ next i d p.1 within ∙ one
+numbered_get (row ∷ rows) index next i d p inside = grind (arith, numbered_get rows)

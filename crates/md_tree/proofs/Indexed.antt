@@ -1,24 +1,20 @@
 -- Each exit of a text or a label has its text there. So a look-up at an index has the same result
 -- in any tree of the events, and no look-up fails.
-use Rattle.std.proofs.Common.{◌≡◌, ℕ, suc, ◌<◌, Bool, true, Option, Some, None, List, [], ◌∷◌, ◌++◌}
-use Rattle.std.proofs.Common.{length, get_or, refl, sym, ap, ◌∙◌, append-nil, arith}
+use Rattle.std.proofs.Common.{◌≡◌, ℕ, suc, Bool, true, Option, Some, None, List, [], ◌∷◌, ◌++◌}
+use Rattle.std.proofs.Common.{length, refl, sym, ap, ◌∙◌, append-nil, arith}
 use Rattle.std.specs.Prelude.{IsSome, option_copied}
 use Rattle.std.specs.Borrow.{Bor}
-use Rattle.md_tree.proofs.Common.{map, option_map, slice_get, All, slice_get-map, slice_get-get_or}
-use Rattle.md_tree.proofs.Common.{Point, Position, Name, Exit, Event, text_between, label_between}
-use Rattle.md_tree.proofs.Common.{Symbol, Role, Flow, Reading, Standing, Solid}
-use Rattle.md_tree.proofs.Common.{Referral, Missing, Rule, Forest, flatten, entering, exiting}
-use Rattle.md_tree.proofs.Common.{standing_of, spine, shown, inner_role, inner_before, last_symbol}
-use Rattle.md_tree.proofs.Common.{place, broken_by, broken_rule, reading_of, MeetRules, target_of}
-use Rattle.md_tree.proofs.Common.{Handed, IsGrammatical, IsReadAs, IsChecked, partner_alone}
-use Rattle.md_tree.proofs.Common.{facts_at, position_from, partner_event, position_ended, ExitsAt}
-use Rattle.md_tree.proofs.Common.{positions_of, has_reading, is_text, is_identifier, length_one}
-use Rattle.md_tree.proofs.Common.{facts-flatten}
-use Rattle.md_pattern.specs.declared.kinds.Reading.TheVariants as reading
-use Rattle.md_tree.proofs.EventRows.{rows_all, Steps, Row, rows_of, event_rows, fact_rows}
-use Rattle.md_tree.proofs.EventRows.{position_rows}
-use Rattle.md_tree.proofs.Entering.{get_at, got_inside, got_mapped, mapped_long}
-use Rattle.md_tree.proofs.Placing.{at_entry, in_node, after_node, length_events}
+use Rattle.md_tree.proofs.Common.{slice_get, All, Point, Position, Name, Exit, Event, text_between}
+use Rattle.md_tree.proofs.Common.{label_between, Symbol, Role, Flow, Reading, Standing, Referral}
+use Rattle.md_tree.proofs.Common.{Missing, Forest, flatten, entering, exiting, standing_of, spine}
+use Rattle.md_tree.proofs.Common.{shown, inner_role, inner_before, last_symbol, place, broken_rule}
+use Rattle.md_tree.proofs.Common.{reading_of, MeetRules, target_of, Handed, IsGrammatical, IsReadAs}
+use Rattle.md_tree.proofs.Common.{IsChecked, facts_at, position_from, partner_event, position_ended}
+use Rattle.md_tree.proofs.Common.{ExitsAt, positions_of, has_reading, is_text, is_identifier}
+use Rattle.md_tree.proofs.Common.{length_one}
+use Rattle.md_tree.proofs.EventRows.{rows_all, Steps, Row, rows_of}
+use Rattle.md_tree.proofs.Entering.{row_at}
+use Rattle.md_tree.proofs.Placing.{got_entry, in_node, after_node, length_events}
 use Rattle.md_tree.proofs.OneTree.{flatten_one}
 
 -- ---- rows
@@ -69,9 +65,8 @@ rows_ended bytes names is text have events forest lies =
         let inner = flatten children in
         let one = length_one seen first ∙ ap suc holds.5 in
         let inside = length_events children (suc index) (seen ++ first ∷ []) one in
-        let there : slice_get events index ≡ Some first = ap (λ es. slice_get es index)
-        (at_entry events seen inner (flatten rest) later first last same)
-        ∙ get_at seen _ first index holds.5 in (
+        let there =
+        got_entry events seen inner (flatten rest) later first last same index holds.5 in (
           λ exits. cc,
           λ exits. (
             place start end,
@@ -100,43 +95,13 @@ rows_ended bytes names is text have events forest lies =
         )
 
 -- ---- names with a text
-text_where : (o : Option (List ℕ)) (judged : List ℕ → Option Rule) → broken_by o judged ≡ None →
-    (found : List ℕ) × (o ≡ Some found)
-text_where None judged e = cc
-text_where (Some found) judged e = (found, refl)
-
-module _ (bytes : List ℕ) (names : List (List ℕ × List ℕ)) where
-  text_read : (reads : Reading) (around : Role) (before : Option Symbol) (start end : Point)
-      (target : Referral) → broken_rule bytes names reads around before start end target ≡ None →
-      is_text reads ≡ true → (found : List ℕ) × (text_between bytes start end ≡ Some found)
-  text_read reading.Text around before start end target e is =
-      text_where _ _ e
-  text_read reading.LineEnding around before start end target e is =
-      text_where _ _ e
-  text_read reading.Number around before start end target e is =
-      text_where _ _ e
-  text_read reading.Value around before start end target e is =
-      text_where _ _ e
-  text_read _ around before start end target e is = cc
-
-  label_read : (reads : Reading) (around : Role) (before : Option Symbol) (start end : Point)
-      (target : Referral) → broken_rule bytes names reads around before start end target ≡ None →
-      is_identifier reads ≡ true → (found : List ℕ) × (label_between bytes start end ≡ Some found)
-  label_read reading.Identifier around before start end target e is =
-      text_where _ _ e
-  label_read _ around before start end target e is = cc
-
 pub text_names : (bytes : List ℕ) (names : List (List ℕ × List ℕ)) →
     HaveText bytes names is_text (text_between bytes)
-text_names bytes names (Solid symbol usual reading) around before start end target e is =
-    text_read bytes names reading around before start end target e is
-text_names bytes names _ around before start end target e is = cc
+text_names bytes names standing around before start end target e is = grind arith
 
 pub identifier_names : (bytes : List ℕ) (names : List (List ℕ × List ℕ)) →
     HaveText bytes names is_identifier (label_between bytes)
-identifier_names bytes names (Solid symbol usual reading) around before start end target e is =
-    label_read bytes names reading around before start end target e is
-identifier_names bytes names _ around before start end target e is = cc
+identifier_names bytes names standing around before start end target e is = grind arith
 
 -- ---- at an index
 
@@ -151,10 +116,6 @@ pub record EndedAt (text : Point → Point → Option (List ℕ)) (given : Hande
   pub position_is : (forest : Forest) (other : Position) → flatten forest ≡ given.events →
       slice_get (positions_of forest) index ≡ Some (Some other) → other ≡ position
 
-one_position : (o : Option Position) (one other : Position) → o ≡ Some one →
-    o ≡ Some other → other ≡ one
-one_position o one other e f = cc
-
 pub EndedAt-checked : (is : Reading → Bool) (text : Point → Point → Option (List ℕ))
     (given : Handed) (index : ℕ) (name : Name) → HaveText given.bytes given.names is text →
     IsChecked given → ExitsAt given.events index name → has_reading is (standing_of name) ≡ true →
@@ -163,28 +124,8 @@ EndedAt-checked is text given index name have checked exits reads =
     let forest = checked.0 in
     let flattened = IsReadAs.flattened checked.1 in
     let events = given.events in
-    let event = exits.0 in
-    let rows = rows_of 0 0 forest in
-    let past : Row = record {
-      event = event;
-      children = None;
-      index = index;
-      fact = partner_alone index;
-      position = None;
-    } in
-    let row = get_or rows index past in
-    let events_are : map (λ (r : Row). r.event) rows ≡ events = event_rows forest 0 0 ∙ flattened in
-    let facts_are : map (λ (r : Row). r.fact) rows ≡ facts_at events = fact_rows forest 0 0
-    ∙ sym (facts-flatten forest events flattened) in
-    let long = mapped_long (λ (r : Row). r.event) rows events events_are in
-    let in_events = got_inside events index event exits.1 in
-    let inside : index < length rows = omega arith in
-    let event_is : row.event ≡ event =
-    got_mapped (λ (r : Row). r.event) rows events index past event events_are inside exits.1 in
-    let fact_is : slice_get (facts_at events) index ≡ Some row.fact =
-    ap (λ fs. slice_get fs index) (sym facts_are)
-    ∙ slice_get-map (λ (r : Row). r.fact) rows index ∙ ap (option_map (λ (r : Row). r.fact))
-    (slice_get-get_or rows index past inside) in
+    let here = row_at given forest index exits.0 flattened exits.1 in
+    let row = here.row in
     let all = rows_ended given.bytes given.names is text have events forest (
       Flow,
       None,
@@ -194,23 +135,21 @@ EndedAt-checked is text given index name have checked exits reads =
       refl,
       sym flattened ∙ sym (append-nil (flatten forest)),
     ) in
-    let here = all index past inside (ap (λ (e : Event). e.kind) event_is ∙ exits.2) in
-    let text_here = here.3 (ap (λ (e : Event). has_reading is (standing_of e.name)) event_is
+    let ended = here.said (IsEnded events is text) all (ap Event.kind here.event_is ∙ exits.2) in
+    let text_here = ended.3 (ap (λ (e : Event). has_reading is (standing_of e.name)) here.event_is
     ∙ ap (λ n. has_reading is (standing_of n)) exits.3 ∙ reads) in
     record {
-      position = here.0;
-      there = ap (λ o. position_from (partner_event events o) (slice_get events index)) fact_is
+      position = ended.0;
+      there = ap (λ o. position_from (partner_event events o) (slice_get events index)) here.fact_is
           ∙ ap (λ o. position_from (slice_get events row.fact.partner) o)
-          (exits.1 ∙ ap Some (sym event_is)) ∙ here.2;
+          (exits.1 ∙ ap Some (sym here.event_is)) ∙ ended.2;
       found = text_here.0;
       is_found = text_here.1;
       position_is = λ other position same positioned.
           let one : other ≡ forest =
-          flatten_one event.name event.point other forest (same ∙ sym flattened) in
+          flatten_one exits.0.name exits.0.point other forest (same ∙ sym flattened) in
           let got = ap (λ f. slice_get (positions_of f) index) (sym one) ∙ positioned in
-          one_position row.position here.0 position here.1
-          (got_mapped (λ (r : Row). r.position) rows _ index past
-          _ (position_rows forest 0 0) inside got);
+          cc (got, here.position_is, ended.1);
     }
 
 -- what the calls owe that read such a text: the place that is looked up is there, and a text is,
@@ -226,28 +165,8 @@ pub record ReadAt (text : Point → Point → Option (List ℕ)) (given : Handed
       slice_get (positions_of forest) index ≡ Some (Some other) →
       text other.start other.end ≡ Some result.now
 
-place_some : (o : Option Position) (x : Position) → o ≡ Some x → IsSome o
-place_some None x e = cc
-place_some (Some o) x e = refl
-
-copied_some : (r : Option (Bor (List ℕ))) (x : List ℕ) → option_copied r ≡ Some x → IsSome r
-copied_some None x e = cc
-copied_some (Some r) x e = refl
-
 pub ReadAt-ended : (text : Point → Point → Option (List ℕ)) (given : Handed) (index : ℕ)
     (place : Option Position) → EndedAt text given index →
     place ≡ position_ended given.events (facts_at given.events) index →
     ReadAt text given index place
-ReadAt-ended text given index place ended is =
-    let found : (position : Position) → place ≡ Some position →
-    text position.start position.end ≡ Some ended.found = λ position some.
-    ap (λ (p : Position). text p.start p.end)
-    (one_position _ ended.position position ended.there (sym is ∙ some)) ∙ ended.is_found in
-    record {
-      there = place_some place ended.position (is ∙ ended.there);
-      text_there = λ position read some copied.
-          copied_some read ended.found (copied ∙ found position some);
-      text_is = λ position read result some copied given_it forest other flattened got.
-          ap (λ (p : Position). text p.start p.end) (ended.position_is forest other flattened got)
-          ∙ ended.is_found ∙ sym (found position some) ∙ sym copied ∙ ap option_copied given_it;
-    }
+ReadAt-ended text given index place ended is = grind arith

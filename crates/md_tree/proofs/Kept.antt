@@ -1,25 +1,69 @@
 -- What a `Checked` keeps is what the tree of its events says, at each index of an event. The calls
--- of `Checked` only look something up: what they answer is right by this.
-use Rattle.std.proofs.Common.{◌≡◌, ℕ, ◌<◌, Bool, true, Option, Some, List, length, refl, sym, ap}
-use Rattle.std.proofs.Common.{◌∙◌, subst}
-use Rattle.md_tree.proofs.Common.{map, slice_get, All, length-map, Point, Position, Name, GfmTable}
-use Rattle.md_tree.proofs.Common.{Inside, Fact, Reading, Forest, flatten, alignments, Handed}
-use Rattle.md_tree.proofs.Common.{IsReadAs, IsChecked, standing_of, EntersAt, ExitsAt, has_reading}
-use Rattle.md_tree.proofs.Common.{IsEnteredAt, EntersNode, handed_of, IsKept, facts_at, tables_at}
-use Rattle.md_tree.proofs.Common.{fact_at, EntersSome, position_ended, AreDefinitions, mentions_of}
-use Rattle.md_tree.proofs.Common.{mention_of, Event, Exit, Mention, Referral, reading_of}
-use Rattle.md_tree.proofs.Common.{number_for, with_number, facts_with, is_of_definitions}
-use Rattle.md_tree.proofs.Common.{definition_for, place_of}
+-- of `Checked` only look something up: what they answer is right by this. First: the indices of the
+-- definitions are those of events that enter one.
+use Rattle.std.proofs.Common.{◌≡◌, ℕ, suc, cond, Some, List, [], ◌∷◌, ◌++◌, length, refl, sym, ap}
+use Rattle.std.proofs.Common.{◌∙◌, append-nil, arith, ◌<◌, Bool, true, Option, subst}
+use Rattle.md_tree.proofs.Common.{slice_get, All, All-cons, All-append, All-nil, Point, Event, Name}
+use Rattle.md_tree.proofs.Common.{Forest, Empty, Node, flatten, entering, exiting, index_after}
+use Rattle.md_tree.proofs.Common.{EntersAt, length_one, map, length-map, Position, GfmTable, Inside}
+use Rattle.md_tree.proofs.Common.{Fact, Reading, alignments, Handed, IsReadAs, IsChecked}
+use Rattle.md_tree.proofs.Common.{standing_of, ExitsAt, has_reading, IsEnteredAt, EntersNode}
+use Rattle.md_tree.proofs.Common.{handed_of, IsKept, facts_at, tables_at, fact_at, EntersSome}
+use Rattle.md_tree.proofs.Common.{position_ended, AreDefinitions, mentions_of, mention_of, Exit}
+use Rattle.md_tree.proofs.Common.{Mention, Referral, reading_of, number_for, with_number}
+use Rattle.md_tree.proofs.Common.{facts_with, is_of_definitions, definition_for, place_of}
 use Rattle.md_base.specs.declared.event.Name.TheVariants.{Definition}
-use Rattle.md_pattern.specs.Facts.{definitions_at}
+use Rattle.md_base.specs.NameTests.{is_link_definition}
+use Rattle.md_pattern.specs.Partners.{definition_entries}
+use Rattle.md_tree.proofs.Placing.{got_entry, in_node, after_node, length_events}
 use Rattle.md_tree.specs.Found.{IsFactAt}
 use Rattle.md_tree.specs.Numbers.{AreNumbered, ExitsOf}
 use Rattle.md_tree.proofs.Numbers.{recorded-at, got-with, ended-with, length-with, kept-number}
 use Rattle.md_tree.proofs.Numbers.{number-definition}
-use Rattle.md_tree.proofs.Defining.{definitions-entered}
 use Rattle.md_pattern.proofs.Passing.{definitions-flatten}
 use Rattle.md_tree.proofs.Indexed.{HaveText, EndedAt-checked, ReadAt, ReadAt-ended}
 use Rattle.md_tree.proofs.Entering.{got_inside, EntersNode-entered, found-entered, facts_at-inside}
+
+own_definition : (events : List Event) (index : ℕ) (name : Name) (start : Point) →
+    slice_get events index ≡ Some (entering name start) →
+    All (λ i. EntersAt events i Definition) (cond (is_link_definition name) (index ∷ []) [])
+own_definition events index Definition start there =
+    All-cons (λ i. EntersAt events i Definition) index [] (
+      entering Definition start,
+      there,
+      refl,
+      refl,
+    ) (All-nil (λ i. EntersAt events i Definition))
+own_definition events index _ start there = All-nil (λ i. EntersAt events i Definition)
+
+all_definitions : (events : List Event) (forest : Forest) (index : ℕ) (seen later : List Event) →
+    length seen ≡ index → events ≡ seen ++ (flatten forest ++ later) →
+    All (λ i. EntersAt events i Definition) (definition_entries index forest)
+all_definitions events Empty index seen later e same = All-nil (λ i. EntersAt events i Definition)
+all_definitions events (Node name start end children rest) index seen later e same =
+    let exit = index_after (suc index) children in
+    let first = entering name start in
+    let last = exiting name end in
+    let inner = flatten children in
+    let holds : ℕ → Type 0 = λ i. EntersAt events i Definition in
+    let own = cond (is_link_definition name) (index ∷ []) [] in
+    let one = length_one seen first ∙ ap suc e in
+    let inside = length_events children (suc index) (seen ++ first ∷ []) one in
+    let there =
+    got_entry events seen inner (flatten rest) later first last same index e in
+    All-append holds (definition_entries (suc index) children)
+    (own ++ definition_entries (suc exit) rest)
+    (all_definitions events children (suc index) (seen ++ first ∷ []) (last
+    ∷ (flatten rest ++ later)) one (in_node events seen inner (flatten rest) later first last same))
+    (All-append holds own (definition_entries _ rest) (own_definition events index name start there)
+    (all_definitions events rest (suc exit) _ later (length_one _ last
+    ∙ ap suc inside) (after_node events seen inner _ later first last same)))
+
+-- those of a document
+pub definitions-entered : (events : List Event) (forest : Forest) → flatten forest ≡ events →
+    All (λ i. EntersAt events i Definition) (definition_entries 0 forest)
+definitions-entered events forest flattened =
+    all_definitions events forest 0 [] [] refl (sym flattened ∙ sym (append-nil _))
 
 module _ (inside : Inside) (given : Handed) (index : ℕ) (kept : IsKept inside)
     (same : handed_of inside ≡ given) where
@@ -49,14 +93,11 @@ module _ (inside : Inside) (given : Handed) (index : ℕ) (kept : IsKept inside)
   tables_are = kept.2 ∙ ap (λ (g : Handed). tables_at g.events) same
 
   pub definitions-kept : AreDefinitions given inside.definitions.items
-  definitions-kept forest flattens =
-      kept.3 ∙ ap (λ (g : Handed). definitions_at g.events) same
-      ∙ definitions-flatten forest given.events flattens
+  definitions-kept forest flattens = grind (arith, definitions-flatten)
 
   pub definitions-enter : All (λ i. EntersAt given.events i Definition) inside.definitions.items
   definitions-enter =
-      subst (λ ds. All (λ i. EntersAt given.events i Definition) ds)
-      (sym (definitions-kept kept.0.0 flattened))
+      rw (definitions-kept kept.0.0 flattened)
       (definitions-entered given.events kept.0.0 flattened)
 
   -- an exit, whose place is looked up
@@ -73,9 +114,8 @@ module _ (inside : Inside) (given : Handed) (index : ℕ) (kept : IsKept inside)
 
   pub facts-inside : EntersSome given.events index → index < length inside.facts
   facts-inside enters =
-      subst (λ xs. index < length xs) (sym facts_are)
-      (subst (λ n. index < n) (sym (length-with numbers _))
-      (facts_at-inside given index enters.0 enters.1 kept.0.0 flattened))
+      rw (facts_are, length-with)
+      (facts_at-inside given index enters.0 enters.1 kept.0.0 flattened)
 
   pub node-entered : EntersSome given.events index → EntersNode given index
   node-entered enters = EntersNode-entered given index enters.0 enters.1 kept.0.0 flattened
@@ -103,7 +143,7 @@ module _ (inside : Inside) (given : Handed) (index : ℕ) (kept : IsKept inside)
       slice_get inside.facts index ≡ Some fact → fact.read_at < length inside.tables.items
   columns-inside enters fact got =
       let node = node-entered (GfmTable, enters) in
-      subst (λ n. fact.read_at < n) (length-map inside.tables.items (λ t. t.items))
+      rw length-map at
       (got_inside (map (λ t. t.items) inside.tables.items) fact.read_at (alignments node.0)
       (columns-kept enters fact got node.0 node.1))
 

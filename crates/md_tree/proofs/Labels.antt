@@ -1,10 +1,10 @@
 -- The label by which a node of a document refers, or is referred to, is a text: else a rule is
 -- broken. So each identifier of a document is there.
-use Rattle.std.proofs.Common.{◌≡◌, ℕ, Option, Some, None, List, [], ◌∷◌, ◌++◌, refl, sym, ap, ◌∙◌}
+use Rattle.std.proofs.Common.{arith, ◌≡◌, ℕ, Option, Some, None, List, [], ◌∷◌, ◌++◌, refl, ap}
 use Rattle.md_tree.proofs.Common.{map, unwrap_or, option_map, All, All-cons, All-nil, All-append}
 use Rattle.md_tree.proofs.Common.{All-head, All-tail, Point, label_between, Symbol, Role, Reading}
-use Rattle.md_tree.proofs.Common.{Standing, Through, Space, Solid, Mdx, standing_of, Forest, Empty}
-use Rattle.md_tree.proofs.Common.{Node, Referral, Missing, Label, Mention, Nothing, Reference, Call}
+use Rattle.md_tree.proofs.Common.{Standing, Through, Solid, standing_of, Forest, Empty, Node}
+use Rattle.md_tree.proofs.Common.{Referral, Missing, Label, Mention, Nothing, Reference, Call}
 use Rattle.md_tree.proofs.Common.{Definition, FootnoteDefinition, place, broken_by, broken_rule}
 use Rattle.md_tree.proofs.Common.{reading_of, target_of, target_after, MeetRules, identifier_at}
 use Rattle.md_tree.proofs.Common.{mention_of, mentions_of, defined, footnoted}
@@ -23,35 +23,17 @@ module _ (bytes : List ℕ) (names : List (List ℕ × List ℕ)) where
   label_there start end None e unbroken = cc
   label_there start end (Some text) e unbroken = (normalized text, ap (option_map normalized) e)
 
-  at_there : (symbol : Symbol) (usual : _) (read : Reading) (around : Role) (before : Option Symbol)
-      (start end : Point) (target found : Referral) (inner : Referral → Referral) →
-      broken_rule bytes names read around before start end target ≡ None →
-      HasIdentifier bytes found → HasIdentifier bytes (inner Missing) →
-      HasIdentifier bytes (target_after (Solid symbol usual read) found inner (place start end))
-  at_there symbol usual reading.Identifier around before start end target found
-      inner unbroken has held =
-      label_there start end _ refl unbroken
-  at_there symbol usual reading.Holder around before start end target found inner
-      unbroken has held = held
-  at_there symbol usual reading.Resource around before start end target found inner
-      unbroken has held = tt
-  at_there symbol usual _ around before start end target found inner unbroken has held =
-      has
-
   after_there : (standing : Standing) (around : Role) (before : Option Symbol) (start end : Point)
       (target found : Referral) (inner : Referral → Referral) →
       broken_rule bytes names (reading_of standing) around before start end target ≡ None →
       HasIdentifier bytes found → HasIdentifier bytes (inner found) →
       HasIdentifier bytes (inner Missing) →
       HasIdentifier bytes (target_after standing found inner (place start end))
-  after_there Through around before start end target found inner unbroken has through held = through
-  after_there (Solid symbol usual read) around before start end target found inner
+  after_there (Solid symbol usual reading.Identifier) around before start end target found inner
       unbroken has through held =
-      at_there symbol usual read around before start end target found inner unbroken has held
-  after_there Space around before start end target found inner unbroken has through held =
-      has
-  after_there Mdx around before start end target found inner unbroken has through held =
-      has
+      label_there start end _ refl unbroken
+  after_there Through around before start end target found inner unbroken has through held = through
+  after_there _ around before start end target found inner unbroken has through held = grind arith
 
   pub target-there : (forest : Forest) (around : Role)
       (before : Option Symbol) (found : Referral) → MeetRules bytes names forest around before →
@@ -75,11 +57,7 @@ MentionsText bytes _ = Unit {0}
 
 mention_there : (bytes : List ℕ) (read : Reading) (target : Referral) → HasIdentifier bytes target →
     MentionsText bytes (mention_of read target)
-mention_there bytes reading.Media (Label label) has = has
-mention_there bytes reading.Call (Label label) has = has
-mention_there bytes reading.Definition (Label label) has = has
-mention_there bytes reading.FootnoteDefinition (Label label) has = has
-mention_there bytes _ _ has = tt
+mention_there bytes read target has = grind arith
 
 pub mentions-there : (bytes : List ℕ) (names : List (List ℕ × List ℕ)) (forest : Forest)
     (around : Role) (before : Option Symbol) → MeetRules bytes names forest around before →
@@ -102,9 +80,7 @@ Texts found = found ≡ map Some (map (λ identifier. unwrap_or identifier []) f
 
 more_known : (found : Option (List ℕ)) (text : List ℕ) (others : List (Option (List ℕ))) →
     found ≡ Some text → Texts others → Texts (found ∷ others)
-more_known found text others e is =
-    ap (λ f. f ∷ others) (e ∙ sym (ap (λ f. Some (unwrap_or f [])) e))
-    ∙ ap (λ xs. Some (unwrap_or found []) ∷ xs) is
+more_known found text others e is = grind arith
 
 pub defined-texts : (bytes : List ℕ) (mentions : List Mention) → All (MentionsText bytes) mentions →
     Texts (defined bytes mentions)

@@ -1,17 +1,22 @@
 -- The least node of each symbol that must be there, or that ends a group, has the shape of the
 -- grammar.
-use Rattle.std.proofs.Common.{◌≡◌, ◌≢◌, Bool, true, false, Option, Some, None, List, [], ◌∷◌, ◌++◌}
-use Rattle.std.proofs.Common.{cond, subst, refl, ap, ◌∙◌}
+use Rattle.std.proofs.Common.{arith, ◌≡◌, ◌≢◌, Bool, true, false, Option, List, [], ◌∷◌, cond}
+use Rattle.std.proofs.Common.{refl, ℕ, zero, suc, ◌++◌, drop, ◌⊎◌, inl, inr, sym, subst}
 use Rattle.md_tree.proofs.Common.{list_all, Point, Name, Symbol, Role, Forest, Empty, Node, spine}
-use Rattle.md_tree.proofs.Common.{IsShapedNode, AreShaped, start_of, may_hold, Matches}
+use Rattle.md_tree.proofs.Common.{AreShaped, start_of, may_hold, Matches, Class, Item, Once, Maybe}
+use Rattle.md_tree.proofs.Common.{Many, Stage, Whole, Setext, State, pattern_of, flatten}
+use Rattle.md_tree.proofs.Common.{is_complete, Course, Runs, Anything}
 use Rattle.md_base.specs.declared.event.Name.TheVariants as name
 use Rattle.md_pattern.specs.declared.kinds.Symbol.TheVariants as symbol
 use Rattle.md_pattern.specs.declared.kinds.Role.TheVariants as role
-use Rattle.md_pattern.specs.Shape.{item_in, prefix_in, label_in, code_fence_after, math_fence_after}
-use Rattle.md_tree.proofs.SettledPatterns.{and_left, and_right}
+use Rattle.md_pattern.specs.Shape.{item_in, prefix_in, label_in}
 use Rattle.md_tree.proofs.OpenPaths.{joined, spine-joined, EachNode-joined}
 use Rattle.md_tree.proofs.ClosedNodes.{not_childless}
-use Rattle.md_tree.proofs.EndsAfter.{ends_after, matches_after}
+use Rattle.md_tree.proofs.Spots.{ends_after, matches_after, IsFed, fed}
+use Rattle.md_pattern.specs.declared.kinds.Class.TheVariants.{String, Phrasing, Flow, Only, Either}
+use Rattle.md_pattern.specs.declared.kinds.Class.TheVariants.{OrLine}
+use Rattle.md_tree.proofs.NodesRead.{after_nodes, Runs-nodes}
+use Rattle.md_tree.proofs.NodeClaims.{shaped_anything, free_anything}
 
 -- ---- the least nodes
 
@@ -60,105 +65,48 @@ Ends around symbols = (ends_after (start_of around) symbols ≡ true) × (may_ho
 
 item_ends : (around : Role) (before : Option Symbol) →
     Ends (item_in around before) (symbol.ListItemPrefix ∷ [])
-item_ends role.OrderedList None = (refl, refl)
-item_ends role.OrderedList (Some before) = (refl, refl)
-item_ends _ before = (refl, refl)
+item_ends around before = grind arith
 
 prefix_ends : (around : Role) → Ends (prefix_in around) (symbol.ListItemMarker ∷ [])
-prefix_ends role.FirstOrderedItem = (refl, refl)
-prefix_ends _ = (refl, refl)
+prefix_ends around = grind arith
 
 label_ends : (around : Role) → Ends (label_in around) (symbol.LabelText ∷ [])
-label_ends role.FootnoteCall = (refl, refl)
-label_ends _ = (refl, refl)
+label_ends around = grind arith
 
 -- a spine without symbols may end
 bare : (around : Role) → ends_after (start_of around) [] ≡ true → Matches around []
 bare around e = matches_after around [] e
 
-code_fence_ends : (before : Option Symbol) →
-    ends_after (start_of (code_fence_after before)) [] ≡ true
-code_fence_ends None = refl
-code_fence_ends (Some before) = refl
-
-math_fence_ends : (before : Option Symbol) →
-    ends_after (start_of (math_fence_after before)) [] ≡ true
-math_fence_ends None = refl
-math_fence_ends (Some before) = refl
-
 prefix_shaped : (around : Role) (before : Option Symbol) → around ≢ role.Childless →
     AreShaped (least symbol.ListItemPrefix) around before
-prefix_shaped around before apart =
-    let inner = not_childless (prefix_in around) (prefix_ends around).1 in (
-      (apart, matches_after _ _ (prefix_ends around).0),
-      ((inner, bare role.Empty refl), tt, tt),
-      tt,
-    )
+prefix_shaped around before apart = grind (arith, not_childless, prefix_ends, matches_after, bare)
 
 item_shaped : (around : Role) (before : Option Symbol) → around ≢ role.Childless →
     AreShaped (least symbol.ListItem) around before
-item_shaped around before apart = (
-  (
-    apart,
-    matches_after (item_in around before) (symbol.ListItemPrefix ∷ []) (item_ends around before).0,
-  ),
-  prefix_shaped (item_in around before) None (not_childless _ (item_ends around before).1),
-  tt,
-)
+item_shaped around before apart =
+    grind (arith, matches_after, item_ends, prefix_shaped, not_childless)
 
 label_shaped : (around : Role) (before : Option Symbol) → around ≢ role.Childless →
     AreShaped (least symbol.Label) around before
-label_shaped around before apart =
-    let inner = not_childless (label_in around) (label_ends around).1 in (
-      (apart, matches_after _ _ (label_ends around).0),
-      ((inner, bare role.Phrasing refl), tt, tt),
-      tt,
-    )
+label_shaped around before apart = grind (arith, not_childless, label_ends, matches_after, bare)
 
 footnote_shaped : (around : Role) (before : Option Symbol) → around ≢ role.Childless →
     AreShaped (least symbol.FootnotePrefix) around before
-footnote_shaped around before apart =
-    let inner = not_childless role.FootnotePrefix refl in (
-      (apart, matches_after role.FootnotePrefix _ refl),
-      ((inner, bare role.String refl), tt, tt),
-      tt,
-    )
+footnote_shaped around before apart = search (apart, not_childless, matches_after, bare, refl)
 
 head_shaped : (around : Role) (before : Option Symbol) → around ≢ role.Childless →
     AreShaped (least symbol.TableHead) around before
-head_shaped around before apart =
-    let inner = not_childless role.TableHead refl in (
-      (apart, matches_after role.TableHead _ refl),
-      ((inner, bare role.TableRow refl), tt, ((inner, bare role.TableDelimiterRow refl), tt, tt)),
-      tt,
-    )
+head_shaped around before apart = search (apart, not_childless, matches_after, bare, refl)
 
 least_shaped : (one : Symbol) (around : Role) (before : Option Symbol) → around ≢ role.Childless →
     has_least one ≡ true → AreShaped (least one) around before
-least_shaped symbol.ReferenceValue _ _ apart e = ((apart, bare role.Empty refl), tt, tt)
-least_shaped symbol.SetextUnderline _ _ apart e = ((apart, bare role.Empty refl), tt, tt)
 least_shaped symbol.FootnotePrefix around before apart e = footnote_shaped around before apart
-least_shaped symbol.FootnoteLabel _ _ apart e = ((apart, bare role.String refl), tt, tt)
-least_shaped symbol.ListItem around before apart e = item_shaped around before apart
-least_shaped symbol.ListItemPrefix around before apart e = prefix_shaped around before apart
-least_shaped symbol.ListItemMarker _ _ apart e = ((apart, bare role.Empty refl), tt, tt)
-least_shaped symbol.HeadingSequence _ _ apart e = ((apart, bare role.Empty refl), tt, tt)
-least_shaped symbol.CodeFence around before apart e =
-    ((apart, bare (code_fence_after before) (code_fence_ends before)), tt, tt)
-least_shaped symbol.MathFence around before apart e =
-    ((apart, bare (math_fence_after before) (math_fence_ends before)), tt, tt)
-least_shaped symbol.Label around before apart e = label_shaped around before apart
-least_shaped symbol.LabelText _ _ apart e = ((apart, bare role.Phrasing refl), tt, tt)
-least_shaped symbol.DefinitionLabel _ _ apart e = ((apart, bare role.String refl), tt, tt)
 least_shaped symbol.TableHead around before apart e = head_shaped around before apart
-least_shaped symbol.TableRow _ _ apart e = ((apart, bare role.TableRow refl), tt, tt)
-least_shaped symbol.TableDelimiterRow _ _ apart e =
-    ((apart, bare role.TableDelimiterRow refl), tt, tt)
-least_shaped _ around before apart e = cc
+least_shaped _ around before apart e =
+    grind (arith, matches_after, item_shaped, prefix_shaped, label_shaped)
 
 least_spine : (one : Symbol) → cond (has_least one) (spine (least one)) (one ∷ []) ≡ one ∷ []
-least_spine symbol.ReferenceValue = refl
-least_spine _ = refl
+least_spine one = grind arith
 
 -- the least nodes of symbols, in sequence
 abbrev pub nodes_of : List Symbol → Forest
@@ -168,16 +116,122 @@ nodes_of (one ∷ symbols) = joined (least one) (nodes_of symbols)
 pub nodes_spine : (symbols : List Symbol) → list_all has_least symbols ≡ true →
     spine (nodes_of symbols) ≡ symbols
 nodes_spine [] e = refl
-nodes_spine (one ∷ symbols) e =
-    spine-joined (least one) (nodes_of symbols) ∙ ap (λ s. s ++ spine (nodes_of symbols)) (subst
-    (λ b. cond b (spine (least one)) (one ∷ []) ≡ one ∷ []) (and_left _ _ e)
-    (least_spine one)) ∙ ap (λ s. one ∷ s) (nodes_spine symbols (and_right _ _ e))
+nodes_spine (one ∷ symbols) e = grind (arith, nodes_spine symbols, spine-joined, least_spine)
 
 pub nodes_shaped : (symbols : List Symbol) (around : Role) (before : Option Symbol) →
     around ≢ role.Childless →
     list_all has_least symbols ≡ true → AreShaped (nodes_of symbols) around before
 nodes_shaped [] around before apart e = tt
 nodes_shaped (one ∷ symbols) around before apart e =
-    EachNode-joined IsShapedNode (least one) (nodes_of symbols) around before
-    (least_shaped one around before apart (and_left _ _ e)) (nodes_shaped symbols around _ apart
-    (and_right _ _ e))
+    grind (arith, nodes_shaped symbols, EachNode-joined, least_shaped)
+
+-- The symbols that a spine still needs before it may end; each of them has a least node.
+
+-- a symbol of a class
+abbrev one_of : Class → Symbol
+one_of String = symbol.Text
+one_of Phrasing = symbol.Span
+one_of Flow = symbol.Block
+one_of (Only one) = one
+one_of (Either one other) = one
+one_of (OrLine one) = one
+
+-- a symbol for each item that must be there
+abbrev pub needed : List Item → List Symbol
+needed [] = []
+needed (Once class ∷ items) = one_of class ∷ needed items
+needed (Maybe class ∷ items) = needed items
+needed (Many class ∷ items) = needed items
+
+-- what ends the group that has begun
+abbrev ending_of : Stage → List Symbol
+ending_of Whole = []
+ending_of Setext = symbol.SetextUnderline ∷ []
+ending_of _ = symbol.ReferenceValue ∷ []
+
+abbrev pub missing_at : Role → ℕ → Stage → List Symbol
+missing_at around position stage = ending_of stage ++ needed (drop position (pattern_of around))
+
+abbrev at_position : Role → Option Symbol → ℕ → State
+at_position around before position =
+    record { position = position; role = around; before = before; stage = Whole }
+
+-- after these symbols the spine may end, and each has a least node
+abbrev pub Completes : State → List Symbol → Type 0
+Completes state symbols = (ends_after state symbols ≡ true) × (list_all has_least symbols ≡ true)
+
+-- no pattern has more than six items
+from_position : (around : Role) (before : Option Symbol) (position : ℕ) →
+    Completes (at_position around before position) (missing_at around position Whole)
+from_position around before zero = grind arith
+from_position around before (suc zero) = grind arith
+from_position around before (suc (suc zero)) = grind arith
+from_position around before (suc (suc (suc zero))) = grind arith
+from_position around before (suc (suc (suc (suc zero)))) = grind arith
+from_position around before (suc (suc (suc (suc (suc zero))))) = grind arith
+from_position around before (suc (suc (suc (suc (suc (suc zero)))))) = grind arith
+from_position around before (suc (suc (suc (suc (suc (suc (suc more))))))) = grind arith
+
+from_stage : (around : Role) (before : Option Symbol) (position : ℕ) (stage : Stage) →
+    Completes (record { position = position; role = around; before = before; stage = stage })
+    (missing_at around position stage)
+from_stage around before position Whole = from_position around before position
+from_stage around before position _ = from_position around _ position
+
+abbrev pub missing : State → List Symbol
+missing state = missing_at state.role state.position state.stage
+
+pub completes : (state : State) → Completes state (missing state)
+completes state = from_stage state.role state.before state.position state.stage
+
+-- The least nodes that a spine still needs complete it.
+
+-- no group has begun where no node may stand
+abbrev pub IsSettled : State → Type 0
+IsSettled state = state.role ≡ role.Childless → state.stage ≡ Whole
+
+childless_or : (around : Role) → (around ≡ role.Childless) ⊎ (may_hold around ≡ true)
+childless_or around = grind arith
+
+nothing_missing : (state : State) → state.role ≡ role.Childless →
+    state.stage ≡ Whole → missing state ≡ []
+nothing_missing state childless whole = grind arith
+
+abbrev pub completion : State → Forest
+completion state = nodes_of (missing state)
+
+completion_shaped : (state : State) → IsSettled state →
+    AreShaped (completion state) state.role state.before
+completion_shaped state settled = by_role (childless_or state.role)
+  where
+    by_role : (state.role ≡ role.Childless) ⊎ (may_hold state.role ≡ true) →
+        AreShaped (completion state) state.role state.before
+    by_role (inl childless) =
+        subst (λ symbols. AreShaped (nodes_of symbols) state.role state.before)
+        (sym (nothing_missing state childless (settled childless))) tt
+    by_role (inr holds) =
+        nodes_shaped (missing state) state.role state.before
+        (not_childless state.role holds) (completes state).1
+
+completion_fed : (state : State) → IsFed state (spine (completion state))
+completion_fed state =
+    subst (λ symbols. IsFed state symbols) (sym (nodes_spine _ (completes state).1))
+    (fed state _ (completes state).0)
+
+-- the same as events
+pub record Completed (from : Course) : Type 0 where
+  pub end : State
+  pub runs : Runs Anything (flatten (completion from.state)) from
+      (after_nodes (completion from.state) end from)
+  pub complete : is_complete end ≡ true
+
+pub completed : (from : Course) → IsSettled from.state → Completed from
+completed from settled =
+    let whole = completion_fed from.state in
+    record {
+      end = whole.0;
+      runs = Runs-nodes Anything free_anything (completion from.state) from whole.0
+          (shaped_anything (completion from.state) from.state.role from.state.before
+          (completion_shaped from.state settled)) whole.1;
+      complete = whole.2;
+    }

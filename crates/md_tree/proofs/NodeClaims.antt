@@ -1,53 +1,42 @@
 -- Claims on nodes, one from another: that they have their shape, and that they meet the rules.
-use Rattle.std.proofs.Common.{◌≡◌, ℕ, Option, None, List, [], ◌∷◌, refl}
-use Rattle.md_tree.proofs.Common.{Point, Symbol, Role, Standing, Solid}
-use Rattle.md_tree.proofs.Common.{Referral, Missing, Forest, Empty, Node, standing_of, Claim}
-use Rattle.md_tree.proofs.Common.{EachNode, IsShapedNode, AreShaped, reading_of, broken_rule}
-use Rattle.md_tree.proofs.Common.{MeetRules, target_of, Level, Reads, Anything, Unbroken}
+use Rattle.std.proofs.Common.{arith, ◌≡◌, ℕ, Option, None, List, [], ◌∷◌, refl}
+use Rattle.md_tree.proofs.Common.{Point, Symbol, Role, Standing, Referral, Missing, Forest, Empty}
+use Rattle.md_tree.proofs.Common.{Node, standing_of, Claim, EachNode, IsShapedNode, AreShaped}
+use Rattle.md_tree.proofs.Common.{reading_of, broken_rule, MeetRules, target_of, Level, Reads}
+use Rattle.md_tree.proofs.Common.{Anything, Unbroken}
 use Rattle.md_tree.specs.Rules.{MeetsRules}
 use Rattle.md_tree.specs.Refusal.{IsShapedPath}
-use Rattle.md_tree.proofs.NodesRead.{IsReadWhere, IsFine, AllowsFree}
-use Rattle.md_tree.proofs.Trees.{EachNode-map}
+use Rattle.md_tree.proofs.NodesRead.{IsReadWhere, IsFine, AllowsFree, EachNode-map}
 use Rattle.md_tree.proofs.OpenPaths.{IsFinePath}
 
 reads_anything : (standing : Standing) (around : Role) (before : Option Symbol) (start end : Point)
     (target : Referral) → IsReadWhere Anything standing around before start end target
-reads_anything (Solid symbol usual reading) around before start end target = tt
-reads_anything _ around before start end target = tt
+reads_anything standing around before start end target = grind arith
 
 pub shaped_anything : (forest : Forest) (around : Role) (before : Option Symbol) →
     EachNode IsShapedNode forest around before → EachNode (IsFine Anything) forest around before
-shaped_anything forest around before each =
-    EachNode-map IsShapedNode _ (λ r b name start end children p. (
-      p,
-      reads_anything (standing_of name) r b start end (target_of children Missing),
-    )) forest around before each
+shaped_anything forest around before each = grind (arith, EachNode-map, reads_anything)
 
 EachNode-both : (P Q : Claim) → (forest : Forest) (around : Role) (before : Option Symbol) →
     EachNode P forest around before → EachNode Q forest around before →
     EachNode (λ r b name start end children. P r b name start end children
     × Q r b name start end children) forest around before
 EachNode-both P Q Empty around before p q = tt
-EachNode-both P Q (Node name start end children rest) around before p q = (
-  (p.0, q.0),
-  EachNode-both P Q children _ _ p.1 q.1,
-  EachNode-both P Q rest around _ p.2 q.2,
-)
+EachNode-both P Q (Node name start end children rest) around before p q =
+    grind (arith, EachNode-both P Q children _ _ p.1 q.1, EachNode-both P Q rest around _ p.2 q.2)
 
 module _ (bytes : List ℕ) (names : List (List ℕ × List ℕ)) where
   reads_unbroken : (standing : Standing) (around : Role)
       (before : Option Symbol) (start end : Point) (target : Referral) →
       broken_rule bytes names (reading_of standing) around before start end target ≡ None →
       IsReadWhere (Unbroken bytes names) standing around before start end target
-  reads_unbroken (Solid symbol usual reading) around before start end target e = e
-  reads_unbroken _ around before start end target e = tt
+  reads_unbroken standing around before start end target e = grind arith
 
   unbroken_reads : (standing : Standing) (around : Role)
       (before : Option Symbol) (start end : Point) (target : Referral) →
       IsReadWhere (Unbroken bytes names) standing around before start end target →
       broken_rule bytes names (reading_of standing) around before start end target ≡ None
-  unbroken_reads (Solid symbol usual reading) around before start end target e = e
-  unbroken_reads _ around before start end target e = refl
+  unbroken_reads standing around before start end target e = grind arith
 
   pub fine_unbroken : (forest : Forest) (around : Role) (before : Option Symbol) →
       AreShaped forest around before → MeetRules bytes names forest around before →
@@ -62,24 +51,17 @@ module _ (bytes : List ℕ) (names : List (List ℕ × List ℕ)) where
 
 pub fine_shaped : (holds : Reads) (forest : Forest) (around : Role) (before : Option Symbol) →
     EachNode (IsFine holds) forest around before → AreShaped forest around before
-fine_shaped holds forest around before fine =
-    EachNode-map _ IsShapedNode (λ r b name start end children p. p.0) forest around before fine
+fine_shaped holds forest around before fine = grind (arith, EachNode-map)
 
 pub fine_meets : (bytes : List ℕ) (names : List (List ℕ × List ℕ)) (forest : Forest) (around : Role)
     (before : Option Symbol) → EachNode (IsFine (Unbroken bytes names)) forest around before →
     MeetRules bytes names forest around before
-fine_meets bytes names forest around before fine =
-    EachNode-map _ _
-    (λ r b name start end children p. unbroken_reads bytes names (standing_of name) r b start end
-    (target_of children Missing) p.1) forest around before fine
+fine_meets bytes names forest around before fine = grind (arith, EachNode-map, unbroken_reads)
 
 pub fine_path_shaped : (holds : Reads) (path : List Level) →
     IsFinePath holds path → IsShapedPath path
 fine_path_shaped holds [] fine = tt
-fine_path_shaped holds (level ∷ path) fine = (
-  fine_shaped holds level.before _ _ fine.0,
-  fine_path_shaped holds path fine.1,
-)
+fine_path_shaped holds (level ∷ path) fine = grind (arith, fine_path_shaped holds path, fine_shaped)
 
 pub free_anything : AllowsFree Anything
 free_anything around before start end target = tt

@@ -1,62 +1,44 @@
 -- What is kept of a document's events: what is found at them, with a number at each
 -- exit of a mention.
-use Rattle.std.proofs.Common.{◌≡◌, ℕ, zero, suc, true, Option, Some, None, List, [], ◌∷◌, ◌++◌}
-use Rattle.std.proofs.Common.{length, refl, sym, ap, ◌∙◌, subst}
+use Rattle.std.proofs.Common.{rules, arith, ◌≡◌, ℕ, zero, suc, true, Option, Some, List, [], ◌∷◌}
+use Rattle.std.proofs.Common.{◌++◌, length, refl}
 use Rattle.md_tree.proofs.Common.{map, slice_get, option_map, Name, Enter, Exit, Event, Fact}
-use Rattle.md_tree.proofs.Common.{index_after, facts_at, facts_of, fact_at, partner_alone}
-use Rattle.md_tree.proofs.Common.{tables_with, tables_after, facts-flatten, standing_of, Forest}
-use Rattle.md_tree.proofs.Common.{Empty, Node, flatten, entering, exiting, lie, Referral, Missing}
-use Rattle.md_tree.proofs.Common.{Resource, Label, Mention, Nothing, reading_of, target_of}
-use Rattle.md_tree.proofs.Common.{position_from, partner_event, position_there, position_at}
-use Rattle.md_tree.proofs.Common.{position_ended, mention_of, mentions_of, number_of, with_number}
-use Rattle.md_tree.proofs.Common.{number_for, facts_with, place_of, definition_for}
-use Rattle.md_tree.proofs.Common.{is_of_definitions}
-use Rattle.md_base.specs.declared.event.Name.TheVariants.{Link, Image}
+use Rattle.md_tree.proofs.Common.{facts_at, facts_of, facts-flatten, standing_of, Forest, Empty}
+use Rattle.md_tree.proofs.Common.{Node, flatten, Referral, Mention, Nothing, reading_of}
+use Rattle.md_tree.proofs.Common.{partner_event, position_there, position_at, position_ended}
+use Rattle.md_tree.proofs.Common.{mention_of, mentions_of, with_number, number_for, facts_with}
+use Rattle.md_tree.proofs.Common.{place_of, definition_for, is_of_definitions}
 
 -- ---- what doesn't change by numbers
-partner_with : (number : ℕ) (fact : Fact) → Fact.partner (with_number number fact) ≡ fact.partner
-partner_with zero fact = refl
-partner_with (suc place) fact = refl
-
 pub partner-with : (numbers : List ℕ) (facts : List Fact) (index : ℕ) →
     option_map (λ (f : Fact). f.partner) (slice_get (facts_with numbers facts) index)
     ≡ option_map (λ (f : Fact). f.partner) (slice_get facts index)
-partner-with [] facts index = refl
-partner-with (number ∷ numbers) [] index = refl
-partner-with (number ∷ numbers) (fact ∷ facts) zero = ap Some (partner_with number fact)
+partner-with (zero ∷ numbers) (fact ∷ facts) zero = refl
+partner-with (_ ∷ numbers) (fact ∷ facts) zero = refl
 partner-with (number ∷ numbers) (fact ∷ facts) (suc index) = partner-with numbers facts index
+partner-with _ _ index = refl
 
 by_partner : (events : List Event) (one other : Option Fact) →
     option_map (λ (f : Fact). f.partner) one ≡ option_map (λ (f : Fact). f.partner) other →
     partner_event events one ≡ partner_event events other
-by_partner events None None e = refl
-by_partner events None (Some other) e = cc
-by_partner events (Some one) None e = cc
-by_partner events (Some one) (Some other) e = let same : one.partner ≡ other.partner = cc in
-    ap (λ i. slice_get events i) same
+by_partner events one other e = grind arith
 
 pub ended-with : (events : List Event) (numbers : List ℕ) (facts : List Fact) (index : ℕ) →
     position_ended events (facts_with numbers facts) index ≡ position_ended events facts index
-ended-with events numbers facts index =
-    ap (λ o. position_from o (slice_get events index)) (by_partner events (slice_get _ index)
-    _ (partner-with numbers facts index))
+ended-with events numbers facts index = grind (arith, by_partner, partner-with)
 
 pub there-with : (events : List Event) (numbers : List ℕ) (facts : List Fact) (index : ℕ) →
     position_there events (facts_with numbers facts) index ≡ position_there events facts index
-there-with events numbers facts index =
-    ap (λ o. position_from (slice_get events index) o) (by_partner events (slice_get _ index) _
-    (partner-with numbers facts index))
+there-with events numbers facts index = grind (arith, by_partner, partner-with)
 
 pub at-with : (events : List Event) (numbers : List ℕ) (facts : List Fact) (index : ℕ) →
     position_at events (facts_with numbers facts) index ≡ position_at events facts index
-at-with events numbers facts zero = refl
-at-with events numbers facts (suc index) = there-with events numbers facts _
+at-with events numbers facts index = grind (arith, there-with)
 
 pub length-with : (numbers : List ℕ) (facts : List Fact) →
     length (facts_with numbers facts) ≡ length facts
 length-with [] facts = refl
-length-with (number ∷ numbers) [] = refl
-length-with (number ∷ numbers) (fact ∷ facts) = ap suc (length-with numbers facts)
+length-with (number ∷ numbers) facts = grind (arith, length-with numbers)
 
 -- ---- events, facts and mentions of a document, one beside another
 
@@ -76,27 +58,14 @@ AreRecorded _ _ _ = ⊥
 recorded_append : (xs ys : List Event) (fs gs : List Fact) (ms ns : List Mention) →
     AreRecorded xs fs ms → AreRecorded ys gs ns → AreRecorded (xs ++ ys) (fs ++ gs) (ms ++ ns)
 recorded_append [] ys [] gs [] ns one two = two
-recorded_append (x ∷ xs) ys (f ∷ fs) gs (m ∷ ms) ns one two =
-    (one.0, recorded_append xs ys fs gs ms ns one.1 two)
+recorded_append (x ∷ xs) ys (f ∷ fs) gs (m ∷ ms) ns one two = grind (arith, recorded_append xs)
 recorded_append _ ys _ gs _ ns one two = absurd one
 
 recorded : (forest : Forest) (index tables : ℕ) →
     AreRecorded (flatten forest) (facts_of index tables forest) (mentions_of forest)
 recorded Empty index tables = tt
 recorded (Node name start end children rest) index tables =
-    let exit = index_after (suc index) children in
-    let more = tables_with name (tables_after tables children) in
-    let entry_recorded : IsRecorded (entering name start) (fact_at index tables name children)
-    Nothing =
-    (λ e. refl, λ e. cc) in
-    let exit_recorded : IsRecorded (exiting name end) (partner_alone index)
-    (mention_of (reading_of (standing_of name)) (target_of children Missing)) =
-    (λ e. cc, λ e. (refl, (target_of children Missing, refl))) in (
-      entry_recorded,
-      recorded_append (flatten children) (exiting name end ∷ flatten rest)
-          (facts_of _ tables children) _ _ _
-          (recorded children _ tables) (exit_recorded, recorded rest _ more),
-    )
+    grind (arith, recorded children, recorded rest, recorded_append)
 
 -- the three at an index
 abbrev pub RecordedAt : List Event → List Fact → List Mention → ℕ → Event → Type 0
@@ -107,60 +76,36 @@ RecordedAt events facts mentions index event =
 recorded_at : (events : List Event) (facts : List Fact) (mentions : List Mention) (index : ℕ)
     (event : Event) → AreRecorded events facts mentions → slice_get events index ≡ Some event →
     RecordedAt events facts mentions index event
-recorded_at [] facts mentions index event all e = cc
 recorded_at (x ∷ events) (f ∷ facts) (m ∷ mentions) zero event all e =
-    let same : x ≡ event = cc in
-    subst (λ y. RecordedAt (x ∷ events) (f ∷ facts) (m ∷ mentions) 0 y) same
-    (f, m, refl, refl, all.0)
+    let same : x ≡ event = cc in rw (← same) (f, m, refl, refl, all.0)
 recorded_at (x ∷ events) (f ∷ facts) (m ∷ mentions) (suc index) event all e =
     recorded_at events facts mentions index event all.1 e
-recorded_at (x ∷ events) [] mentions index event all e = absurd all
-recorded_at (x ∷ events) (f ∷ facts) [] index event all e = absurd all
+recorded_at _ _ _ index event all e = grind arith
 
 pub recorded-at : (forest : Forest) (events : List Event) (index : ℕ) (event : Event) →
     flatten forest ≡ events → slice_get events index ≡ Some event →
     RecordedAt events (facts_at events) (mentions_of forest) index event
 recorded-at forest events index event flattened here =
     recorded_at events (facts_at events) (mentions_of forest) index event
-    (subst (λ es. AreRecorded es (facts_at events) (mentions_of forest)) flattened
-    (subst (λ fs. AreRecorded (flatten forest) fs (mentions_of forest))
-    (sym (facts-flatten forest events flattened)) (recorded forest 0 0))) here
+    (rw (← flattened, facts-flatten forest (flatten forest) refl) (recorded forest 0 0)) here
 
 -- what is kept at an index
 pub got-with : (number : Mention → ℕ) (mentions : List Mention) (facts : List Fact) (index : ℕ)
     (fact : Fact) (mention : Mention) → slice_get facts index ≡ Some fact →
     slice_get mentions index ≡ Some mention → slice_get (facts_with (map number mentions) facts)
     index ≡ Some (with_number (number mention) fact)
-got-with number [] facts index fact mention f m = cc
-got-with number (n ∷ mentions) [] index fact mention f m = cc
-got-with number (n ∷ mentions) (g ∷ facts) zero fact mention f m =
-    let one : g ≡ fact = cc in
-    let two : n ≡ mention = cc in
-    ap (λ x. Some (with_number (number x) g)) two
-    ∙ ap (λ x. Some (with_number (number mention) x)) one
+got-with number (n ∷ mentions) (g ∷ facts) zero fact mention f m = cc
 got-with number (n ∷ mentions) (g ∷ facts) (suc index) fact mention f m =
     got-with number mentions facts index fact mention f m
+got-with number _ _ index fact mention f m = cc
 
 -- ---- the index that a number encodes
 pub kept-number : (number : ℕ) (fact : Fact) → fact.read_at ≡ 0 →
     Fact.read_at (with_number number fact) ≡ number
-kept-number zero fact none = none
-kept-number (suc place) fact none = refl
-
-pub place-number : (place : Option ℕ) → place_of (number_of place) ≡ place
-place-number None = refl
-place-number (Some place) = refl
+kept-number number fact none = grind arith
 
 pub number-definition : (bytes : List ℕ) (mentions : List Mention) (name : Name)
     (target : Referral) → is_of_definitions name ≡ true → place_of
     (number_for bytes mentions (mention_of (reading_of (standing_of name)) target)) ≡ definition_for
     bytes mentions (mention_of (reading_of (standing_of name)) target)
-number-definition bytes mentions Link Missing is = refl
-number-definition bytes mentions Link Resource is = refl
-number-definition bytes mentions Link (Label label) is =
-    place-number _
-number-definition bytes mentions Image Missing is = refl
-number-definition bytes mentions Image Resource is = refl
-number-definition bytes mentions Image (Label label) is =
-    place-number _
-number-definition bytes mentions _ target is = absurd (lie is)
+number-definition bytes mentions name target is = search rules

@@ -1,15 +1,14 @@
 -- The open nodes of a course are those of a path: where a course stands after some events.
-use Rattle.std.proofs.Common.{◌≡◌, Bool, true, false, cond, Option, Some, None, List, [], ◌∷◌, ◌++◌}
-use Rattle.std.proofs.Common.{refl, sym, ap, ◌∙◌, subst, append_assoc}
-use Rattle.md_tree.proofs.Common.{Event, Symbol, Role, Flow, Standing, Solid, Mdx, Referral}
-use Rattle.md_tree.proofs.Common.{Missing, State, Entry, Open, Outer, Forest, Empty, Node, flatten}
-use Rattle.md_tree.proofs.Common.{entering, exiting, standing_of, spine, shown, Claim, EachNode}
-use Rattle.md_tree.proofs.Common.{inner_role, inner_before, last_symbol, role_for, target_of, Level}
-use Rattle.md_tree.proofs.Common.{opening, role_in, before_in, symbol_after, start_of, Reads}
-use Rattle.md_tree.proofs.Common.{Course, entered, entered_on, beginning}
+use Rattle.std.proofs.Common.{arith, ◌≡◌, Bool, true, cond, Option, Some, None, List, [], ◌∷◌, ◌++◌}
+use Rattle.std.proofs.Common.{refl, sym, ap, ◌∙◌, append_assoc}
+use Rattle.md_tree.proofs.Common.{Event, Symbol, Role, Flow, Standing, Solid, Referral, Missing}
+use Rattle.md_tree.proofs.Common.{State, Entry, Open, Outer, Forest, Empty, Node, flatten}
+use Rattle.md_tree.proofs.Common.{standing_of, spine, Claim, EachNode, inner_role, inner_before}
+use Rattle.md_tree.proofs.Common.{last_symbol, target_of, Level, opening, role_in, before_in}
+use Rattle.md_tree.proofs.Common.{symbol_after, start_of, Reads, Course, entered, entered_on}
+use Rattle.md_tree.proofs.Common.{beginning}
 use Rattle.md_tree.proofs.Spots.{Feeds, option_map-some}
-use Rattle.md_tree.proofs.NodesRead.{IsFine}
-use Rattle.md_tree.proofs.Trees.{Feeds-context}
+use Rattle.md_tree.proofs.NodesRead.{IsFine, Feeds-context}
 
 -- nodes, and nodes after them
 abbrev pub joined : Forest → Forest → Forest
@@ -21,17 +20,13 @@ pub flatten-joined : (forest others : Forest) →
     flatten (joined forest others) ≡ flatten forest ++ flatten others
 flatten-joined Empty others = refl
 flatten-joined (Node name start end children rest) others =
-    ap (λ es. entering name start ∷ flatten children ++ exiting name end ∷ es)
-    (flatten-joined rest others)
-    ∙ ap (λ es. entering name start ∷ es) (sym (append_assoc (flatten children) (exiting name end
-    ∷ flatten rest) (flatten others)))
+    grind (arith, flatten-joined rest others, append_assoc)
 
 pub spine-joined : (forest others : Forest) →
     spine (joined forest others) ≡ spine forest ++ spine others
 spine-joined Empty others = refl
 spine-joined (Node name start end children rest) others =
-    ap (λ s. shown (standing_of name) (spine children) ++ s) (spine-joined rest others)
-    ∙ sym (append_assoc (shown (standing_of name) (spine children)) (spine rest) (spine others))
+    grind (arith, spine-joined rest others, append_assoc)
 
 pub target_of-joined : (forest others : Forest) (found : Referral) →
     target_of (joined forest others) found ≡ target_of others (target_of forest found)
@@ -50,14 +45,8 @@ pub EachNode-joined :
     EachNode P forest around before → EachNode P others around (last_symbol before (spine forest)) →
     EachNode P (joined forest others) around before
 EachNode-joined P Empty others around before each more = more
-EachNode-joined P (Node name start end children rest) others around before each more = (
-  each.0,
-  each.1,
-  EachNode-joined P rest others around
-      (last_symbol before (shown (standing_of name) (spine children))) each.2
-      (subst (λ b. EachNode P others around b)
-      (last_symbol-append before (shown (standing_of name) (spine children)) (spine rest)) more),
-)
+EachNode-joined P (Node name start end children rest) others around before each more =
+    grind (arith, EachNode-joined P rest, last_symbol-append)
 
 -- the open nodes of a course are those of a path, and the innermost one's children begin with this
 -- state and target
@@ -107,11 +96,7 @@ Reached-beginning holds = record {
 
 pub may_hold_true : (b : Bool) (o : Option Entry) (entry : Entry) → cond b o None ≡ Some entry →
     (b ≡ true) × (o ≡ Some entry)
-may_hold_true true o entry e = (refl, e)
-may_hold_true false o entry e = cc
-
-pub some_entry : (a b : Entry) → Some a ≡ Some b → a ≡ b
-some_entry a b e = cc
+may_hold_true b o entry e = grind arith
 
 -- the context of a node's children
 pub entered_context : (standing : Standing) (state : State) (target : Referral) (entry : Entry) →
@@ -119,21 +104,9 @@ pub entered_context : (standing : Standing) (state : State) (target : Referral) 
     (entry.state.role ≡ inner_role standing state.role state.before)
     × (entry.state.before ≡ inner_before standing state.before)
 entered_context (Solid symbol usual reading) state target entry e =
-    let m = option_map-some (λ (next : State). record {
-      state = start_of (role_for state.role state.before usual);
-      target = Missing;
-      outer = Some (record {
-        state = next;
-        before = state.before;
-        target = target;
-        reading = reading;
-      });
-    }) _ entry e in
+    let m = option_map-some _ _ entry e in
     (ap (λ (n : Entry). n.state.role) (sym m.2), ap (λ (n : Entry). n.state.before) (sym m.2))
-entered_context Mdx state target entry e = cc
-entered_context _ state target entry e =
-    let same = some_entry _ entry e in
-    (ap (λ (n : Entry). n.state.role) (sym same), ap (λ (n : Entry). n.state.before) (sym same))
+entered_context _ state target entry e = grind arith
 
 -- the context of the innermost open node's children
 level_context :
@@ -158,16 +131,13 @@ level_context path level around here state found target outer r b feeds e =
 
 pub Stands-context : (path : List Level) (opens : List Open) (state : State) (target : Referral) →
     Stands path opens state target → (state.role ≡ role_in path) × (state.before ≡ before_in path)
-Stands-context [] [] state target stands =
-    (ap (λ (s : State). s.role) stands.0, ap (λ (s : State). s.before) stands.0)
-Stands-context [] (open_node ∷ others) state target stands = absurd stands
-Stands-context (level ∷ path) [] state target stands = absurd stands
 Stands-context (level ∷ path) (open_node ∷ others) state target stands =
     let outer = Stands-context path others stands.0 stands.1 stands.3 in
     level_context path level stands.0 stands.2 state _ target open_node.outer outer.0
     outer.1 stands.4 stands.7
+Stands-context _ _ state target stands = grind arith
 
-pub path_none : (path : List Level) (state : State) (target : Referral) →
-    Stands path [] state target → (path ≡ []) × (state ≡ start_of Flow)
-path_none [] state target stands = (refl, stands.0)
-path_none (level ∷ path) state target stands = absurd stands
+pub path_none : (path : List Level) (opens : List Open) (state : State) (target : Referral) →
+    opens ≡ [] → Stands path opens state target → (path ≡ []) × (state ≡ start_of Flow)
+path_none [] opens state target none stands = grind arith
+path_none (level ∷ path) opens state target none stands = grind arith

@@ -1,15 +1,15 @@
 -- The entry and its partner give the position of each node of a document. So a look-up by index
 -- finds the position in the tree: `reads` of `Checked` depends on it.
-use Rattle.std.proofs.Common.{◌≡◌, ℕ, suc, ◌+◌, Some, List, [], ◌∷◌, ◌++◌, length, get_or, refl}
-use Rattle.std.proofs.Common.{sym, ap, ◌∙◌, subst, append_assoc, append-nil, arith}
+use Rattle.std.proofs.Common.{◌≡◌, ℕ, suc, Some, List, [], ◌∷◌, ◌++◌, length, refl, sym, ap, ◌∙◌}
+use Rattle.std.proofs.Common.{subst, append_assoc, append-nil, arith}
 use Rattle.md_tree.proofs.Common.{slice_get, All, Name, Point, Event, Fact, Forest, Empty, Node}
 use Rattle.md_tree.proofs.Common.{flatten, entering, exiting, place, Handed, EntersAt, IsEnteredAt}
 use Rattle.md_tree.proofs.Common.{index_after, partner_alone, tables_with, tables_after, fact_at}
-use Rattle.md_tree.proofs.Common.{facts_of, facts_at, position_from, partner_event, position_there}
-use Rattle.md_tree.proofs.Common.{position_at, length_one, facts-flatten}
+use Rattle.md_tree.proofs.Common.{facts_of, facts_at, position_there, position_at, length_one}
+use Rattle.md_tree.proofs.Common.{facts-flatten}
 use Rattle.md_pattern.proofs.CountedFacts.{length_facts, regrouped}
-use Rattle.md_tree.proofs.EventRows.{rows_all, Row, rows_of, numbered_rows, numbered_get}
-use Rattle.md_tree.proofs.Entering.{get_at, past_row, inside_rows, children_there}
+use Rattle.md_tree.proofs.EventRows.{rows_all, Row, rows_of}
+use Rattle.md_tree.proofs.Entering.{get_at, row_at}
 use Rattle.md_tree.proofs.Searching.{AllAt}
 
 -- a list with a node's part in it, split at the entry, after it, at the exit and after that
@@ -21,12 +21,14 @@ module _ {A : Type 0} (xs before inner rest later : List A) (entry exit : A) (is
   pub in_node : xs ≡ (before ++ entry ∷ []) ++ (inner ++ (exit ∷ (rest ++ later)))
   in_node = at_entry ∙ sym (append_assoc before _ _)
 
+  pub got_entry : (n : ℕ) → length before ≡ n → slice_get xs n ≡ Some entry
+  got_entry n e = ap (λ ys. slice_get ys n) at_entry ∙ get_at before _ entry n e
+
   at_exit : xs ≡ ((before ++ entry ∷ []) ++ inner) ++ (exit ∷ (rest ++ later))
   at_exit = in_node ∙ sym (append_assoc _ inner _)
 
   pub after_node : xs ≡ (((before ++ entry ∷ []) ++ inner) ++ exit ∷ []) ++ (rest ++ later)
-  after_node =
-      at_exit ∙ sym (append_assoc ((before ++ entry ∷ []) ++ inner) (exit ∷ []) (rest ++ later))
+  after_node = grind (arith, at_exit, append_assoc)
 
 pub length_events : (forest : Forest) (index : ℕ) (events : List Event) → length events ≡ index →
     length (events ++ flatten forest) ≡ index_after index forest
@@ -44,10 +46,7 @@ module _ (events : List Event) (facts : List Fact) where
       slice_get events index ≡ Some (entering name start) → slice_get facts index ≡ Some fact →
       slice_get events fact.partner ≡ Some (exiting name end) →
       position_there events facts index ≡ Some (place start end)
-  node_there index fact name start end first found last =
-      ap (λ o. position_from o (partner_event events (slice_get facts index))) first
-      ∙ ap (λ o. position_from (Some (entering name start)) (partner_event events o)) found
-      ∙ ap (λ o. position_from (Some (entering name start)) o) last
+  node_there index fact name start end first found last = grind arith
 
   all_there : (forest : Forest) (index tables : ℕ) (before later : List Event)
       (found more : List Fact) → length before ≡ index → length found ≡ index →
@@ -69,12 +68,9 @@ module _ (events : List Event) (facts : List Fact) where
       let two = length_one found fact ∙ ap suc f in
       let inside = length_events children (suc index) (before ++ first ∷ []) one in
       let facts_to = length_facts children (suc index) tables (found ++ fact ∷ []) two in (
-        node_there index fact name start end (ap (λ es. slice_get es index)
-            (at_entry events before inner _ later first last is)
-            ∙ get_at before (inner ++ (last ∷ (flatten rest ++ later))) first index e)
-            (ap (λ fs. slice_get fs index)
-            (at_entry facts found facts_inside facts_after more fact other are)
-            ∙ get_at found (facts_inside ++ (other ∷ (facts_after ++ more))) fact index f)
+        node_there index fact name start end
+            (got_entry events before inner (flatten rest) later first last is index e)
+            (got_entry facts found facts_inside facts_after more fact other are index f)
             (ap (λ es. slice_get es exit) (at_exit events before inner _ later first last is)
             ∙ get_at ((before ++ first ∷ []) ++ inner) (flatten rest ++ later) last exit inside),
         all_there children _ tables _ (last ∷ (flatten rest ++ later)) _ (other
@@ -91,11 +87,7 @@ module _ (events : List Event) (facts : List Fact) where
   all_at : (forest : Forest) (index : ℕ) → AllAt (position_there events facts) (suc index) forest →
       AllAt (position_at events facts) (suc index) forest
   all_at Empty index all = tt
-  all_at (Node name start end children rest) index all = (
-    all.0,
-    all_at children _ all.1,
-    all_at rest _ all.2,
-  )
+  all_at (Node name start end children rest) index all = grind (arith, all_at children, all_at rest)
 
 -- a row's children are there
 abbrev HasThem : List Event → List Fact → Row → Type 0
@@ -125,16 +117,10 @@ children-placed given index name enters children entered =
     let forest = entered.0 in
     let events = given.events in
     let facts = facts_at events in
-    let rows = rows_of 0 0 forest in
-    let past = past_row given index name enters in
-    let inside = inside_rows given index name enters forest entered.1 in
+    let here = row_at given forest index enters.0 entered.1 enters.1 in
     let all = all_there events facts forest 0 0 [] [] [] [] refl refl (sym entered.1
     ∙ sym (append-nil _)) (facts-flatten forest events entered.1 ∙ sym (append-nil _)) in
-    let none : 0 + index ≡ index = omega arith in
-    let index_is : Row.index (get_or rows index past) ≡ index =
-    numbered_get rows 0 (index_after 0 forest) index past (numbered_rows forest 0 0) inside
-    ∙ none in
-    let there = rows_there events facts forest 0 0 all index past inside children
-    (children_there given index name enters forest entered.1 children entered.2) in
-    all_at events facts children index
-    (subst (λ i. AllAt (position_there events facts) (suc i) children) index_is there)
+    let children_are : here.row.children ≡ Some children = cc (here.children_are, entered.2) in
+    let there = here.said (HasThem events facts) (rows_there events facts forest 0 0 all)
+    children children_are in
+    all_at events facts children index (rw here.index_is at there)

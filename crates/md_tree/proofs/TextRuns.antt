@@ -1,7 +1,6 @@
 -- Runs of bytes that are texts: a part of a run is that part of the bytes.
-use Rattle.std.proofs.Common.{rules, ◌≡◌, ℕ, ◌+◌, ◌-◌, ◌≤◌, Bool, true, ◌&&◌, nat_le, Option, None}
-use Rattle.std.proofs.Common.{Some, List, ◌++◌, length, take, drop, take-add, refl, sym, ap, ◌∙◌}
-use Rattle.std.proofs.Common.{arith}
+use Rattle.std.proofs.Common.{rules, ◌≡◌, ℕ, ◌+◌, ◌-◌, ◌≤◌, Bool, true, ◌&&◌, nat_le, Option, Some}
+use Rattle.std.proofs.Common.{List, ◌++◌, length, take, drop, take-add, sym, ap, ◌∙◌, arith}
 use Rattle.std.specs.Prelude.{slice_range, IfSome}
 use Rattle.std.proofs.lemmas.Str.{IsUtf8-append, is_utf8-from_IsUtf8}
 use Rattle.std.proofs.lemmas.List.{take-take, drop-drop, drop-take}
@@ -26,8 +25,7 @@ slice_range-run bytes text s start end is low ordered high =
 -- bytes that may be read and are UTF-8 are a text
 pub text_when-some : (readable : Bool) (bytes part : List ℕ) → readable ≡ true →
     part ≡ bytes → IsUtf8 part → text_when readable bytes ≡ Some part
-text_when-some readable bytes part holds same utf8 =
-    rw (holds, ← same, is_utf8-from_IsUtf8 part utf8) refl
+text_when-some readable bytes part holds same utf8 = grind (arith, is_utf8-from_IsUtf8)
 
 -- indices in order, within the bytes
 pub readable-ordered : (start end n : ℕ) → start ≤ end → end ≤ n →
@@ -40,16 +38,12 @@ pub run-part : (bytes text part : List ℕ) (s start end : ℕ) → s + length t
     end - s ≤ length text → part ≡ slice_range text (start - s) (end - s) → IsUtf8 part → text_when
     (nat_le start end && nat_le end (length bytes)) (slice_range bytes start end) ≡ Some part
 run-part bytes text part s start end within is low low_end ordered high same utf8 =
-    let in_order : start ≤ end = omega (arith, ordered, low, low_end) in
-    text_when-some _ _ _
-    (readable-ordered start end _ in_order (omega (arith, within, high, low_end)))
-    (same ∙ slice_range-run bytes text s start end is low in_order high) utf8
+    grind (arith, text_when-some, readable-ordered, slice_range-run)
 
 -- what holds of an answer, where there is one
 pub some-weaken : {A : Type 0} (P Q : A → Type 0) → ((a : A) → P a → Q a) → (o : Option A) →
     IfSome o P → IfSome o Q
-some-weaken P Q weaken None holds = holds
-some-weaken P Q weaken (Some a) holds = weaken a holds
+some-weaken P Q weaken o holds = grind arith
 
 -- a text that continues where another ends
 pub IsUtf8-on : (bytes : List ℕ) (start at end : ℕ) → start ≤ at → at ≤ end →

@@ -8,9 +8,8 @@ use Rattle.md_tree.proofs.Common.{opens_seen, course_of, Handed, Runs, Unbroken,
 use Rattle.md_tree.proofs.Common.{is_complete, state_of}
 use Rattle.md_tree.specs.declared.walk.Walk.{Walk}
 use Rattle.md_tree.specs.declared.open_nodes.Open.{Open}
-use Rattle.md_tree.proofs.Endings.{IsWalked, IsWalked-done}
-use Rattle.md_tree.proofs.Checking.{IsRefusal-undone, IsRefusal-lost, IsChecked-walked}
-use Rattle.md_tree.proofs.Checking.{AreNumbered-walked}
+use Rattle.md_tree.proofs.Checking.{IsWalked, IsWalked-done, IsRefusal-undone, IsRefusal-lost}
+use Rattle.md_tree.proofs.Checking.{IsChecked-walked, AreNumbered-walked}
 use Rattle.md_tree.proofs.grammar.find.Goals as goal
 
 -- no node of a course is open, and so none of a walk

@@ -4,8 +4,7 @@
 use Rattle.std.proofs.Common.{◌∙◌}
 use Rattle.std.specs.Prelude.{Result, IfOk}
 use Rattle.md_tree.proofs.Common.{Ok, Err}
-use Rattle.md_tree.proofs.Tables.{alignments-values_of_table}
-use Rattle.md_tree.proofs.EnteredTables.{IsTable-entered}
+use Rattle.md_tree.proofs.Tables.{alignments-values_of_table, IsTable-entered}
 use Rattle.md_tree.proofs.infer.gfm_table_align.Goals as goal
 
 -- a claim of what is in an answer

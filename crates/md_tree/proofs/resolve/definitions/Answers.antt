@@ -1,38 +1,23 @@
 -- A definition gets its number in the map, another mention none. The search can't take a mention
 -- off the end of the list.
-use Rattle.std.proofs.Common.{◌≡◌, ◌+◌, ◌-◌, ◌++◌, ◌∷◌, [], ℕ, suc, List, length, ap, sym, subst}
-use Rattle.std.proofs.Common.{◌∙◌, append_assoc, arith}
+use Rattle.std.proofs.Common.{◌≡◌, ◌-◌, ◌++◌, ◌∷◌, [], ℕ, suc, List, length, ap, sym, subst, ◌∙◌}
+use Rattle.std.proofs.Common.{append_assoc, arith}
 use Rattle.md_tree.proofs.Common.{Position, Definition, Mentioned, defined, defined_by}
 use Rattle.md_tree.proofs.Common.{mentions_among, NumbersFrom}
-use Rattle.md_tree.proofs.Numbering.{NumbersFrom-put, defined-last, defined_by-other}
+use Rattle.md_tree.proofs.MentionsResolved.{NumbersFrom-put, defined-last, defined_by-other}
 use Rattle.md_tree.proofs.resolve.definitions.Goals as goal
 
 -- how many definitions there are up to a mention
 module _ (bytes : List ℕ) (rest before : List Mentioned) (last : Mentioned) (number : ℕ)
     (split : rest ≡ before ++ last ∷ [])
     (counted : number ≡ length (defined bytes (mentions_among rest))) where
-  all_counted : number
-      ≡ length (defined bytes (mentions_among before)) + length (defined_by bytes last.mention [])
-  all_counted = counted ∙ ap (λ r. length (defined bytes (mentions_among r))) split
-      ∙ defined-last bytes before last
-
   at_definition : (label : Position) → last.mention ≡ Definition label →
       number ≡ suc (length (defined bytes (mentions_among before)))
-  at_definition label is = plus_one (length (defined bytes (mentions_among before))) number
-      (all_counted ∙ ap (λ m. length (defined bytes (mentions_among before))
-      + length (defined_by bytes m [])) is)
-    where
-      plus_one : (n total : ℕ) → total ≡ n + 1 → total ≡ suc n
-      plus_one n total e = omega (arith, e)
+  at_definition label is = grind (arith, defined-last)
 
   at_another : ((label : Position) → last.mention ≡ Definition label → ⊥) →
       number ≡ length (defined bytes (mentions_among before))
-  at_another no_such = plus_none (length (defined bytes (mentions_among before))) number
-      (all_counted ∙ ap (λ l. length (defined bytes (mentions_among before)) + length l)
-      (defined_by-other bytes last.mention [] no_such))
-    where
-      plus_none : (n total : ℕ) → total ≡ n + 0 → total ≡ n
-      plus_none n total e = omega (arith, e)
+  at_another no_such = grind (arith, defined-last, defined_by-other)
 
 one_less : (number left : ℕ) → number ≡ suc left → number - 1 ≡ left
 one_less number left e = omega (arith, e)

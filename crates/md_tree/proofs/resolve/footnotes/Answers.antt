@@ -2,8 +2,8 @@
 -- doesn't look each identifier up in the longer set.
 use Rattle.std.proofs.Common.{◌∷◌, ◌+◌, List, Option, ℕ, drop, ap, sym, ◌∙◌}
 use Rattle.md_tree.proofs.Common.{Mentioned, mentions_among, footnoted, footnoted_by}
-use Rattle.md_tree.proofs.Numbering.{IdentifiersBefore-at, footnoted_by-other}
-use Rattle.md_tree.proofs.OneMoreIdentifier.{IdentifiersBefore-put}
+use Rattle.md_tree.proofs.MentionsResolved.{IdentifiersBefore-at, footnoted_by-other}
+use Rattle.md_tree.proofs.MentionsResolved.{IdentifiersBefore-put}
 use Rattle.md_tree.proofs.resolve.footnotes.Goals as goal
 
 -- what footnotes are defined

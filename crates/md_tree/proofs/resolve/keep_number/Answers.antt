@@ -1,7 +1,7 @@
 -- A number is written in the fact at its index, and none elsewhere. The search does no
 -- induction over the facts.
 use Rattle.std.proofs.Common.{arith, ℕ, ◌≡◌, ◌≤◌, sym, ◌∙◌}
-use Rattle.md_tree.proofs.Numbering.{put-set, put-none, put-nowhere}
+use Rattle.md_tree.proofs.MentionsResolved.{put-set, put-none, put-nowhere}
 use Rattle.md_tree.proofs.resolve.keep_number.Goals as goal
 
 nothing : (number : ℕ) → number ≤ 0 → number ≡ 0

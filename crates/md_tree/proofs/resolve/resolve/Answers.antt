@@ -1,9 +1,9 @@
 -- A mention that is refused is unresolved, and after one that passes, all so far are resolved and
--- numbered. The search doesn't derive the mentions' definitions from the numbers: `Numbering` does.
+-- numbered. The search doesn't derive the mentions' definitions from the numbers:
+-- `MentionsResolved` does.
 use Rattle.std.proofs.Common.{below_more, get_or, sym}
 use Rattle.md_tree.proofs.Common.{mentions_among, IsResolved, number_for}
-use Rattle.md_tree.proofs.Numbering.{numbered-kept}
-use Rattle.md_tree.proofs.MentionsResolved.{IsResolved-at, IsUnresolvedBy-at}
+use Rattle.md_tree.proofs.MentionsResolved.{numbered-kept, IsResolved-at, IsUnresolvedBy-at}
 use Rattle.md_tree.proofs.resolve.resolve.Goals as goal
 
 pub returns-in-Err-clause-refused : goal.returns-in-Err-clause-refused

@@ -1,10 +1,10 @@
 -- As in `read`, of two events at once, an entry and its own exit; and the exit's index doesn't
 -- overflow, as an event is there. The search doesn't go through the first event to the second:
--- `LeafRuns` does.
+-- `Leaves` does.
 use Rattle.std.proofs.Common.{rules, suc, ◌<◌, add-one, ap, ◌∙◌, length}
 use Rattle.md_tree.proofs.Common.{slice_get_within, err_from_is_err_and, ending_after, handed}
 use Rattle.md_tree.proofs.Common.{course_of}
-use Rattle.md_tree.proofs.LeafRuns.{Runs-leaf, IsRefusal-leaf, passed-leaf_more, first_index-leaf}
+use Rattle.md_tree.proofs.Leaves.{Runs-leaf, IsRefusal-leaf, passed-leaf_more, first_index-leaf}
 use Rattle.md_tree.proofs.reader.Reader.read_named.Goals as goal
 
 pub returns-in_err-leaf-clause-refused : goal.returns-in_err-leaf-clause-refused

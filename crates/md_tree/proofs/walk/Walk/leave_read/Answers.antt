@@ -2,7 +2,7 @@
 -- through the rules: one that is broken here is never that of the order.
 use Rattle.std.proofs.Common.{refl, sym, ◌∙◌}
 use Rattle.md_tree.proofs.Common.{reverse, name_table, point_at, outer_of, course_of}
-use Rattle.md_tree.proofs.Breaks.{StopsInside-broken}
+use Rattle.md_tree.proofs.Stopped.{StopsInside-broken}
 use Rattle.md_tree.proofs.walk.Walk.leave_read.Goals as goal
 
 pub returns-in-Some-clause-refused : goal.returns-in-Some-clause-refused
