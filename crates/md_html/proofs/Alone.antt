@@ -1,10 +1,10 @@
 -- The entry of a node that may be printed at its exit alone changes nothing.
+use Rattle.std.proofs.Common.{arith}
 use Rattle.std.proofs.Common.{◌≡◌, ℕ, true, refl}
 use Rattle.std.specs.Prelude.{if◌then◌else◌}
 use Rattle.md_base.specs.declared.event.Name.{Name}
 use Rattle.md_base.specs.declared.event.Name.TheVariants as name_variants
-use name_variants.{Data, LineEnding, SpaceOrTab, BlockQuotePrefix, Other, BlankLineEnding}
-use name_variants.{ListItemMarker, ListItemValue, HeadingAtxSequence, Definition}
+use name_variants.{Definition}
 use Rattle.md_base.specs.declared.event.Point.{Point}
 use Rattle.md_base.specs.Tree.{entering}
 use Rattle.md_base.proofs.Lies.{lie}
@@ -24,13 +24,4 @@ pub alone : (name : Name) → is_alone name ≡ true → (point : Point) (contex
     (facts : NodeFacts) (state : State) →
     exited context facts name (stepped context (entering name point) facts state)
     ≡ exited context facts name state
-alone Data e point context facts state = refl
-alone LineEnding e point context facts state = refl
-alone SpaceOrTab e point context facts state = refl
-alone BlockQuotePrefix e point context facts state = refl
-alone (Other number) e point context facts state = refl
-alone BlankLineEnding e point context facts state = refl
-alone ListItemMarker e point context facts state = refl
-alone ListItemValue e point context facts state = refl
-alone HeadingAtxSequence e point context facts state = refl
-alone _ e point context facts state = lie e
+alone name e point context facts state = grind arith

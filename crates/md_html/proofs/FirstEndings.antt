@@ -1,17 +1,16 @@
 -- The first line ending of a document is the one that exits first in its events.
+use Rattle.std.proofs.Common.{arith}
 use Rattle.std.proofs.Common.{◌≡◌, ◌⊎◌, inl, inr, ℕ, suc, Bool, true, false, List, [], ◌∷◌, ◌++◌}
 use Rattle.std.proofs.Common.{Option, Some, None, refl, ap, sym, ◌∙◌, append_assoc, append-nil}
 use Rattle.std.proofs.Common.{slice_get}
 use Rattle.std.specs.Prelude.{if◌then◌else◌, option_map}
 use Rattle.md_base.specs.declared.event.Name.{Name}
-use Rattle.md_base.specs.declared.event.Name.TheVariants.{LineEnding, BlankLineEnding}
 use Rattle.md_base.specs.declared.event.Point.{Point}
 use Rattle.md_base.specs.declared.event.Position.{Position}
 use Rattle.md_base.specs.declared.event.Event.{Event}
 use Rattle.md_base.specs.Tree.{Forest, Empty, Node, flatten, entering, exiting}
 use Rattle.md_base.specs.Children.{or_else}
 use Rattle.md_base.specs.NameTests.{is_line_ending}
-use Rattle.md_base.proofs.Lies.{lie}
 use Rattle.md_tree.specs.Texts.{positions_of, is_text_name, ExitsText}
 use Rattle.md_meaning.specs.Meaning.Finds.{first_ending}
 use Rattle.md_pattern.specs.Ending.{exits_line_ending, first_index}
@@ -35,27 +34,10 @@ shift : (event : Event) (position : Option Position) (events : List Event)
     (positions : List (Option Position))
     (found : Option Position) → exits_line_ending event ≡ false → Outcome events positions found →
     Outcome (event ∷ events) (position ∷ positions) found
-shift event position events positions found e later =
-    let next = ap (λ b. if b then Some 0 else option_map (λ index. suc index) (first_index events))
-    e in
-    elim later [
-      | inl none ↦ inl (next ∙ ap (option_map (λ index. suc index)) none.0, none.1)
-      | inr some ↦ inr (
-        suc some.0,
-        record {
-          position = some.1.position;
-          first = next ∙ ap (option_map (λ index. suc index)) some.1.first;
-          there = some.1.there;
-          is = some.1.is;
-          exits = some.1.exits;
-        },
-      )
-    ]
+shift event position events positions found e later = grind arith
 
 ending_text : (name : Name) → is_line_ending name ≡ true → is_text_name name ≡ true
-ending_text LineEnding h = refl
-ending_text BlankLineEnding h = refl
-ending_text _ h = lie h
+ending_text name h = grind arith
 
 exit_step : (name : Name) (end : Point) (place : Position) (events : List Event)
     (positions : List (Option Position))

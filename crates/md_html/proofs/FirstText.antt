@@ -63,19 +63,14 @@ enter-first false text opened below le = outermost-grows text opened below le
 enter-captured : (p c : Bool) (opened : List ℕ) (below : List (List ℕ)) →
     length (if p then below else if c then opened ∷ below else below)
     ≡ (if c && not p then suc (length below) else length below)
-enter-captured true true opened below = refl
-enter-captured true false opened below = refl
-enter-captured false true opened below = refl
-enter-captured false false opened below = refl
+enter-captured p c opened below = grind arith
 
 pub one_less : (n : ℕ) → n ≡ suc n - 1
 one_less n = omega arith
 
 exit-captured : (c : Bool) (below : List (List ℕ)) →
     length (if c then others_of below else below) ≡ (if c then length below - 1 else length below)
-exit-captured true [] = refl
-exit-captured true (outer ∷ others) = one_less (length others)
-exit-captured false below = refl
+exit-captured c below = grind arith
 
 restored-first : (c : Bool) (text : List ℕ) (below : List (List ℕ)) →
     (below ≡ [] → not c ≡ true) →

@@ -1,6 +1,6 @@
 -- In the events of a document, and from each one on, each captured text that ends has begun before.
 use Rattle.std.proofs.Common.{◌≡◌, ℕ, zero, suc, ◌-◌, Bool, true, false, not, ◌&&◌, List, []}
-use Rattle.std.proofs.Common.{◌∷◌, ◌++◌, length, drop, refl, sym, ap, ◌∙◌, append-nil}
+use Rattle.std.proofs.Common.{◌∷◌, ◌++◌, length, drop, refl, append-nil}
 use Rattle.std.proofs.Common.{append_assoc, arith}
 use Rattle.std.specs.Prelude.{if◌then◌else◌}
 use Rattle.std.proofs.lemmas.Bool.{and_parts, and_from}
@@ -15,7 +15,6 @@ use Rattle.md_steps.specs.Steps.{is_passed}
 use Rattle.md_steps.specs.State.{captures}
 use Rattle.md_steps.proofs.Running.{noticed-length}
 use Rattle.md_html.specs.Fits.{may_end, captured_after, fits}
-use Rattle.md_html.proofs.FirstText.{one_less}
 
 -- ---- one event further
 fits-passing : (left captured : ℕ) (events : List Event) (seen : List Noticed) →
@@ -48,13 +47,7 @@ exits-so : (c : Bool) (name : Name) (end : Point) (captured : ℕ) (one : Notice
     (events : List Event) (seen : List Noticed) → captures name ≡ c →
     fits 0 captured events seen ≡ true →
     fits 0 (if c then suc captured else captured) (exiting name end ∷ events) (one ∷ seen) ≡ true
-exits-so true name end captured one events seen e f =
-    ap (λ b. fits 0 (if b then suc captured - 1 else suc captured) events seen) e
-    ∙ ap (λ n. fits 0 n events seen) (sym (one_less captured)) ∙ f
-exits-so false name end zero one events seen e f =
-    ap (λ b. not b && fits 0 (if b then 0 - 1 else 0) events seen) e ∙ f
-exits-so false name end (suc captured) one events seen e f =
-    ap (λ b. fits 0 (if b then suc captured - 1 else suc captured) events seen) e ∙ f
+exits-so c name end captured one events seen e f = grind arith
 
 -- at the node's first event, all others are skipped
 fits-passed : (captured : ℕ) (events : List Event) (seen : List Noticed) (event : Event)
@@ -73,10 +66,7 @@ enters-so : (p c : Bool) (inside captured : ℕ) (events : List Event) (seen : L
     fits 0 (if c then suc captured else captured) events seen ≡ true →
     fits (if p then inside else 0) (if c && not p then suc captured else captured) events seen
     ≡ true
-enters-so true true inside captured events seen f g = f
-enters-so true false inside captured events seen f g = f
-enters-so false true inside captured events seen f g = g
-enters-so false false inside captured events seen f g = g
+enters-so p c inside captured events seen f g = grind arith
 
 pub fits-over : (bytes : List ℕ) (last : Bool) (forest : Forest) (captured : ℕ) (tail : List Event)
     (more : List Noticed) → fits 0 captured tail more ≡ true →

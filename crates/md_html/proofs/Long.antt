@@ -99,14 +99,4 @@ module _ (code : Supplied) where
 
   -- with it a text is no shorter
   pub longer-text : (limit : ℕ) → IsRunOver code limit → IsPrintedOver code limit
-  longer-text limit long = record {
-    is = λ at document supplies flat.
-        let after : State = run at 0 (flatten document) (noticed at.bytes true document) beginning
-        in
-        omega (
-          arith,
-          long at document supplies flat,
-          laid-grows at.ending after.text
-              (section (record at { calls = after.calls }) after.footnotes),
-        );
-  }
+  longer-text limit long = grind (arith, laid-grows)

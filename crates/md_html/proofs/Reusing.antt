@@ -1,13 +1,13 @@
 -- If there are no footnote calls, only references count.
-use Rattle.std.proofs.Common.{◌≡◌, ℕ, suc, ◌+◌, true, false}
-use Rattle.std.proofs.Common.{List, [], ◌∷◌, length, refl, ap, ◌∙◌, arith}
-use Rattle.std.specs.Prelude.{◌*◌, ◌-◌, Bool, if◌then◌else◌}
+use Rattle.std.proofs.Common.{◌≡◌, ℕ, suc, ◌+◌, false}
+use Rattle.std.proofs.Common.{List, [], ◌∷◌, refl, ap, ◌∙◌, arith}
+use Rattle.std.specs.Prelude.{◌-◌, Bool, if◌then◌else◌}
 use Rattle.md_base.specs.declared.event.Event.{Event}
 use Rattle.md_base.specs.declared.event.Kind.{Kind}
 use Rattle.md_base.specs.declared.event.Kind.TheVariants.{Enter, Exit}
 use Rattle.md_base.specs.Tree.{Forest, flatten}
-use Rattle.md_html.specs.Reuse.{referred, is_call, entries, call_texts, reuse}
-use Rattle.md_html.specs.Work.{covered, covered_from}
+use Rattle.md_html.specs.Reuse.{referred, is_call, entries, reuse}
+use Rattle.md_html.specs.Work.{covered_from}
 use Rattle.md_text.specs.declared.options.CompileOptions.{CompileOptions}
 
 -- if no event enters a call, none is open
@@ -19,10 +19,7 @@ opened named kind = if named then (elim kind [ Enter ↦ suc 0 | Exit ↦ 0 - 1 
 
 no-call : (named : Bool) (kind : Kind) (later : ℕ) → entered named kind + later ≡ 0 →
     opened named kind ≡ 0
-no-call true Enter later none = omega (arith, none)
-no-call true Exit later none = refl
-no-call false Enter later none = refl
-no-call false Exit later none = refl
+no-call named kind later none = grind arith
 
 none-covered : (events : List Event) (index : ℕ) → entries is_call events ≡ 0 →
     covered_from is_call index 0 events ≡ 0
@@ -39,9 +36,4 @@ pub none-called :
     (options : CompileOptions) (bytes : List ℕ) (document : Forest) (events : List Event) →
     flatten document ≡ events → entries is_call events ≡ 0 →
     reuse options bytes document ≡ referred bytes document
-none-called options bytes document events flat none =
-    let calls : entries is_call (flatten document) ≡ 0 = ap (entries is_call) flat ∙ none in
-    let length : covered is_call (flatten document) ≡ 0 = none-covered (flatten document) 0 calls in
-    ap (λ n. referred bytes document + n * call_texts options
-    + 5 * covered is_call (flatten document)) calls
-    ∙ omega (arith, length)
+none-called options bytes document events flat none = grind (arith, none-covered)

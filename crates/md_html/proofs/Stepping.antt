@@ -1,7 +1,7 @@
 -- The facts at an event, that the events skipped after it are in the document, and the bounds of
 -- counts.
 use Rattle.std.proofs.Common.{◌≡◌, ◌≤◌, ◌<◌, ℕ, ◌+◌, Bool, true, false, Some, List, length, refl}
-use Rattle.std.proofs.Common.{ap, ◌∙◌, arith}
+use Rattle.std.proofs.Common.{arith}
 use Rattle.std.specs.Prelude.{slice_get, if◌then◌else◌}
 use Rattle.std.proofs.lemmas.Option.{slice_get_within}
 use Rattle.md_base.specs.declared.event.Event.{Event}
@@ -31,9 +31,7 @@ event_of kind name point = record { kind = kind; name = name; point = point }
 pub is-there : (events : List Event) (index : ℕ) (kind : Kind) (name : Name)
     (at : IsEventAt events index kind name) →
     slice_get events index ≡ Some (event_of kind name at.0.point)
-is-there events index kind name (event, got, same_kind, same_name) =
-    got ∙ ap (λ k. Some (event_of k event.name event.point)) same_kind
-    ∙ ap (λ n. Some (event_of kind n event.point)) same_name
+is-there events index kind name at = grind arith
 
 -- ---- the event
 

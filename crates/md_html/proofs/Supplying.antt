@@ -1,6 +1,7 @@
 -- What the code is supplied with is what the steps are given, before the definitions are known and
 -- after; then what is printed is the meaning of the document.
-use Rattle.std.proofs.Common.{◌≡◌, ◌<◌, ℕ, zero, suc, Bool, true, false, Option, Some, None, List}
+use Rattle.std.proofs.Common.{arith}
+use Rattle.std.proofs.Common.{◌≡◌, ◌<◌, ℕ, Bool, true, false, Option, Some, None, List}
 use Rattle.std.proofs.Common.{[], length, refl, sym, ap, ◌∙◌, subst}
 use Rattle.std.specs.Prelude.{slice_get, map, option_map, unwrap_or, option_and_then, if◌then◌else◌}
 use Rattle.std.specs.Option.{option_map_or}
@@ -21,9 +22,7 @@ use Rattle.md_html.specs.Printed.{IsMeant, IsPrinted, IsPrintedOver, text_of}
 use Rattle.md_html.specs.Within.{IsLonger}
 
 none-led : (place : Option ℕ) → target_at [] place ≡ nowhere
-none-led None = refl
-none-led (Some zero) = refl
-none-led (Some (suc place)) = refl
+none-led place = grind arith
 
 mapped-led : (found : List Defined) (place : Option ℕ) →
     target_at (map (λ (d : Defined). d.target) found) place

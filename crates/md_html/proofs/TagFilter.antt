@@ -1,13 +1,11 @@
 -- Where HTML is escaped the tag filter changes no meaning.
-use Rattle.std.proofs.Common.{◌≡◌, ℕ, Bool, true, false, ◌&&◌, not, zero, suc, List, [], ◌∷◌, ◌++◌}
-use Rattle.std.proofs.Common.{length, refl, ap, ◌∙◌}
+use Rattle.std.proofs.Common.{arith}
+use Rattle.std.proofs.Common.{◌≡◌, ℕ, Bool, true, false, ◌&&◌, zero, suc, List, [], ◌++◌}
+use Rattle.std.proofs.Common.{refl, ap, ◌∙◌}
 use Rattle.std.specs.Prelude.{if◌then◌else◌, ◌==◌, codes}
-use Rattle.std.specs.List.{flat_map}
 use Rattle.std.proofs.lemmas.Bool.{true≢false}
-use Rattle.std.proofs.Math.Path.{fun_ext}
 use Rattle.md_base.specs.declared.event.Name.{Name}
-use Rattle.md_base.specs.declared.event.Name.TheVariants.{BlockQuote, HtmlFlowData, HtmlTextData}
-use Rattle.md_text.specs.Encode.{encoded}
+use Rattle.md_base.specs.declared.event.Name.TheVariants.{BlockQuote}
 use Rattle.md_text.specs.Filter.{tag_filtered}
 use Rattle.md_base.specs.Tree.{Forest, Empty, Node}
 use Rattle.md_base.specs.Children.{is_empty}
@@ -18,14 +16,14 @@ use Rattle.md_meaning.specs.Meaning.Inherited.{inside, outermost}
 use Rattle.md_tree.specs.Rules.{place}
 use Rattle.md_meaning.specs.Meaning.Finds.{first_ending}
 use Rattle.md_meaning.specs.Meaning.{meaning, ending_at}
-use Rattle.md_meaning.specs.Meaning.Layout.{Piece, Text, Forced, layout, when}
+use Rattle.md_meaning.specs.Meaning.Layout.{Piece, layout}
 use Rattle.md_meaning.specs.Meaning.At.{Context, Defined, Footnote, At, Before, text_in}
 use Rattle.md_meaning.specs.Meaning.Before.{nothing_before, before_children}
 use Rattle.md_meaning.specs.Meaning.Spans.{html}
 use Rattle.md_meaning.specs.Meaning.Means.{prints}
 use Rattle.md_meaning.specs.Meaning.Nodes.{Outcome, outcome, node, both, continued, before_next}
-use Rattle.md_meaning.specs.Meaning.Footnotes.{distinct, count_of, backreference, backreferences}
-use Rattle.md_meaning.specs.Meaning.Footnotes.{place_among, item, section_start}
+use Rattle.md_meaning.specs.Meaning.Footnotes.{backreference, backreferences}
+use Rattle.md_meaning.specs.Meaning.Footnotes.{item}
 use Rattle.md_meaning.specs.Meaning.Footnotes.{section}
 
 -- the options with the tag filter on or off
@@ -54,13 +52,7 @@ means-moot : (filter : Bool) (context : Context) (at : At) →
     context.options.allow_dangerous_html ≡ false →
     (name : Name) (inner : List Piece) →
     prints (under filter context) at name inner ≡ prints context at name inner
-means-moot filter context at h HtmlFlowData inner =
-    ap (λ text. Text (encoded at.around.is_escaping text)
-    ∷ []) (html-moot filter context at h)
-means-moot filter context at h HtmlTextData inner =
-    ap (λ text. Text (encoded at.around.is_escaping text)
-    ∷ []) (html-moot filter context at h)
-means-moot filter context at h _ inner = refl
+means-moot filter context at h name inner = grind arith
 
 inside-moot : (filter : Bool) (options : CompileOptions) (loose : Bool) (name : Name)
     (around : Surroundings) →
@@ -72,9 +64,7 @@ node-moot : (filter : Bool) (context : Context) (at : At) → context.options.al
     false →
     (name : Name) (inner : Outcome) →
     node (under filter context) at name inner ≡ node context at name inner
-node-moot filter context at h name inner =
-    ap (λ ps. record (node (under filter context) at name inner) { pieces = ps })
-    (means-moot filter context at h name inner.pieces)
+node-moot filter context at h name inner = grind arith
 
 meant-moot : (filter : Bool) (context : Context) → context.options.allow_dangerous_html ≡ false →
     (around : Surroundings) (before : Before) (forest : Forest) →
@@ -120,17 +110,11 @@ ways_back-moot filter options identifier number (suc count) =
 item-moot :
     (filter : Bool) (context : Context) (footnotes : List Footnote) (identifier : List ℕ) →
     item (under filter context) footnotes identifier ≡ item context footnotes identifier
-item-moot filter context footnotes identifier =
-    rw (ways_back-moot filter context.options identifier
-    (place_among (distinct context.calls) identifier) (count_of context.calls identifier))
+item-moot filter context footnotes identifier = grind arith
 
 section-moot : (filter : Bool) (context : Context) (footnotes : List Footnote) →
     section (under filter context) footnotes ≡ section context footnotes
-section-moot filter context footnotes =
-    ap (λ (of : List ℕ → List Piece). when (not (length context.calls == 0))
-    (section_start context.options ++ (flat_map of (distinct context.calls)
-    ++ (Forced ∷ Text (codes "</ol>") ∷ Forced ∷ Text (codes "</section>") ∷ Forced ∷ []))))
-    (fun_ext (item-moot filter context footnotes))
+section-moot filter context footnotes = grind arith
 
 -- the text of what a document means
 abbrev text_by : Context → Outcome → List ℕ

@@ -52,11 +52,7 @@ module _ (at : Context) (events : List Event) (all : List Noticed) (end : ℕ) w
       Follows at events all end from index first before →
       Follows at events all end index next before after →
       Follows at events all end from next first after
-  follows-on from index next first before after earlier later = record {
-    runs = later.runs ∙ earlier.runs;
-    fits = λ f. later.fits (earlier.fits f);
-    few = λ few. later.few (earlier.few few);
-  }
+  follows-on from index next first before after earlier later = grind arith
 
 -- the events that are skipped after a step are in the document
 pub turn-within : (code : Supplied) (index : ℕ) (event : Event) (more : ℕ) (before after : State)
@@ -142,5 +138,4 @@ pub goes-through : (code : Supplied) (at : Context) (document : Forest) (from ne
     after ≡ run at 0 (window from to code.checked.now.events)
     (window from to (noticed code.checked.now.bytes true document)) before
 goes-through code at document from next to before after supplies flat le goes =
-    sym (window-end at code.checked.now.events (noticed code.checked.now.bytes true document) next
-    to after le) ∙ (goes.follows at document to supplies flat (omega arith)).runs
+    grind (arith, window-end)

@@ -31,24 +31,17 @@ module _ {A B C : Type 0} (f : List A → List B → C) (xs : List A) (ys : List
       slice_get ys i ≡ Some y →
       f (window i to xs) (window i to ys)
       ≡ f (x ∷ window (suc i) to xs) (y ∷ window (suc i) to ys)
-  windows-first x y lt got there =
-      ap (λ zs. f zs (window i to ys)) (window-first xs i to x lt got)
-      ∙ ap (λ zs. f (x ∷ window (suc i) to xs) zs) (window-first ys i to y lt there)
+  windows-first x y lt got there = grind (arith, window-first)
 
   pub windows-drop : (n next : ℕ) → next ≡ i + n →
       f (drop n (window i to xs)) (drop n (window i to ys))
       ≡ f (window next to xs) (window next to ys)
-  windows-drop n next e =
-      ap (λ zs. f zs (drop n (window i to ys))) (drop-drop n i (take to xs))
-      ∙ ap (λ zs. f (drop (i + n) (take to xs)) zs) (drop-drop n i (take to ys))
-      ∙ ap (λ m. f (window m to xs) (window m to ys)) (sym e)
+  windows-drop n next e = grind (arith, drop-drop)
 
 -- all that stands in two lists
 pub windows-all : {A B C : Type 0} (f : List A → List B → C) (xs : List A) (ys : List B) (n : ℕ) →
     n ≡ length xs → n ≡ length ys → f (window 0 n xs) (window 0 n ys) ≡ f xs ys
-windows-all f xs ys n e g =
-    ap (λ zs. f zs (window 0 n ys)) (take_all n xs (omega (arith, e)))
-    ∙ ap (λ zs. f xs zs) (take_all n ys (omega (arith, g)))
+windows-all f xs ys n e g = grind (arith, take_all)
 
 -- events that are skipped
 run-none : (context : Context) (left : ℕ) (events : List Event) (state : State) →
