@@ -1,10 +1,10 @@
 -- One more attribute in the pieces that a test picks is one more in their tokens.
 use Rattle.std.specs.Str.{bytes_eq}
-use Rattle.std.proofs.Common.{◌≡◌, ℕ, suc, Bool, true, false, not, cond, List, [], ◌∷◌, ◌++◌}
+use Rattle.std.proofs.Common.{◌≡◌, ℕ, suc, Bool, true, false, not, cond, List, [], ◌∷◌, ◌++◌, arith}
 use Rattle.std.proofs.Common.{map, filter, refl, sym, ap, ◌∙◌, subst}
 use Rattle.std.specs.List.{list_all, list_any}
 use Rattle.std.specs.Cmp.Lexicographic.{bytes_decides}
-use Rattle.std.proofs.lemmas.Bool.{and_parts, and_from, or_parts, or_from, cond_both, cond-true}
+use Rattle.std.proofs.lemmas.Bool.{and_parts, and_from, cond_both, cond-true}
 use Rattle.std.proofs.lemmas.Bool.{cond-false, false_from_ne_true}
 use Rattle.std.proofs.lemmas.List.Folds.{list_all-append, list_any-append}
 use Rattle.md_base.proofs.Lies.{lie}
@@ -18,7 +18,6 @@ use Rattle.md_page.specs.Added.{with_attribute, added}
 use Rattle.md_page.specs.Attributed.{is_addition, is_listed_beside}
 use Rattle.md_page.specs.Pieces.{Piece, Words, Opening, Single, Closing}
 use Rattle.md_page.specs.Pieces.{are_plain, is_name}
-use Rattle.md_page.proofs.Plain.{plain_attribute}
 use Rattle.md_page.proofs.Tags.{PicksBy}
 
 -- an attribute as a tokenizer sees it
@@ -86,13 +85,10 @@ pub plain-more : (x : List Attribute) (a : Attribute) → are_plain x ≡ true �
     are_plain (x ++ (a ∷ [])) ≡ true
 plain-more [] a h named escaped fresh = and_from _ _ named (and_from _ _ escaped refl)
 plain-more (b ∷ x) a h named escaped fresh =
-    let p = plain_attribute b x h in
-    let f = or_parts (bytes_eq a.name b.name) (list_any (λ b. bytes_eq a.name b.name) x) fresh in
-    let lone : list_any (λ later. bytes_eq b.name later.name) (x ++ (a ∷ [])) ≡ false =
-    list_any-append (λ later. bytes_eq b.name later.name) x (a ∷ [])
-    ∙ or_from _ _ p.2 (or_from _ _ (other-way a.name b.name f.0) refl) in
-    and_from _ _ p.0 (and_from _ _ p.1
-    (and_from _ _ (ap not lone) (plain-more x a p.3 named escaped f.1)))
+    let later = plain-more x a in
+    let other = other-way a.name b.name in
+    rw (list_any-append (λ later. bytes_eq b.name later.name) x (a ∷ []))
+    (grind (arith, later, other, h, named, escaped, fresh))
 
 -- ---- tests of tokens
 
@@ -111,8 +107,7 @@ added-all p test attribute n (t ∷ x) f h =
 -- one more attribute that passes
 pub passes-more : (q : TokenAttribute → Bool) (t : Token) (a : TokenAttribute) → q a ≡ true →
     attributes_pass q t ≡ true → attributes_pass q (with_attribute t a) ≡ true
-passes-more q (StartTag name x flag) a k h =
-    list_all-append q x (a ∷ []) ∙ and_from _ _ h (and_from _ _ k refl)
+passes-more q (StartTag name x flag) a k h = simp list_all-append (grind (arith, k, h))
 passes-more q t a k h = refl
 
 -- one more attribute that is left out

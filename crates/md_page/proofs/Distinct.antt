@@ -92,25 +92,26 @@ counted : (values : ℕ → List ℕ) (w : List ℕ) (n : ℕ) (x : List Token) 
     ≡ occurs w (ids_among x) + occurs w (values_from values n (length (headings_after n x)))
 counted values w n [] = omega arith
 counted values w n (t ∷ x) = elim (cases_Bool (gets_id t)) [
-  | inl yes_it ↦ (let later = ids_among (added gets_id (id_seen values) (suc n) x) in omega (
-    arith,
-    ap (λ y. occurs w (ids_among y)) (added-this gets_id (id_seen values) n t x yes_it)
-        ∙ ap (λ y. occurs w (y ++ later)) (new-one values n t yes_it),
-    occurs-append w (values n ∷ []) later,
-    ap (λ y. occurs w (y ++ ids_among x)) (old-none t yes_it),
-    ap (λ k. occurs w (values_from values n k)) (count-picked n t x yes_it),
-    occurs-append w (values n ∷ [])
-        (values_from values (suc n) (length (headings_after (suc n) x))),
-    counted values w (suc n) x,
-  ))
-  | inr no_it ↦ omega (
-    arith,
-    ap (λ y. occurs w (ids_among y)) (added-other gets_id (id_seen values) n t x no_it),
-    occurs-append w (ids_at t) (ids_among (added gets_id (id_seen values) n x)),
-    occurs-append w (ids_at t) (ids_among x),
-    ap (λ k. occurs w (values_from values n k)) (count-passed n t x no_it),
-    counted values w n x,
-  )
+  | inl yes_it ↦ (let later = ids_among (added gets_id (id_seen values) (suc n) x) in
+      rw (
+        added-this gets_id (id_seen values) n t x yes_it,
+        new-one values n t yes_it,
+        old-none t yes_it,
+        count-picked n t x yes_it,
+      ) (omega (
+        arith,
+        occurs-append w (values n ∷ []) later,
+        occurs-append w (values n ∷ [])
+            (values_from values (suc n) (length (headings_after (suc n) x))),
+        counted values w (suc n) x,
+      )))
+  | inr no_it ↦
+      rw (
+        added-other gets_id (id_seen values) n t x no_it,
+        count-passed n t x no_it,
+        occurs-append w (ids_at t) (ids_among (added gets_id (id_seen values) n x)),
+        occurs-append w (ids_at t) (ids_among x),
+      ) (omega (arith, counted values w n x))
 ]
 
 pub distinct-made : (values : ℕ → List ℕ) (x : List Token) →

@@ -1,5 +1,5 @@
 -- One more attribute in the tags of a forest: it is written, contained and built as before.
-use Rattle.std.proofs.Common.{◌≡◌, ℕ, suc, Bool, true, false, not, ◌&&◌, List, [], ◌∷◌, ◌++◌}
+use Rattle.std.proofs.Common.{◌≡◌, ℕ, suc, Bool, true, false, not, ◌&&◌, List, [], ◌∷◌, ◌++◌, arith}
 use Rattle.std.proofs.Common.{refl, sym, ap, ap₂, ◌∙◌, subst, inl, inr}
 use Rattle.std.specs.Prelude.{Option, Some, None}
 use Rattle.std.specs.Option.{option_map_or}
@@ -31,12 +31,8 @@ use Rattle.md_page.proofs.Rules.{IsRule, changes}
 
 plain-texts : (f : Forest) → is_plain_forest f ≡ true → has_whole_texts f ≡ true
 plain-texts Empty h = refl
-plain-texts (Text bytes rest) h =
-    let p = and3 (is_nonempty bytes) (is_escaped bytes) _ h in
-    let q = and_parts (not (begins_with_text rest)) (is_plain_forest rest) p.2 in
-    and_from _ _ (and_from _ _ (and_from _ _ p.0 p.1) q.0) (plain-texts rest q.1)
-plain-texts (Void name x rest) h =
-    plain-texts rest (and3 (is_one_of void_names name) (are_plain x) _ h).2
+plain-texts (Text bytes rest) h = let later = plain-texts rest in grind (arith, later, h)
+plain-texts (Void name x rest) h = let later = plain-texts rest in grind (arith, later, h)
 plain-texts (Element name x inner rest) h =
     let p = and_parts _ _ (and3 (is_tag_name name) (are_plain x) _ h).2 in
     and_from _ _ (plain-texts inner p.0) (plain-texts rest p.1)

@@ -1,7 +1,7 @@
 -- Where the ids of a text and those that its headings get are distinct, so are those of the text
 -- that is made.
-use Rattle.std.proofs.Common.{◌≡◌, ℕ, suc, true, false, List, [], ◌∷◌, ◌++◌, length, refl, sym, ap}
-use Rattle.std.proofs.Common.{◌∙◌, inl, inr, arith}
+use Rattle.std.proofs.Common.{◌≡◌, ℕ, suc, true, false, List, [], ◌∷◌, ◌++◌, length, refl, ap}
+use Rattle.std.proofs.Common.{inl, inr, arith}
 use Rattle.std.proofs.lemmas.Bool.{cases_Bool, cond-true, cond-false}
 use Rattle.md_text.specs.Ids.{are_distinct}
 use Rattle.md_text.proofs.HtmlIds.{occurs, occurs-append}
@@ -29,11 +29,9 @@ given-values : (ids : List (List ℕ)) (n : ℕ) (x : List Token) →
 given-values ids n [] = refl
 given-values ids n (t ∷ x) = elim (cases_Bool (gets_id t)) [
   | inl yes_it ↦
-      after-picked ids n t x yes_it ∙ ap (λ y. given ids n ∷ y) (given-values ids (suc n) x)
-      ∙ sym (ap (values_from (given ids) n) (count-picked n t x yes_it))
+      rw (after-picked ids n t x yes_it, given-values ids (suc n) x, count-picked n t x yes_it) refl
   | inr no_it ↦
-      after-passed ids n t x no_it ∙ given-values ids n x
-      ∙ sym (ap (values_from (given ids) n) (count-passed n t x no_it))
+      rw (after-passed ids n t x no_it, count-passed n t x no_it) (given-values ids n x)
 ]
 
 pub distinct-given : (ids : List (List ℕ)) (x : List Token) →

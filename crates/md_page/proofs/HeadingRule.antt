@@ -182,10 +182,4 @@ given-rule ids =
 -- an `id` as it is written piece by piece
 pub id-written : (prefix start : List ℕ) (n : ℕ) → start ≡ codes " id=\"" ++ encoded true prefix →
     start ++ (decimal (n + 1) ++ (34 ∷ [])) ≡ written_attributes (new_id prefix n ∷ [])
-id-written prefix start n e =
-    let last = decimal (n + 1) ++ (34 ∷ []) in
-    let whole : (codes " id=\"" ++ encoded true prefix) ++ last
-    ≡ codes " id=\"" ++ ((encoded true prefix ++ decimal (n + 1)) ++ (34 ∷ [])) =
-    simp append_assoc in
-    ap (λ s. s ++ last) e ∙ whole
-    ∙ ap (λ m. codes " id=\"" ++ ((encoded true prefix ++ decimal m) ++ (34 ∷ []))) (add-one n)
+id-written prefix start n e = rw (e, add-one n) (simp append_assoc)

@@ -1,5 +1,5 @@
 -- A page around a text that is built as it is written is built with that text's forest.
-use Rattle.std.proofs.Common.{◌≡◌, ℕ, true, false, List, [], ◌∷◌, ◌++◌, map, refl, sym, ap, ◌∙◌}
+use Rattle.std.proofs.Common.{◌≡◌, ℕ, true, List, [], ◌∷◌, ◌++◌, map, refl, ap}
 use Rattle.std.proofs.Common.{subst}
 use Rattle.std.proofs.Common.{append_assoc, codes}
 use Rattle.std.specs.List.{list_all}
@@ -8,7 +8,7 @@ use Rattle.md_text.specs.Html.{Forest, Empty, Text, Void, Element}
 use Rattle.md_text.proofs.EncodeLaws.{is_escaped-encoded}
 use Rattle.md_safe.specs.Token.{Token, Doctype, Character, StartTag, EndTag, EndOfFile}
 use Rattle.md_safe.specs.Tokenizer.{IsTokenized}
-use Rattle.md_safe.specs.Tokens.{tokens, seen, seen_attributes}
+use Rattle.md_safe.specs.Tokens.{tokens, seen}
 use Rattle.md_safe.specs.PageTokens.{charset, page_text, plain_tag}
 use Rattle.md_safe.specs.Node.{InBody}
 use Rattle.md_safe.specs.Node.{Empty as NoNode}
@@ -27,19 +27,14 @@ on-forest : (f : Forest) (x after : List Token) →
     going_on (tokens f ++ x) after ≡ tokens f ++ going_on x after
 on-forest Empty x after = refl
 on-forest (Text bytes rest) x after =
-    let first = map Character (seen bytes) in
-    ap (λ y. going_on y after) (append_assoc first (tokens rest) x)
-    ∙ characters-on (seen bytes) (tokens rest ++ x) after
-    ∙ ap (λ y. first ++ y) (on-forest rest x after)
-    ∙ sym (append_assoc first (tokens rest) (going_on x after))
-on-forest (Void name attributes rest) x after =
-    ap (λ y. StartTag name (seen_attributes attributes) true ∷ y) (on-forest rest x after)
+    simp (append_assoc, characters-on (seen bytes) (tokens rest ++ x) after, on-forest rest x after)
+on-forest (Void name attributes rest) x after = rw (on-forest rest x after) refl
 on-forest (Element name attributes inner rest) x after =
-    ap (λ y. StartTag name (seen_attributes attributes) false ∷ y)
-    (ap (λ y. going_on y after) (append_assoc (tokens inner) (EndTag name ∷ tokens rest) x)
-    ∙ on-forest inner (EndTag name ∷ (tokens rest ++ x)) after
-    ∙ ap (λ y. tokens inner ++ (EndTag name ∷ y)) (on-forest rest x after)
-    ∙ sym (append_assoc (tokens inner) (EndTag name ∷ tokens rest) (going_on x after)))
+    simp (
+      append_assoc,
+      on-forest inner (EndTag name ∷ (tokens rest ++ x)) after,
+      on-forest rest x after,
+    )
 
 -- a page whose body has these tokens, and what follows them
 abbrev around_body : List ℕ → List Token → List Token

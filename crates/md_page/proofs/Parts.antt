@@ -5,7 +5,7 @@ use Rattle.std.proofs.Common.{cond, List, [], ◌∷◌, ◌++◌, length, get_o
 use Rattle.std.proofs.Common.{◌∙◌, Option, Some, None, option_map, arith}
 use Rattle.std.proofs.Common.{append_assoc}
 use Rattle.std.specs.List.{list_all}
-use Rattle.std.proofs.lemmas.Bool.{and_parts, and_from, not-true, eqb-true}
+use Rattle.std.proofs.lemmas.Bool.{and_parts, and_from, not-true, eqb-true, cond_both}
 use Rattle.std.proofs.lemmas.Bool.{cond-true, false_from_ne_true}
 use Rattle.std.proofs.lemmas.List.{take-append-drop, drop_more, length-take, length-drop}
 use Rattle.std.proofs.lemmas.List.{get_or-take, take_rest}
@@ -30,13 +30,12 @@ is_filled (part ∷ more) = true
 
 pub parts-filled : (x : List ℕ) → is_filled (parts_of x) ≡ true
 parts-filled [] = refl
-parts-filled (b ∷ x) = by (b == 34) (parts_of x)
+parts-filled (b ∷ x) =
+    cond_both (b == 34) _ _ (λ y. is_filled y ≡ true) (λ _. refl) (λ _. on b (parts_of x))
   where
-    by : (c : Bool) (parts : List (List ℕ)) →
-        is_filled (cond c ([] ∷ parts) (onto_first b parts)) ≡ true
-    by true parts = refl
-    by false [] = refl
-    by false (part ∷ more) = refl
+    on : (b : ℕ) (parts : List (List ℕ)) → is_filled (onto_first b parts) ≡ true
+    on b [] = refl
+    on b (part ∷ more) = refl
 
 -- up to a `"`
 pub parts-run : (x r : List ℕ) → list_all (differs 34) x ≡ true →
