@@ -93,25 +93,18 @@ counted : (values : ℕ → List ℕ) (w : List ℕ) (n : ℕ) (x : List Token) 
 counted values w n [] = omega arith
 counted values w n (t ∷ x) = elim (cases_Bool (gets_id t)) [
   | inl yes_it ↦ (let later = ids_among (added gets_id (id_seen values) (suc n) x) in
-      rw (
-        added-this gets_id (id_seen values) n t x yes_it,
-        new-one values n t yes_it,
-        old-none t yes_it,
-        count-picked n t x yes_it,
-      ) (omega (
+      rw (added-this gets_id (id_seen values) n t x yes_it, new-one values n t yes_it)
+      (rw (old-none t yes_it, count-picked n t x yes_it) (omega (
         arith,
         occurs-append w (values n ∷ []) later,
         occurs-append w (values n ∷ [])
             (values_from values (suc n) (length (headings_after (suc n) x))),
         counted values w (suc n) x,
-      )))
+      ))))
   | inr no_it ↦
-      rw (
-        added-other gets_id (id_seen values) n t x no_it,
-        count-passed n t x no_it,
-        occurs-append w (ids_at t) (ids_among (added gets_id (id_seen values) n x)),
-        occurs-append w (ids_at t) (ids_among x),
-      ) (omega (arith, counted values w n x))
+      rw (added-other gets_id (id_seen values) n t x no_it, count-passed n t x no_it)
+      (rw (occurs-append w (ids_at t) (ids_among (added gets_id (id_seen values) n x)))
+      (rw (occurs-append w (ids_at t) (ids_among x)) (omega (arith, counted values w n x))))
 ]
 
 pub distinct-made : (values : ℕ → List ℕ) (x : List Token) →
@@ -136,8 +129,8 @@ unbegun : (prefix w : List ℕ) (n k : ℕ) → starts_with nat_eq w prefix ≡ 
     occurs w (values_from (numbered prefix) n k) ≡ 0
 unbegun prefix w n zero h = refl
 unbegun prefix w n (suc k) h =
-    occurs-other w (numbered prefix n) _ (λ e. lie (sym h ∙ ap (λ y. starts_with nat_eq y prefix)
-    (sym e) ∙ begins-itself prefix (decimal (suc n)))) ∙ unbegun prefix w (suc n) k h
+    occurs-other w (numbered prefix n) _ (λ e. lie (sym (rw (← e) at h)
+    ∙ begins-itself prefix (decimal (suc n)))) ∙ unbegun prefix w (suc n) k h
 
 -- a text that begins with the prefix isn't among texts that don't
 begun : (prefix w : List ℕ) (xs : List (List ℕ)) → starts_with nat_eq w prefix ≡ true →
@@ -145,8 +138,7 @@ begun : (prefix w : List ℕ) (xs : List (List ℕ)) → starts_with nat_eq w pr
 begun prefix w [] h none = refl
 begun prefix w (x ∷ xs) h none =
     let p = and_parts (not (starts_with nat_eq x prefix)) (none_begins prefix xs) none in
-    occurs-other w x xs (λ e. lie (sym (not-true _ p.0) ∙ ap (λ y. starts_with nat_eq y prefix) e
-    ∙ h)) ∙ begun prefix w xs h p.1
+    occurs-other w x xs (λ e. lie (sym (not-true _ p.0) ∙ rw (← e) at h)) ∙ begun prefix w xs h p.1
 
 -- a number that was given before isn't given again
 none-later : (prefix : List ℕ) (m n k : ℕ) → m < n → n + k < 2 ^ 64 →

@@ -22,14 +22,8 @@ into : (picks : List ℕ → Bool) (add : ℕ → List ℕ) (n : ℕ) (text : Li
     scanned picks add false n text
     ≡ take (at + 1) text ++ scanned picks add true n (drop (at + 1) text)
 into picks add n text at h =
-    rw (
-      clear-scanned picks add n at text h.before,
-      drop-at text at h.within h.angle,
-      h.picked,
-      add-one at,
-      take-at text at h.within h.angle,
-      append_assoc,
-    ) refl
+    rw (clear-scanned picks add n at text h.before, drop-at text at h.within h.angle, h.picked)
+    (rw (add-one at, take-at text at h.within h.angle, append_assoc) refl)
 
 -- to the end of a tag that is picked
 to_end : (picks : List ℕ → Bool) (add : ℕ → List ℕ) (n : ℕ) (text : List ℕ) (at end : ℕ) →
@@ -39,13 +33,8 @@ to_end : (picks : List ℕ → Bool) (add : ℕ → List ℕ) (n : ℕ) (text : 
 to_end picks add n text at end h =
     let tag = drop at text in
     let inside = scanned-inside picks add n (take end tag) (drop (end + 1) tag) h.before in
-    rw (
-      rw (← around 62 tag end h) at inside,
-      take-add at end text,
-      ← drop-drop end at text,
-      drop_more tag end 0 h.within,
-      h.is,
-    ) (simp append_assoc)
+    rw (rw (← around 62 tag end h) at inside, take-add at end text, ← drop-drop end at text)
+    (rw (drop_more tag end 0 h.within, h.is) (simp append_assoc))
 
 -- up to the end of the first tag that is picked
 pub picked : (picks : List ℕ → Bool) (add : ℕ → List ℕ) (n : ℕ) (text : List ℕ) (at end : ℕ) →

@@ -9,7 +9,7 @@ use Rattle.md_text.specs.Bytes.{is_one_of}
 use Rattle.md_text.specs.References.{is_escaped}
 use Rattle.md_text.specs.Html.{Attribute, Forest, Empty, Text, Void, Element, begins_with_text}
 use Rattle.md_text.specs.Html.{written}
-use Rattle.md_safe.specs.Token.{Token, TokenAttribute, StartTag, EndOfFile}
+use Rattle.md_safe.specs.Token.{Token, TokenAttribute, StartTag}
 use Rattle.md_safe.specs.Tokenizer.{IsTokenized}
 use Rattle.md_safe.specs.Tokens.{tokens, seen_attributes}
 use Rattle.md_safe.specs.Contents.{Content, Flow, held_in, voids_in, may_say, is_contained}
@@ -135,9 +135,8 @@ built-so f text h e c = record {
   plain = h;
   written_so = e;
   contained = c;
-  tokenized = subst (λ t. IsTokenized t (tokens f ++ (EndOfFile ∷ []))) (whole-written f ∙ e)
-      (subst (IsTokenized (all_written (pieces_of f []))) (pieces-tokens f [])
-      (pieces-run (pieces_of f []) (plain-sound f [] h refl refl)));
+  tokenized = rw (← e, ← whole-written f, ← pieces-tokens f [])
+      (pieces-run (pieces_of f []) (plain-sound f [] h refl refl));
   builds = forest-built f (plain-texts f h) c;
 }
 

@@ -7,7 +7,7 @@ use Rattle.md_base.proofs.Lies.{lie}
 use Rattle.md_text.specs.Bytes.{is_one_of}
 use Rattle.md_text.specs.Html.{Forest, Empty, Text, Void, Element, is_forest, is_tag}
 use Rattle.md_text.specs.Html.{begins_with_text, elements, void_tags, written}
-use Rattle.md_text.specs.Html.{HasOneReadingWith, all_attributes}
+use Rattle.md_text.specs.Html.{HasOneReadingWith}
 use Rattle.md_text.specs.Safe.{is_safe_link, is_safe_image}
 use Rattle.md_safe.specs.Token.{Token, StartTag, EndOfFile, TokenAttribute}
 use Rattle.md_safe.specs.Tokens.{tokens, is_listed, is_tag_of}
@@ -37,11 +37,8 @@ pieces-written Empty more = refl
 pieces-written (Text bytes rest) more = simp (pieces-written rest more, append_assoc)
 pieces-written (Void name x rest) more = simp (pieces-written rest more, append_assoc)
 pieces-written (Element name x inner rest) more =
-    simp (
-      pieces-written inner (Closing name ∷ pieces_of rest more),
-      pieces-written rest more,
-      append_assoc,
-    )
+    rw (pieces-written inner (Closing name ∷ pieces_of rest more), pieces-written rest more)
+    (simp append_assoc)
 
 pub pieces-tokens : (f : Forest) (more : List Piece) →
     all_tokens (pieces_of f more) ≡ tokens f ++ all_tokens more
@@ -49,11 +46,8 @@ pieces-tokens Empty more = refl
 pieces-tokens (Text bytes rest) more = simp (pieces-tokens rest more, append_assoc)
 pieces-tokens (Void name x rest) more = rw (pieces-tokens rest more) refl
 pieces-tokens (Element name x inner rest) more =
-    simp (
-      pieces-tokens inner (Closing name ∷ pieces_of rest more),
-      pieces-tokens rest more,
-      append_assoc,
-    )
+    rw (pieces-tokens inner (Closing name ∷ pieces_of rest more), pieces-tokens rest more)
+    (simp append_assoc)
 
 -- no text follows a text
 pub alone : (f : Forest) (more : List Piece) → not (begins_with_text f) ≡ true →
@@ -144,6 +138,5 @@ written-safe text links images =
       safe_images =
           forest-passes has_safe_images f refl
           (all-tokens has_safe_images is_safe_image images-pass f h
-          (subst (λ f. all_attributes is_safe_image f ≡ true)
-          (sym (images.only f links.reading)) images.passes));
+          (rw (images.only f links.reading) images.passes));
     }

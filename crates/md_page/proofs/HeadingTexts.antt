@@ -68,13 +68,8 @@ pub text-run : (digit : ℕ) (x r : List ℕ) → list_all (differs 60) x ≡ tr
 text-run digit [] r h n = refl
 text-run digit (b ∷ x) r h n =
     let p = and_parts (differs 60 b) (list_all (differs 60) x) h in
-    rw (
-      not-true (b == 60) p.0,
-      lined-append b x r n,
-      text-run digit x r p.1 n,
-      lined-step b x,
-      append_assoc,
-    ) refl
+    rw (not-true (b == 60) p.0, lined-append b x r n, text-run digit x r p.1 n, lined-step b x)
+    (rw append_assoc refl)
 
 pub past-run : (x r : List ℕ) → list_all (differs 62) x ≡ true → past_angle (x ++ (62 ∷ r)) ≡ r
 past-run [] r h = refl
@@ -140,12 +135,8 @@ passed : (digit : ℕ) (tag : Piece) (more : List Piece) → is_sound_tag tag �
     closes_heading digit (inside tag ++ (62 ∷ all_written more)) ≡ false →
     text_before digit false (all_written (tag ∷ more)) ≡ text_before digit false (all_written more)
 passed digit tag more sound on =
-    rw (
-      tag-written tag more sound,
-      on,
-      text-inside digit (inside tag ++ (62 ∷ all_written more)),
-      past-run (inside tag) (all_written more) (tag-differs 62 tag closes sound),
-    ) refl
+    rw (tag-written tag more sound, on, text-inside digit (inside tag ++ (62 ∷ all_written more)))
+    (rw (past-run (inside tag) (all_written more) (tag-differs 62 tag closes sound)) refl)
 
 pub text-pieces : (digit : ℕ) (x : List Piece) → is_name_byte digit ≡ true → are_sound x ≡ true →
     text_before digit false (all_written x)
@@ -154,14 +145,11 @@ text-pieces digit [] d h = refl
 text-pieces digit (Words text ∷ more) d h =
     let q = and3 (is_escaped text) _ (are_sound more) h in
     let name = 104 ∷ digit ∷ [] in
-    rw (
-      text-run digit text (all_written more) (escaped-differs 60 text opens.escaped q.0)
-          (after_text more q.1),
-      text-pieces digit more d q.2,
-      characters-run name (seen text) (all_tokens more),
-      encoded-append true (seen text) (characters_before name (all_tokens more)),
-      encoded-seen text q.0,
-    ) refl
+    rw (text-run digit text (all_written more) (escaped-differs 60 text opens.escaped q.0)
+    (after_text more q.1))
+    (rw (text-pieces digit more d q.2, characters-run name (seen text) (all_tokens more))
+    (rw (encoded-append true (seen text) (characters_before name (all_tokens more)))
+    (rw (encoded-seen text q.0) refl)))
 text-pieces digit (Opening name x ∷ more) d h =
     let q = and3 (is_tag_name name) (are_plain x) (are_sound more) h in
     passed digit (Opening name x) more (and_from _ _ q.0 q.1)

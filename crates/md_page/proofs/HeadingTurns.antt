@@ -62,18 +62,8 @@ pub heading-turn : (n at : ℕ) (found : List Listed) (rest : List ℕ) {m k : �
     tag ≡ drop (at + 1) rest → found' ≡ found ++ (scanned_heading k tag ∷ []) →
     found ++ scanned_headings n rest ≡ whole → found' ++ scanned_headings m tag ≡ whole
 heading-turn n at found rest h next number is more all =
-    rw (
-      more,
-      ← all,
-      next,
-      number,
-      is,
-      add-one n,
-      add-one at,
-      clear-headings n at rest h.before,
-      drop-at rest at h.within h.angle,
-      h.picked,
-    ) (simp append_assoc)
+    rw (more, ← all, next, number, is, add-one n, add-one at, clear-headings n at rest h.before)
+    (rw (drop-at rest at h.within h.angle, h.picked) (simp append_assoc))
 
 -- no heading is left
 pub headings-all : (n : ℕ) (x : List ℕ) → clear picks_heading (length x) x ≡ true →

@@ -68,14 +68,11 @@ value_of-found key (a ∷ x) h =
     let front : list_all (differs 34) (framed a.name) ≡ true =
     all-join (differs 34) a.name (61 ∷ [])
     (name-differs 34 a.name refl (and_parts _ (list_all is_name_byte a.name) p.0).1) refl in
-    rw (
-      ← append_assoc a.name (61 ∷ []) (34 ∷ (a.value ++ (34 ∷ later))),
-      parts-run (framed a.name) (a.value ++ (34 ∷ later)) front,
-      parts-run a.value later (escaped-differs 34 a.value (λ rest. refl) p.1),
-      value_in-step (framed key) (framed a.name) a.value (parts_of later) (parts-filled later),
-      framed-eq key a.name,
-      value_of-found key x p.3,
-    ) refl
+    rw (← append_assoc a.name (61 ∷ []) (34 ∷ (a.value ++ (34 ∷ later))))
+    (rw (parts-run (framed a.name) (a.value ++ (34 ∷ later)) front)
+    (rw (parts-run a.value later (escaped-differs 34 a.value (λ rest. refl) p.1))
+    (rw (value_in-step (framed key) (framed a.name) a.value (parts_of later) (parts-filled later))
+    (rw (framed-eq key a.name, value_of-found key x p.3) refl))))
 
 -- there is none exactly if no attribute has the name
 pub none-found : (key : List ℕ) (x : List Attribute) →
@@ -141,12 +138,8 @@ wants : (x : List Attribute) → are_plain x ≡ true → want_rel (written_attr
     ≡ (list_any leads_away (seen_attributes x)
     && not (has_attribute (codes "rel") (seen_attributes x)))
 wants x h =
-    rw (
-      value_of-found (codes "href") x h,
-      value_of-found (codes "rel") x h,
-      found-away x h,
-      none-found (codes "rel") x,
-    ) refl
+    rw (value_of-found (codes "href") x h, value_of-found (codes "rel") x h, found-away x h)
+    (rw (none-found (codes "rel") x) refl)
 
 -- an `a`
 picks-a : (x : List Attribute) (r : List ℕ) → are_plain x ≡ true →

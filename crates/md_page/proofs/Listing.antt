@@ -68,11 +68,8 @@ unpicked : (n : ℕ) (tag : Piece) (more : List Piece) → is_sound_tag tag ≡ 
     picks_heading (inside tag ++ (62 ∷ all_written more)) ≡ false →
     scanned_headings n (all_written (tag ∷ more)) ≡ scanned_headings n (all_written more)
 unpicked n tag more sound e =
-    rw (
-      tag-written tag more sound,
-      e,
-      headings-run n (inside tag) (62 ∷ all_written more) (tag-differs 60 tag opens sound),
-    ) refl
+    rw (tag-written tag more sound, e)
+    (rw (headings-run n (inside tag) (62 ∷ all_written more) (tag-differs 60 tag opens sound)) refl)
 
 pub headings-pieces : (n : ℕ) (x : List Piece) → are_sound x ≡ true →
     scanned_headings n (all_written x) ≡ headings_after n (all_tokens x)

@@ -77,10 +77,7 @@ pub numbered-seen : (prefix : List ℕ) (n : ℕ) →
 numbered-seen prefix n =
     let h = decimal-itself n in
     let digits = decimal n in
-    rw (
-      seen-is (encoded true prefix ++ digits) (numbered-escaped prefix n),
-      read_back-before prefix digits,
-      itself-back digits h,
-      line_feeds-append (encoded false prefix) digits (itself-begins digits h),
-      simp append-nil at (line_feeds-name digits [] (itself-returns digits h)),
-    ) refl
+    rw (seen-is (encoded true prefix ++ digits) (numbered-escaped prefix n))
+    (rw (read_back-before prefix digits, itself-back digits h)
+    (rw (line_feeds-append (encoded false prefix) digits (itself-begins digits h))
+    (rw (simp append-nil at (line_feeds-name digits [] (itself-returns digits h))) refl)))

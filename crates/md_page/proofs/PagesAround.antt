@@ -2,7 +2,6 @@
 use Rattle.std.proofs.Common.{◌≡◌, ℕ, true, List, [], ◌∷◌, ◌++◌, map, refl, ap}
 use Rattle.std.proofs.Common.{subst}
 use Rattle.std.proofs.Common.{append_assoc, codes}
-use Rattle.std.specs.List.{list_all}
 use Rattle.md_text.specs.Encode.{encoded}
 use Rattle.md_text.specs.Html.{Forest, Empty, Text, Void, Element}
 use Rattle.md_text.proofs.EncodeLaws.{is_escaped-encoded}
@@ -13,7 +12,7 @@ use Rattle.md_safe.specs.PageTokens.{charset, page_text, plain_tag}
 use Rattle.md_safe.specs.Node.{InBody}
 use Rattle.md_safe.specs.Node.{Empty as NoNode}
 use Rattle.md_safe.proofs.Pages.{body-place, page-built, body_at, root_at}
-use Rattle.md_safe.proofs.TreeSteps.{is_character, seen-characters}
+use Rattle.md_safe.proofs.TreeSteps.{seen-characters}
 use Rattle.md_page.specs.Added.{shown}
 use Rattle.md_page.specs.Built.{IsBuiltAsWritten, IsBuiltPageAround}
 use Rattle.md_page.specs.PageAround.{going_on, after_body}
@@ -30,11 +29,9 @@ on-forest (Text bytes rest) x after =
     simp (append_assoc, characters-on (seen bytes) (tokens rest ++ x) after, on-forest rest x after)
 on-forest (Void name attributes rest) x after = rw (on-forest rest x after) refl
 on-forest (Element name attributes inner rest) x after =
-    simp (
-      append_assoc,
-      on-forest inner (EndTag name ∷ (tokens rest ++ x)) after,
-      on-forest rest x after,
-    )
+    rw (append_assoc (tokens inner) (EndTag name ∷ tokens rest) x)
+    (rw (on-forest inner (EndTag name ∷ (tokens rest ++ x)) after, on-forest rest x after)
+    (simp append_assoc))
 
 -- a page whose body has these tokens, and what follows them
 abbrev around_body : List ℕ → List Token → List Token
@@ -56,8 +53,7 @@ page-around-built title body w b =
           (ap (around_body (shown title)) (on-forest f (EndOfFile ∷ []) after_body))
           (page-emitted title body w (tokens f ++ (EndOfFile ∷ [])) b.tokenized).tokenized;
       built = page-built (shown title) f
-          (subst (λ t. list_all is_character t ≡ true) (seen-encoded title)
-          (seen-characters escaped (is_escaped-encoded title)))
+          (rw (← seen-encoded title) (seen-characters escaped (is_escaped-encoded title)))
           (b.builds InBody (body_at NoNode) (root_at (shown title) ∷ []) [] 5
           (body-place (shown title)));
     }

@@ -3,7 +3,6 @@ use Rattle.std.specs.Str.{bytes_eq}
 use Rattle.std.proofs.Common.{◌≡◌, ℕ, suc, MatchOption, ◌<◌, ◌+◌, ◌-◌, ◌==◌, Bool, true, false, not}
 use Rattle.std.proofs.Common.{cond, List, [], ◌∷◌, ◌++◌, length, get_or, take, drop, refl, sym, ap}
 use Rattle.std.proofs.Common.{◌∙◌, Option, Some, None, option_map, arith}
-use Rattle.std.proofs.Common.{append_assoc}
 use Rattle.std.specs.List.{list_all}
 use Rattle.std.proofs.lemmas.Bool.{and_parts, and_from, not-true, eqb-true, cond_both}
 use Rattle.std.proofs.lemmas.Bool.{cond-true, false_from_ne_true}
@@ -14,13 +13,6 @@ use Rattle.md_base.proofs.Lies.{lie}
 use Rattle.md_safe.proofs.Steps.{past}
 use Rattle.md_page.specs.Scan.{differs, IsFirstOf, before_angle, parts_of, onto_first, value_in}
 use Rattle.md_page.specs.Scan.{value_of}
-
--- what is written, and after it the result for the rest, stays the whole
-pub written-on : {A : Type 0} (out front later : List A) {out' all whole : List A} →
-    out' ≡ out ++ front → all ≡ front ++ later → out ++ all ≡ whole → out' ++ later ≡ whole
-written-on out front later first scan before =
-    ap (λ y. y ++ later) first ∙ append_assoc out front later ∙ ap (λ y. out ++ y) (sym scan)
-    ∙ before
 
 -- ---- the parts of attributes
 

@@ -47,11 +47,9 @@ tag-line_feeds : (name : List ℕ) (x : List Attribute) (ends more r : List ℕ)
     name ++ attributes_before (lined x) (with_line_feeds (ends ++ (more ++ r)))
     ≡ with_line_feeds ((name ++ (written_attributes x ++ (ends ++ more))) ++ r)
 tag-line_feeds name x ends more r g h =
-    rw (
-      ← line_feeds-attributes x (ends ++ (more ++ r)) h,
-      ← good-line_feeds name (attributes_before x (ends ++ (more ++ r))) g,
-      ← written_attributes-before x (ends ++ (more ++ r)),
-    ) (simp append_assoc)
+    rw (← line_feeds-attributes x (ends ++ (more ++ r)) h)
+    (rw (← good-line_feeds name (attributes_before x (ends ++ (more ++ r))) g)
+    (rw (← written_attributes-before x (ends ++ (more ++ r))) (simp append_assoc)))
 
 pub pieces-before : (x : List Piece) (r : List ℕ) (t : List Token) → are_sound x ≡ true →
     begins_with_line_feed r ≡ false → IsTokenized r t →

@@ -30,12 +30,6 @@ scanned-run picks add n (b ∷ x) r h =
     let p = and_parts (differs 60 b) (list_all (differs 60) x) h in
     rw (not-true (b == 60) p.0, scanned-run picks add n x r p.1) refl
 
--- a `<` before what is picked
-pub scanned-picked : (picks : List ℕ → Bool) (add : ℕ → List ℕ) (n : ℕ) (rest : List ℕ) →
-    picks rest ≡ true →
-    scanned picks add false n (60 ∷ rest) ≡ 60 ∷ scanned picks add true n rest
-scanned-picked picks add n rest e = ap (λ t. 60 ∷ scanned picks add t n rest) e
-
 -- inside a tag that is picked
 pub scanned-inside : (picks : List ℕ → Bool) (add : ℕ → List ℕ) (n : ℕ) (x r : List ℕ) →
     list_all (differs 62) x ≡ true →
@@ -44,7 +38,7 @@ pub scanned-inside : (picks : List ℕ → Bool) (add : ℕ → List ℕ) (n : �
 scanned-inside picks add n [] r h = refl
 scanned-inside picks add n (b ∷ x) r h =
     let p = and_parts (differs 62 b) (list_all (differs 62) x) h in
-    past _ (not-true (b == 62) p.0) (ap (λ y. b ∷ y) (scanned-inside picks add n x r p.1))
+    rw (not-true (b == 62) p.0, scanned-inside picks add n x r p.1) refl
 
 pub scanned-unclosed : (picks : List ℕ → Bool) (add : ℕ → List ℕ) (n : ℕ) (x : List ℕ) →
     list_all (differs 62) x ≡ true → scanned picks add true n x ≡ x
@@ -83,23 +77,15 @@ kept : {picks : List ℕ → Bool} {test : Token → Bool} {new : ℕ → Attrib
     test (token_of tag) ≡ false → AreChanged picks test new n more y →
     AreChanged picks test new n (tag ∷ more) (tag ∷ y)
 kept {picks} {test} {new} {n} {more} {y} by tag sound fails r = record {
-  tokens = rw (
-    tag-tokens tag y sound,
-    r.tokens,
-    tag-tokens tag more sound,
-    added-other test (seen_new new) n (token_of tag) (all_tokens more) fails,
-  ) refl;
+  tokens = rw (tag-tokens tag y sound, r.tokens, tag-tokens tag more sound)
+      (rw (added-other test (seen_new new) n (token_of tag) (all_tokens more) fails) refl);
   sound = tag-sound tag y sound r.sound;
   words = words tag;
-  written = rw (
-    tag-written tag more sound,
-    tag-written tag y sound,
-    picks-tag by tag (all_written more) sound,
-    fails,
-    scanned-run picks (inserted new) n (inside tag) (62 ∷ all_written more)
-        (tag-differs 60 tag opens sound),
-    r.written,
-  ) refl;
+  written = rw (tag-written tag more sound, tag-written tag y sound)
+      (rw (picks-tag by tag (all_written more) sound, fails)
+      (rw (scanned-run picks (inserted new) n (inside tag) (62 ∷ all_written more)
+      (tag-differs 60 tag opens sound))
+      (rw r.written refl)));
 }
   where
     words : (tag : Piece) → begins_with_words (tag ∷ y) ≡ begins_with_words (tag ∷ more)
@@ -123,16 +109,11 @@ grown {picks} {test} {new} {n} {more} {y} by may name x named plain passes r =
           (plain-more x (new n) plain (may.named n) (may.escaped n) (may.fresh n name x passes))
           r.sound);
       words = refl;
-      written = rw (
-        ← append_assoc name (written_attributes x) (62 ∷ all_written more),
-        picks-tag by tag (all_written more) sound,
-        passes,
-        scanned-inside picks (inserted new) n (inside tag) (all_written more)
-            (tag-differs 62 tag closes sound),
-        r.written,
-        grown-written name x (new n) (all_written y),
-      )
-          refl;
+      written = rw (← append_assoc name (written_attributes x) (62 ∷ all_written more))
+          (rw (picks-tag by tag (all_written more) sound, passes)
+          (rw (scanned-inside picks (inserted new) n (inside tag) (all_written more)
+          (tag-differs 62 tag closes sound))
+          (rw (r.written, grown-written name x (new n) (all_written y)) refl)));
     }
 
 pub changed-pieces : {picks : List ℕ → Bool} {test : Token → Bool} {new : ℕ → Attribute} →

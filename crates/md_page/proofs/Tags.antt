@@ -73,13 +73,13 @@ pub picks-tag : {picks : List ℕ → Bool} {test : Token → Bool} → PicksBy 
     (tag : Piece) (r : List ℕ) → is_sound_tag tag ≡ true →
     picks (inside tag ++ (62 ∷ r)) ≡ test (token_of tag)
 picks-tag by (Words text) r h = lie h
-picks-tag {picks = picks} by (Opening name x) r h =
+picks-tag by (Opening name x) r h =
     let p = and_parts (is_tag_name name) (are_plain x) h in
-    ap picks (append_assoc name (written_attributes x) (62 ∷ r)) ∙ by.elements name x r p.0 p.1
-picks-tag {picks = picks} by (Single name x) r h =
+    rw (append_assoc name (written_attributes x) (62 ∷ r)) (by.elements name x r p.0 p.1)
+picks-tag by (Single name x) r h =
     let void = (and_parts (is_one_of void_names name) (are_plain x) h).0 in
-    ap picks (append_assoc name (written_attributes x ++ (32 ∷ 47 ∷ [])) (62 ∷ r))
-    ∙ by.voids name _ void ∙ sym (by.void_tokens name (seen_attributes x) void)
+    rw (append_assoc name (written_attributes x ++ (32 ∷ 47 ∷ [])) (62 ∷ r))
+    (rw (by.voids name _ void, by.void_tokens name (seen_attributes x) void) refl)
 picks-tag by (Closing name) r h = by.ends (name ++ (62 ∷ r)) ∙ sym (by.end_tokens name)
 
 -- ---- bytes that aren't in tags

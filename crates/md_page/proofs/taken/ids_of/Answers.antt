@@ -7,13 +7,10 @@ use Rattle.md_page.proofs.taken.ids_of.Goals as goal
 pub returns-in_default-split_at_byte : goal.returns-in_default-split_at_byte
 returns-in_default-split_at_byte c =
     let parts = c.in-Some.ensures.parts in
-    rw (
-      ← c.loop-before.invariant.0,
-      parts.0,
-      parts-run c.in-Some.before.now c.in-Some.after.now parts.1,
-      parts-none c.in-Some.after.now c.in_default-split_at_byte.ensures.parts,
-    )
-    (sym (append-nil (map string_bytes c.loop-before.found.items)))
+    rw (← c.loop-before.invariant.0, parts.0)
+    (rw (parts-run c.in-Some.before.now c.in-Some.after.now parts.1)
+    (rw (parts-none c.in-Some.after.now c.in_default-split_at_byte.ensures.parts)
+    (sym (append-nil (map string_bytes c.loop-before.found.items)))))
 
 pub loop-before-preserved : goal.loop-before-preserved
 loop-before-preserved c =
@@ -27,8 +24,5 @@ loop-before-preserved c =
 
 pub returns : goal.returns
 returns c =
-    rw (
-      ← c.loop-before.invariant.0,
-      parts-none c.loop-before.rest.now c.in_default.ensures.parts,
-    )
+    rw (← c.loop-before.invariant.0, parts-none c.loop-before.rest.now c.in_default.ensures.parts)
     (sym (append-nil (map string_bytes c.loop-before.found.items)))
