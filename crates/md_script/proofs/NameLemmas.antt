@@ -45,8 +45,7 @@ none_long (entry ∷ table) size all long =
     let least = leb-true (length entry.0) 35 parts.0 in
     let other : is_long size entry ≡ false =
     ne_eqb (length entry.0) size (λ e. omega (arith, least, long, e)) in
-    ap (λ t. cond t (entry ∷ filter (is_long size) table) (filter (is_long size) table)) other
-    ∙ none_long table size parts.1 long
+    rw other (none_long table size parts.1 long)
 
 pub unlisted_long : (text : List ℕ) → 36 ≤ length text → listed event_names text ≡ None
 unlisted_long text long =

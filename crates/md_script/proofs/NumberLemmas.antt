@@ -35,9 +35,7 @@ push_digits : (digits : List ℕ) (c : ℕ) → all_ascii_digits digits ≡ true
     all_ascii_digits (digits ++ c ∷ []) ≡ true
 push_digits [] c all digit = and_from (is_ascii_digit c) true digit refl
 push_digits (d ∷ digits) c all digit =
-    let parts = and_parts (is_ascii_digit d) (all_ascii_digits digits) all in
-    and_from (is_ascii_digit d) (all_ascii_digits (digits ++ c ∷ [])) parts.0
-    (push_digits digits c parts.1 digit)
+    let more = push_digits digits c in grind (arith, more, all, digit)
 
 pub digits_more : (digits : List ℕ) (i : ℕ) → i < length digits →
     all_ascii_digits (take i digits) ≡ true →
