@@ -10,14 +10,12 @@ use Rattle.std.proofs.lemmas.List.Folds.{list_all-append, list_any-append}
 use Rattle.md_base.proofs.Lies.{lie}
 use Rattle.md_text.specs.References.{is_escaped}
 use Rattle.md_text.specs.Html.{Attribute}
-use Rattle.md_safe.specs.Token.{Token, Character, StartTag}
-use Rattle.md_safe.specs.Token.{TokenAttribute}
+use Rattle.md_safe.specs.Token.{Token, Character, StartTag, TokenAttribute}
 use Rattle.md_safe.specs.Tokens.{seen, seen_attributes, is_listed}
 use Rattle.md_safe.specs.SafeTokens.{attributes_pass}
 use Rattle.md_page.specs.Added.{with_attribute, added}
 use Rattle.md_page.specs.Attributed.{is_addition, is_listed_beside}
-use Rattle.md_page.specs.Pieces.{Piece, Words, Opening, Single, Closing}
-use Rattle.md_page.specs.Pieces.{are_plain, is_name}
+use Rattle.md_page.specs.Pieces.{Piece, Words, Opening, Single, Closing, are_plain, is_name}
 use Rattle.md_page.proofs.Tags.{PicksBy}
 
 -- an attribute as a tokenizer sees it

@@ -1,6 +1,6 @@
 -- A scan up to the first tag that is picked, and past it, by places.
 use Rattle.std.proofs.Common.{◌≡◌, ℕ, ◌+◌, ◌-◌, ◌≤◌, suc, Bool, true, false, List, ◌++◌, refl}
-use Rattle.std.proofs.Common.{length, take, drop, sym, ap, ap₂, ◌∙◌, subst, append_assoc}
+use Rattle.std.proofs.Common.{length, take, drop, ap, ◌∙◌, subst, append_assoc}
 use Rattle.std.proofs.Common.{append-nil, slice_range, add-one, arith}
 use Rattle.std.specs.List.{list_all}
 use Rattle.std.proofs.lemmas.List.{take_rest, drop-drop, drop_more, take-append-drop, length-drop}
@@ -50,17 +50,15 @@ pub unended : (picks : List ℕ → Bool) (add : ℕ → List ℕ) (n : ℕ) (te
     IsTagAt picks text at →
     list_all (differs 62) (drop (at + 1) text) ≡ true → scanned picks add false n text ≡ text
 unended picks add n text at h none =
-    into picks add n text at h
-    ∙ ap (λ x. take (at + 1) text ++ x) (scanned-unclosed picks add n (drop (at + 1) text) none)
-    ∙ take-append-drop (at + 1) text
+    rw (into picks add n text at h, scanned-unclosed picks add n (drop (at + 1) text) none)
+    (take-append-drop (at + 1) text)
 
 -- no tag is picked
 pub done : (picks : List ℕ → Bool) (add : ℕ → List ℕ) (n : ℕ) (text : List ℕ) →
     clear picks (length text) text ≡ true → scanned picks add false n text ≡ text
 done picks add n text h =
-    clear-scanned picks add n (length text) text h
-    ∙ ap₂ (λ x y. x ++ scanned picks add false n y) (take_all (length text) text (omega arith))
-    (drop_all (length text) text (omega arith)) ∙ append-nil text
+    rw (clear-scanned picks add n (length text) text h, take_all (length text) text (omega arith))
+    (rw (drop_all (length text) text (omega arith)) (append-nil text))
 
 -- ---- one iteration of the loop that writes the text
 
@@ -75,13 +73,7 @@ pub turned : (picks : List ℕ → Bool) (add : ℕ → List ℕ) (n : ℕ) (res
     (n + 1 + length rest' ≤ n + length rest)
     × (out'' ++ scanned picks add false (n + 1) rest' ≡ whole)
 turned picks add n rest end out place scan first fronted second added later all =
-    let on = scanned picks add false (suc n) (drop end rest) in
     let whole : end - 0 ≡ end = omega arith in (
       omega (arith, place.0, place.1, ap length later, length-drop end rest),
-      ap₂ (λ x y. x ++ y) (second ∙ ap₂ (λ x y. x ++ y)
-          (first ∙ ap (λ x. out ++ x) (fronted ∙ ap (λ m. take m rest) whole)) added)
-          (ap₂ (λ m x. scanned picks add false m x) (add-one n) later)
-          ∙ append_assoc (out ++ take end rest) (add n) on
-          ∙ append_assoc out (take end rest) (add n ++ on)
-          ∙ ap (λ x. out ++ x) (sym scan) ∙ all,
+      rw (second, first, fronted, whole, added, add-one n, later, ← all, scan) (simp append_assoc),
     )

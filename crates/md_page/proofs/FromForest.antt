@@ -6,8 +6,7 @@ use Rattle.std.proofs.lemmas.Bool.{and_parts, and_from, cond_both}
 use Rattle.md_base.proofs.Lies.{lie}
 use Rattle.md_text.specs.Bytes.{is_one_of}
 use Rattle.md_text.specs.Html.{Forest, Empty, Text, Void, Element, is_forest, is_tag}
-use Rattle.md_text.specs.Html.{begins_with_text, elements, void_tags, written}
-use Rattle.md_text.specs.Html.{HasOneReadingWith}
+use Rattle.md_text.specs.Html.{begins_with_text, elements, void_tags, written, HasOneReadingWith}
 use Rattle.md_text.specs.Safe.{is_safe_link, is_safe_image}
 use Rattle.md_safe.specs.Token.{Token, StartTag, EndOfFile, TokenAttribute}
 use Rattle.md_safe.specs.Tokens.{tokens, is_listed, is_tag_of}
@@ -18,9 +17,7 @@ use Rattle.md_safe.proofs.SafeTokens.{links-pass, images-pass}
 use Rattle.md_page.specs.Attributed.{is_addition, is_listed_beside}
 use Rattle.md_page.specs.Built.{is_plain_forest}
 use Rattle.md_page.specs.Pieces.{Piece, Words, Opening, Single, Closing, all_written, all_tokens}
-use Rattle.md_page.specs.Pieces.{are_plain, is_tag_name}
-use Rattle.md_page.specs.Pieces.{are_sound, begins_with_words}
-use Rattle.md_page.specs.Pieces.{IsWritten}
+use Rattle.md_page.specs.Pieces.{are_plain, is_tag_name, are_sound, begins_with_words, IsWritten}
 use Rattle.md_page.proofs.Plain.{element-plain, void-plain, and3}
 
 -- the pieces of a forest, and what follows them

@@ -1,7 +1,6 @@
 -- A page around a text that is built as it is written is built with that text's forest.
-use Rattle.std.proofs.Common.{◌≡◌, ℕ, true, List, [], ◌∷◌, ◌++◌, map, refl, ap}
-use Rattle.std.proofs.Common.{subst}
-use Rattle.std.proofs.Common.{append_assoc, codes}
+use Rattle.std.proofs.Common.{◌≡◌, ℕ, true, List, [], ◌∷◌, ◌++◌, map, refl, ap, subst, append_assoc}
+use Rattle.std.proofs.Common.{codes}
 use Rattle.md_text.specs.Encode.{encoded}
 use Rattle.md_text.specs.Html.{Forest, Empty, Text, Void, Element}
 use Rattle.md_text.proofs.EncodeLaws.{is_escaped-encoded}
@@ -9,8 +8,7 @@ use Rattle.md_safe.specs.Token.{Token, Doctype, Character, StartTag, EndTag, End
 use Rattle.md_safe.specs.Tokenizer.{IsTokenized}
 use Rattle.md_safe.specs.Tokens.{tokens, seen}
 use Rattle.md_safe.specs.PageTokens.{charset, page_text, plain_tag}
-use Rattle.md_safe.specs.Node.{InBody}
-use Rattle.md_safe.specs.Node.{Empty as NoNode}
+use Rattle.md_safe.specs.Node.{InBody, Empty as NoNode}
 use Rattle.md_safe.proofs.Pages.{body-place, page-built, body_at, root_at}
 use Rattle.md_safe.proofs.TreeSteps.{seen-characters}
 use Rattle.md_page.specs.Added.{shown}

@@ -16,8 +16,7 @@ use Rattle.md_safe.proofs.LineFeeds.{line_feeds-append, line_feeds-escaped}
 use Rattle.md_safe.proofs.GoodNames.{is_good_name, are_good}
 use Rattle.md_safe.proofs.Steps.{along}
 use Rattle.md_safe.proofs.TextLeads.{text-runs}
-use Rattle.md_safe.proofs.TagLeads.{lined, line_feeds-attributes, element-runs}
-use Rattle.md_safe.proofs.TagLeads.{void-runs, end-runs}
+use Rattle.md_safe.proofs.TagLeads.{lined, line_feeds-attributes, element-runs, void-runs, end-runs}
 use Rattle.md_safe.proofs.ForestLeads.{good-line_feeds}
 use Rattle.md_page.specs.Pieces.{Piece, Words, Opening, Single, Closing, all_written, all_tokens}
 use Rattle.md_page.specs.Pieces.{are_sound, are_plain, is_tag_name, void_names, begins_with_words}

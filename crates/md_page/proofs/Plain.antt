@@ -11,8 +11,7 @@ use Rattle.md_text.specs.Bytes.{is_between, is_letter, is_one_of}
 use Rattle.md_text.specs.References.{is_escaped}
 use Rattle.md_text.specs.Html.{Attribute, is_tag, are_attributes, elements, void_tags}
 use Rattle.md_safe.proofs.Cases.{one_of-passes, all-weaker}
-use Rattle.md_safe.proofs.GoodNames.{is_good_byte, is_good_name, begins_tag}
-use Rattle.md_safe.proofs.GoodNames.{are_good, by_rule}
+use Rattle.md_safe.proofs.GoodNames.{is_good_byte, is_good_name, begins_tag, are_good, by_rule}
 use Rattle.md_page.specs.Pieces.{is_name_byte, is_name, is_tag_name, begins_with_letter, are_plain}
 use Rattle.md_page.specs.Pieces.{void_names}
 
