@@ -5,18 +5,18 @@ use Rattle.std.proofs.Common.{Option, Some, None, refl, sym, ap, ◌∙◌, arit
 use Rattle.std.specs.Prelude.{nat_le}
 use Rattle.std.specs.List.{before_first, list_all, list_any, slice_get}
 use Rattle.std.proofs.lemmas.Bool.{and_parts, eqb-true, not-true, cases_Bool}
-use Rattle.std.proofs.lemmas.List.{take-append-drop, take_rest}
+use Rattle.std.proofs.lemmas.List.{take_rest}
 use Rattle.std.proofs.lemmas.List.Folds.{list_any-append}
 use Rattle.std.proofs.lemmas.Option.{slice_get-map}
 use Rattle.std.proofs.lemmas.Slice.Eq.{bytes_eq-Decides}
+use Rattle.md_script.proofs.NameLemmas.{other_whole}
 use Rattle.md_base.specs.declared.event.Kind.{Kind}
 use Rattle.md_base.specs.declared.event.Name.{Name}
 use Rattle.md_base.specs.declared.event.Point.{Point}
 use Rattle.md_base.specs.declared.event.Name.TheVariants.{Other}
 use Rattle.md_base.specs.EventNames.{event_names}
 use Rattle.md_base.specs.Table.{listed}
-use Rattle.md_script.specs.Line.{◌>>=◌, is_space, kind_of, otherwise, other_name}
-use Rattle.md_script.specs.Line.{name_of}
+use Rattle.md_script.specs.Line.{◌>>=◌, is_space, kind_of, otherwise, other_name, name_of}
 use Rattle.md_script.specs.Number.{number_of}
 use Rattle.md_script.specs.CommonName.{IsFirstSpace, spelled, named, is_full, AreRows}
 use Rattle.md_script.specs.PlainLine.{is_break, BeginsWithEvent, BeginsWithNumber, BeginsWithName}
@@ -84,15 +84,11 @@ pub other_read : (bytes digits following : List ℕ) (number : ℕ) (name : Name
     BeginsWithName bytes name following
 other_read bytes digits following number name other rest read is =
     let spelling = read.digits in
-    let whole : bytes ≡ codes "Other" ++ digits =
-    sym (take-append-drop 5 bytes)
-    ∙ ap (λ front. front ++ drop 5 bytes) ((bytes_eq-Decides (take 5 bytes)
-    (codes "Other")).0 other) ∙ ap (λ d. codes "Other" ++ d) (sym rest) in
     let same : other_name (codes "Other" ++ spelling) ≡ name_of (codes "Other" ++ spelling) =
     refl in
     record {
       text = codes "Other" ++ spelling;
-      whole = whole ∙ ap (λ d. codes "Other" ++ d) read.whole;
+      whole = other_whole bytes other ∙ ap (λ d. codes "Other" ++ d) (sym rest ∙ read.whole);
       says = sym same ∙ ap (λ n. n >>= numbered) read.value ∙ sym is;
     }
 
@@ -122,10 +118,8 @@ other_unbroken text name false number et en e = cc
 other_unbroken text name true None et en e = cc
 other_unbroken text name true (Some n) et en e =
     let all = number_is_digits 5 (drop 5 text) n _ _ refl refl (sym en) in
-    let whole : text ≡ codes "Other" ++ drop 5 text =
-    sym (take-append-drop 5 text) ∙ ap (λ front. front ++ drop 5 text)
-    ((bytes_eq-Decides (take 5 text) (codes "Other")).0 (sym et)) in
-    ap (list_any is_break) whole ∙ list_any-append is_break (codes "Other") (drop 5 text)
+    ap (list_any is_break) (other_whole text (sym et))
+    ∙ list_any-append is_break (codes "Other") (drop 5 text)
     ∙ digits_unbroken (drop 5 text) all
 
 named_unbroken : (text : List ℕ) (name : Name) (first second : Option Name) →

@@ -94,16 +94,17 @@ otherwise_none : (name : Option Name) → otherwise name None ≡ name
 otherwise_none None = refl
 otherwise_none (Some name) = refl
 
+pub other_whole : (text : List ℕ) → bytes_eq (take 5 text) (codes "Other") ≡ true →
+    text ≡ codes "Other" ++ drop 5 text
+other_whole text other =
+    rw ((bytes_eq-Decides (take 5 text) (codes "Other")).0 other) at (sym (take-append-drop 5 text))
+
 pub name_of_other : (text digits : List ℕ) → bytes_eq (take 5 text) (codes "Other") ≡ true →
     digits ≡ drop 5 text →
     other_name (codes "Other" ++ digits) ≡ name_of text
 name_of_other text digits other rest =
-    let whole : codes "Other" ++ digits ≡ text =
-    ap (λ d. codes "Other" ++ d) rest ∙ ap (λ front. front
-    ++ drop 5 text) (sym ((bytes_eq-Decides (take 5 text) (codes "Other")).0 other))
-    ∙ take-append-drop 5 text in
     let same : other_name (codes "Other" ++ digits) ≡ name_of (codes "Other" ++ digits) = refl in
-    same ∙ ap name_of whole
+    same ∙ ap name_of (ap (λ d. codes "Other" ++ d) rest ∙ sym (other_whole text other))
 
 pub name_of_listed : (text : List ℕ) → bytes_eq (take 5 text) (codes "Other") ≡ false →
     listed event_names text ≡ name_of text

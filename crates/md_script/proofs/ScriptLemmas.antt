@@ -15,8 +15,7 @@ use Rattle.std.proofs.lemmas.Slice.Eq.{bytes_eq-Decides}
 use Rattle.md_base.specs.declared.event.Event.{Event}
 use Rattle.md_script.specs.Line.{lines_of, event_of}
 use Rattle.md_script.specs.Script.{end_line, is_readable_after, ReadsAfter, StandsFor, StopsAfter}
-use Rattle.md_script.specs.Script.{IsFirstUnreadable}
-use Rattle.md_script.specs.Script.{Explains}
+use Rattle.md_script.specs.Script.{IsFirstUnreadable, Explains}
 use Rattle.md_script.specs.PlainLine.{BeginsWithEvent}
 use Rattle.md_script.specs.declared.error.RunError.TheVariants.{Line}
 use Rattle.md_text.specs.declared.options.CompileOptions.{CompileOptions}
@@ -192,8 +191,8 @@ module _ {input rest : List ℕ} {events : List Event} {settings : List (List �
   script_ends_at line None document empty options cut ends is nothing has =
       script_ends line document.now [] options cut ends (ap (λ d. d.now) is ∙ nothing) has
   script_ends_at line (Some f) document empty options cut ends is nothing has =
-      script_ends line document.now (lines_of f.now) options cut ends (ap (λ d. d.now) is
-      ∙ sym (join_with_byte-slice_split 10 f.now)) has
+      script_ends line document.now (lines_of f.now) options cut ends
+      (rw is (sym (join_with_byte-slice_split 10 f.now))) has
 
   pub line_stops : (line : List ℕ) (following : Option (Bor (List ℕ))) →
       Begins rest line following →

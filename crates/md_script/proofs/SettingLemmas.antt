@@ -1,7 +1,6 @@
 -- Options given by some of the lines, and bytes read as a text.
-use Rattle.std.proofs.Common.{◌≡◌, ℕ, Bool, true, false, not, eqb, List, [], ◌∷◌}
-use Rattle.std.proofs.Common.{Option, Some, None, Result, Ok, Err, IsUtf8, refl, sym, ap, ◌∙◌, inl}
-use Rattle.std.proofs.Common.{inr}
+use Rattle.std.proofs.Common.{◌≡◌, ℕ, Bool, true, false, not, eqb, List, [], ◌∷◌, Option, Some}
+use Rattle.std.proofs.Common.{None, Result, Ok, Err, IsUtf8, refl, sym, ap, ◌∙◌, inl, inr}
 use Rattle.std.specs.Prelude.{option_copied, option_and_then, unwrap_or, find, filter, is_some}
 use Rattle.std.specs.Prelude.{is_ok, MatchResult}
 use Rattle.std.specs.Borrow.{Bor}
@@ -16,9 +15,8 @@ use Rattle.md_base.proofs.SpaceLemmas.{chosen}
 use Rattle.md_text.specs.declared.options.CompileOptions.{CompileOptions}
 use Rattle.md_text.specs.declared.line_ending.LineEnding.TheVariants.{LineFeed}
 use Rattle.md_script.specs.Line.{event_of}
-use Rattle.md_script.specs.Setting.{is_setting, option_name, is_name, is_given}
-use Rattle.md_script.specs.Setting.{text_given, value_of, is_new, ending_named, ending_name}
-use Rattle.md_script.specs.Setting.{HasOptions}
+use Rattle.md_script.specs.Setting.{is_setting, option_name, is_name, is_given, text_given}
+use Rattle.md_script.specs.Setting.{value_of, is_new, ending_named, ending_name, HasOptions}
 
 -- ---- bytes as a text
 
