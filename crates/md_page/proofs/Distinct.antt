@@ -7,7 +7,7 @@ use Rattle.std.proofs.Common.{inr, arith, append-nil}
 use Rattle.std.specs.List.{starts_with}
 use Rattle.std.specs.Fmt.{decimal}
 use Rattle.std.specs.Cmp.Lexicographic.{bytes_decides}
-use Rattle.std.proofs.lemmas.Bool.{and_parts, and_from, or_parts, not-true, cases_Bool, cond_both}
+use Rattle.std.proofs.lemmas.Bool.{and_parts, and_from, not-true, cases_Bool, cond_both}
 use Rattle.std.proofs.lemmas.Bool.{cond-true, cond-false}
 use Rattle.std.proofs.lemmas.Fmt.{decimal_injective}
 use Rattle.std.proofs.lemmas.List.{append_cancel_left}
@@ -45,9 +45,7 @@ once (x ∷ xs) d w =
   where
     none : (w : List ℕ) (xs : List (List ℕ)) → is_among w xs ≡ false → occurs w xs ≡ 0
     none w [] h = refl
-    none w (x ∷ xs) h =
-        let p = or_parts (bytes_eq x w) (is_among w xs) h in
-        cond-false (bytes_eq x w) _ _ p.0 ∙ none w xs p.1
+    none w (x ∷ xs) h = let later = none w xs in grind (arith, later, h)
 
 -- ---- tokens with ids added to their headings
 
@@ -69,9 +67,7 @@ count-passed n t x h = ap length (cond-false (gets_id t) _ _ h)
 past-ids : (x y : List TokenAttribute) → has_attribute (codes "id") x ≡ false →
     ids_in (x ++ y) ≡ ids_in y
 past-ids [] y h = refl
-past-ids (a ∷ x) y h =
-    let p = or_parts (bytes_eq (codes "id") a.name) (has_attribute (codes "id") x) h in
-    cond-false (bytes_eq (codes "id") a.name) _ _ p.0 ∙ past-ids x y p.1
+past-ids (a ∷ x) y h = let later = past-ids x y in grind (arith, later, h)
 
 old-none : (t : Token) → gets_id t ≡ true → ids_at t ≡ []
 old-none (StartTag name x flag) h =

@@ -2,7 +2,7 @@
 use Rattle.std.proofs.Common.{◌≡◌, ℕ, Bool, true, not, List, [], ◌∷◌, ◌++◌, arith}
 use Rattle.std.proofs.Common.{filter, refl, sym, ◌∙◌, subst, append-nil, append_assoc}
 use Rattle.std.specs.List.{list_all}
-use Rattle.std.proofs.lemmas.Bool.{and_parts, and_from, cond_both}
+use Rattle.std.proofs.lemmas.Bool.{and_parts, and_from}
 use Rattle.md_base.proofs.Lies.{lie}
 use Rattle.md_text.specs.Bytes.{is_one_of}
 use Rattle.md_text.specs.Html.{Forest, Empty, Text, Void, Element, is_forest, is_tag}
@@ -93,10 +93,7 @@ whole-written f = pieces-written f [] ∙ append-nil (written f)
 filter-all : (p keep : TokenAttribute → Bool) (x : List TokenAttribute) → list_all p x ≡ true →
     list_all p (filter keep x) ≡ true
 filter-all p keep [] h = refl
-filter-all p keep (a ∷ x) h =
-    let q = and_parts (p a) (list_all p x) h in
-    cond_both (keep a) (a ∷ filter keep x) (filter keep x) (λ y. list_all p y ≡ true)
-    (λ _. and_from _ _ q.0 (filter-all p keep x q.1)) (λ _. filter-all p keep x q.1)
+filter-all p keep (a ∷ x) h = let later = filter-all p keep x in grind (arith, later, h)
 
 tag-filter : (rules : List (List ℕ × List (List ℕ))) (name : List ℕ) (keep : TokenAttribute → Bool)
     (x : List TokenAttribute) → is_tag_of rules name x ≡ true →

@@ -1,7 +1,7 @@
 -- The text of a heading by its bytes is that by its tokens.
 use Rattle.std.specs.Str.{bytes_eq}
-use Rattle.std.proofs.Common.{◌≡◌, ℕ, ◌==◌, true, false, ◌&&◌, cond, List, [], ◌∷◌, ◌++◌, inl, inr}
-use Rattle.std.proofs.Common.{map, drop, refl, sym, ap, ◌∙◌, subst, append_assoc}
+use Rattle.std.proofs.Common.{◌≡◌, ℕ, ◌==◌, true, false, cond, List, [], ◌∷◌, ◌++◌, inl, inr, arith}
+use Rattle.std.proofs.Common.{map, drop, refl, ap, ◌∙◌, append_assoc}
 use Rattle.std.proofs.Common.{codes, ne_eqb, eq-eqb}
 use Rattle.std.specs.List.{list_all}
 use Rattle.std.specs.Cmp.Lexicographic.{bytes_decides}
@@ -21,7 +21,7 @@ use Rattle.md_safe.specs.Token.{Token, Character}
 use Rattle.md_safe.specs.Tokens.{seen}
 use Rattle.md_safe.proofs.EscapedCases.{by_escaped, begins-is}
 use Rattle.md_safe.proofs.LineFeeds.{one-append, line_feeds-escaped}
-use Rattle.md_safe.proofs.Steps.{past, plain-ne}
+use Rattle.md_safe.proofs.Steps.{plain-ne}
 use Rattle.md_page.specs.Added.{characters_before}
 use Rattle.md_page.specs.Pieces.{Piece, Words, Opening, Single, Closing, all_written, all_tokens}
 use Rattle.md_page.specs.Pieces.{are_sound, are_plain, is_name_byte, is_tag_name, void_names}
@@ -39,11 +39,8 @@ use Rattle.md_page.proofs.LinkRule.{both}
 encoded-back : (x : List ℕ) → is_escaped x ≡ true → encoded true (read_back x) ≡ x
 encoded-back x h =
     by_escaped (λ x. encoded true (read_back x) ≡ x) refl
-    (λ b rest p later.
-    ap (encoded true) (read_back-other b rest (plain-ne b p))
-    ∙ ap (λ y. y ++ encoded true (read_back rest))
-    (encoded_byte-plain true b p.no_nul p.no_and p.no_quote p.no_less p.no_more)
-    ∙ ap (λ y. b ∷ y) later)
+    (λ b rest p later. rw (read_back-other b rest (plain-ne b p))
+    (rw (encoded_byte-plain true b p.no_nul p.no_and p.no_quote p.no_less p.no_more, later) refl))
     (λ rest later. ap (λ y. codes "&amp;" ++ y) later)
     (λ rest later. ap (λ y. codes "&quot;" ++ y) later)
     (λ rest later. ap (λ y. codes "&lt;" ++ y) later)
@@ -73,24 +70,17 @@ text-run digit (b ∷ x) r h n =
 
 pub past-run : (x r : List ℕ) → list_all (differs 62) x ≡ true → past_angle (x ++ (62 ∷ r)) ≡ r
 past-run [] r h = refl
-past-run (b ∷ x) r h =
-    let p = and_parts (differs 62 b) (list_all (differs 62) x) h in
-    past _ (not-true (b == 62) p.0) (past-run x r p.1)
+past-run (b ∷ x) r h = let later = past-run x r in grind (arith, later, h)
 
 pub past-none : (x : List ℕ) → list_all (differs 62) x ≡ true → past_angle x ≡ []
 past-none [] h = refl
-past-none (b ∷ x) h =
-    let p = and_parts (differs 62 b) (list_all (differs 62) x) h in
-    past _ (not-true (b == 62) p.0) (past-none x p.1)
+past-none (b ∷ x) h = let later = past-none x in grind (arith, later, h)
 
 -- the inside of a tag is removed
 pub text-inside : (digit : ℕ) (x : List ℕ) →
     text_before digit true x ≡ text_before digit false (past_angle x)
 text-inside digit [] = refl
-text-inside digit (b ∷ x) = elim (cases_Bool (b == 62)) [
-  | inl is ↦ rw is refl
-  | inr other ↦ rw other (text-inside digit x)
-]
+text-inside digit (b ∷ x) = let later = text-inside digit x in grind (arith, later)
 
 -- a `<` before an end tag of the heading, and before any other tag
 pub text-closes : (digit : ℕ) (tag : List ℕ) → closes_heading digit tag ≡ true →
@@ -126,9 +116,7 @@ closes-name digit name r d h =
     (bytes_decides name (104 ∷ digit ∷ [])).1
     (split is_name_byte name (104 ∷ digit ∷ []) (62 ∷ r) (62 ∷ rest) h
     (and_from (is_name_byte digit) true d refl) refl refl is).0))
-    (λ e. subst (λ n. closes_heading digit (47 ∷ (n ++ (62 ∷ r))) ≡ true)
-    (sym ((bytes_decides name (104 ∷ digit ∷ [])).0 e))
-    (ap (λ t. t && true) (eq-eqb digit digit refl)))
+    (λ e. rw ((bytes_decides name (104 ∷ digit ∷ [])).0 e, eq-eqb digit digit refl) refl)
 
 -- a tag that doesn't end the heading
 passed : (digit : ℕ) (tag : Piece) (more : List Piece) → is_sound_tag tag ≡ true →

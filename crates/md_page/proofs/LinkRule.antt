@@ -7,7 +7,7 @@ use Rattle.std.proofs.Common.{Option, Some, None, codes, ne_eqb, arith}
 use Rattle.std.specs.List.{list_all, list_any, starts_with}
 use Rattle.std.specs.Option.{option_map_or}
 use Rattle.std.specs.Cmp.Lexicographic.{bytes_decides}
-use Rattle.std.proofs.lemmas.Bool.{and_parts, and_from, and_left, not-true, or_parts, or_from}
+use Rattle.std.proofs.lemmas.Bool.{and_parts, and_from, and_left, not-true}
 use Rattle.std.proofs.lemmas.Bool.{or_left, cases_Bool, cases_eq}
 use Rattle.std.proofs.lemmas.List.{append_cancel_right}
 use Rattle.md_base.proofs.Lies.{lie}
@@ -78,10 +78,7 @@ value_of-found key (a ∷ x) h =
 pub none-found : (key : List ℕ) (x : List Attribute) →
     is_none (found key x) ≡ not (has_attribute key (seen_attributes x))
 none-found key [] = refl
-none-found key (a ∷ x) = elim (cases_Bool (bytes_eq key a.name)) [
-  | inl e ↦ rw e refl
-  | inr e ↦ rw e (none-found key x)
-]
+none-found key (a ∷ x) = let later = none-found key x in grind (arith, later)
 
 -- ---- a value as it is written, and as it is seen
 
@@ -111,9 +108,7 @@ away-seen value h =
 none-away : (x : List Attribute) → list_any (λ a. bytes_eq (codes "href") a.name) x ≡ false →
     list_any leads_away (seen_attributes x) ≡ false
 none-away [] h = refl
-none-away (a ∷ x) h =
-    let p = or_parts (bytes_eq (codes "href") a.name) _ h in
-    or_from _ _ (and_left _ _ p.0) (none-away x p.1)
+none-away (a ∷ x) h = let later = none-away x in grind (arith, later, h)
 
 found-away : (x : List Attribute) → are_plain x ≡ true →
     option_map_or is_away (found (codes "href") x) false ≡ list_any leads_away (seen_attributes x)

@@ -1,8 +1,8 @@
 -- The headings that are found by bytes are those of the tokens.
-use Rattle.std.proofs.Common.{◌≡◌, ℕ, ◌-◌, ◌==◌, suc, true, false, List, [], inl, inr}
+use Rattle.std.proofs.Common.{◌≡◌, ℕ, ◌-◌, suc, true, false, List, [], inl, inr, arith}
 use Rattle.std.proofs.Common.{◌∷◌, ◌++◌, map, refl, sym, ap, ap₂, ◌∙◌}
 use Rattle.std.specs.List.{list_all}
-use Rattle.std.proofs.lemmas.Bool.{and_parts, and_from, not-true, cond-true, cond-false, cases_Bool}
+use Rattle.std.proofs.lemmas.Bool.{and_parts, and_from, cond-true, cond-false, cases_Bool}
 use Rattle.md_text.specs.Bytes.{is_one_of}
 use Rattle.md_text.specs.References.{is_escaped}
 use Rattle.md_text.specs.Html.{Attribute, written_attributes}
@@ -28,9 +28,7 @@ use Rattle.md_page.proofs.HeadingTexts.{past-run, text-pieces}
 pub headings-run : (n : ℕ) (x r : List ℕ) → list_all (differs 60) x ≡ true →
     scanned_headings n (x ++ r) ≡ scanned_headings n r
 headings-run n [] r h = refl
-headings-run n (b ∷ x) r h =
-    let p = and_parts (differs 60 b) (list_all (differs 60) x) h in
-    rw (not-true (b == 60) p.0) (headings-run n x r p.1)
+headings-run n (b ∷ x) r h = let later = headings-run n x r in grind (arith, later, h)
 
 pub headings-picked : (n : ℕ) (tag : List ℕ) → picks_heading tag ≡ true →
     scanned_headings n (60 ∷ tag) ≡ scanned_heading (suc n) tag ∷ scanned_headings (suc n) tag

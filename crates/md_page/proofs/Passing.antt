@@ -19,8 +19,7 @@ pub clear-one : (picks : List ℕ → Bool) (k : ℕ) (text : List ℕ) → k < 
 clear-one picks k [] within h e = absurd (omega (arith, within))
 clear-one picks zero (b ∷ rest) within h e = and_from _ _ (ap not e) refl
 clear-one picks (suc k) (b ∷ rest) within h e =
-    let p = and_parts (not ((b == 60) && picks rest)) (clear picks k rest) h in
-    and_from _ _ p.0 (clear-one picks k rest (omega (arith, within)) p.1 e)
+    let later = clear-one picks k rest (omega (arith, within)) in grind (arith, later, h, e)
 
 -- one stretch after another
 pub clear-more : (picks : List ℕ → Bool) (j k : ℕ) (text : List ℕ) → clear picks j text ≡ true →
@@ -39,9 +38,7 @@ pub clear-run : (picks : List ℕ → Bool) (k : ℕ) (text : List ℕ) →
     clear picks k text ≡ true
 clear-run picks zero text h = refl
 clear-run picks (suc k) [] h = refl
-clear-run picks (suc k) (b ∷ rest) h =
-    let p = and_parts (differs 60 b) (list_all (differs 60) (take k rest)) h in
-    and_from _ _ (ap not (and_left _ _ (not-true (b == 60) p.0))) (clear-run picks k rest p.1)
+clear-run picks (suc k) (b ∷ rest) h = let later = clear-run picks k rest in grind (arith, later, h)
 
 -- ---- the result for such a stretch
 
@@ -51,8 +48,7 @@ pub clear-scanned : (picks : List ℕ → Bool) (add : ℕ → List ℕ) (n k : 
 clear-scanned picks add n zero text h = refl
 clear-scanned picks add n (suc k) [] h = refl
 clear-scanned picks add n (suc k) (b ∷ rest) h =
-    let p = and_parts (not ((b == 60) && picks rest)) (clear picks k rest) h in
-    rw (not-true ((b == 60) && picks rest) p.0, clear-scanned picks add n k rest p.1) refl
+    let later = clear-scanned picks add n k rest in grind (arith, later, h)
 
 pub clear-headings : (n k : ℕ) (text : List ℕ) → clear picks_heading k text ≡ true →
     scanned_headings n text ≡ scanned_headings n (drop k text)

@@ -1,14 +1,13 @@
 -- What the program makes of sound pieces is written for the changed ones.
-use Rattle.std.proofs.Common.{◌≡◌, ℕ, ◌==◌, suc, Bool, true, false, not, List, [], ◌∷◌, ◌++◌}
+use Rattle.std.proofs.Common.{◌≡◌, ℕ, suc, Bool, true, false, not, List, [], ◌∷◌, ◌++◌, arith}
 use Rattle.std.proofs.Common.{map, refl, sym, ap, ap₂, ◌∙◌, append_assoc}
 use Rattle.std.specs.List.{list_all}
-use Rattle.std.proofs.lemmas.Bool.{and_parts, and_from, not-true, cond_both}
+use Rattle.std.proofs.lemmas.Bool.{and_parts, and_from, cond_both}
 use Rattle.md_text.specs.Bytes.{is_one_of}
 use Rattle.md_text.specs.References.{is_escaped}
 use Rattle.md_text.specs.Html.{Attribute, written_attributes}
 use Rattle.md_safe.specs.Token.{Token, Character, StartTag, EndOfFile}
 use Rattle.md_safe.specs.Tokens.{seen, seen_attributes}
-use Rattle.md_safe.proofs.Steps.{past}
 use Rattle.md_page.specs.Added.{added}
 use Rattle.md_page.specs.Pieces.{Piece, Words, Opening, Single, Closing, all_written, all_tokens}
 use Rattle.md_page.specs.Pieces.{are_sound, are_plain, is_tag_name, void_names, begins_with_words}
@@ -27,8 +26,7 @@ pub scanned-run : (picks : List ℕ → Bool) (add : ℕ → List ℕ) (n : ℕ)
     scanned picks add false n (x ++ r) ≡ x ++ scanned picks add false n r
 scanned-run picks add n [] r h = refl
 scanned-run picks add n (b ∷ x) r h =
-    let p = and_parts (differs 60 b) (list_all (differs 60) x) h in
-    rw (not-true (b == 60) p.0, scanned-run picks add n x r p.1) refl
+    let later = scanned-run picks add n x r in grind (arith, later, h)
 
 -- inside a tag that is picked
 pub scanned-inside : (picks : List ℕ → Bool) (add : ℕ → List ℕ) (n : ℕ) (x r : List ℕ) →
@@ -37,15 +35,13 @@ pub scanned-inside : (picks : List ℕ → Bool) (add : ℕ → List ℕ) (n : �
     ≡ x ++ (add n ++ (62 ∷ scanned picks add false (suc n) r))
 scanned-inside picks add n [] r h = refl
 scanned-inside picks add n (b ∷ x) r h =
-    let p = and_parts (differs 62 b) (list_all (differs 62) x) h in
-    rw (not-true (b == 62) p.0, scanned-inside picks add n x r p.1) refl
+    let later = scanned-inside picks add n x r in grind (arith, later, h)
 
 pub scanned-unclosed : (picks : List ℕ → Bool) (add : ℕ → List ℕ) (n : ℕ) (x : List ℕ) →
     list_all (differs 62) x ≡ true → scanned picks add true n x ≡ x
 scanned-unclosed picks add n [] h = refl
 scanned-unclosed picks add n (b ∷ x) h =
-    let p = and_parts (differs 62 b) (list_all (differs 62) x) h in
-    past _ (not-true (b == 62) p.0) (ap (λ y. b ∷ y) (scanned-unclosed picks add n x p.1))
+    let later = scanned-unclosed picks add n x in grind (arith, later, h)
 
 -- ---- over pieces
 
