@@ -88,9 +88,7 @@ picks-name (b ∷ []) x r l n h =
     and_left _ _ (short b x r)
     ∙ sym (and_left _ _ (no_heading (b ∷ []) (λ e. omega (arith, e))))
 picks-name (b ∷ c ∷ []) x r l n h =
-    ap (λ v. ((b == 104) && is_between 49 54 c) && option_map_or want_id v false)
-    (before-attributes x r h) ∙ ap (λ t. t && want_id (written_attributes x)) (pair-named b c)
-    ∙ ap (λ t. is_one_of heading_names (b ∷ c ∷ []) && t) (wants-id x h)
+    rw (before-attributes x r h, wants-id x h, pair-named b c) refl
 picks-name (b ∷ c ∷ d ∷ name) x r l n h =
     let p = and3 (is_name_byte b) (is_name_byte c) (list_all is_name_byte (d ∷ name)) n in
     let third = (and_parts (is_name_byte d) (list_all is_name_byte name) p.2).0 in

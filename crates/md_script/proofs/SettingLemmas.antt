@@ -1,6 +1,6 @@
 -- Options given by some of the lines, and bytes read as a text.
 use Rattle.std.proofs.Common.{◌≡◌, ℕ, Bool, true, false, not, eqb, List, [], ◌∷◌, Option, Some}
-use Rattle.std.proofs.Common.{None, Result, Ok, Err, IsUtf8, refl, sym, ap, ◌∙◌, inl, inr}
+use Rattle.std.proofs.Common.{None, Result, Ok, Err, IsUtf8, refl, sym, ap, ◌∙◌, inl, inr, arith}
 use Rattle.std.specs.Prelude.{option_copied, option_and_then, unwrap_or, find, filter, is_some}
 use Rattle.std.specs.Prelude.{is_ok, MatchResult}
 use Rattle.std.specs.Borrow.{Bor}
@@ -59,17 +59,15 @@ event_is_unmarked (sign ∷ rest) event e =
 module _ {A : Type 0} (p q : A → Bool) (outside : (x : A) → q x ≡ false → p x ≡ false) where
   pub any-filter : (lines : List A) → list_any p (filter q lines) ≡ list_any p lines
   any-filter [] = refl
-  any-filter (line ∷ lines) = elim (cases_Bool (q line)) [
-    | inl here ↦ rw (here, any-filter lines) refl
-    | inr away ↦ rw (away, outside line away) (any-filter lines)
-  ]
+  any-filter (line ∷ lines) =
+      let later = any-filter lines in
+      let out = outside line in grind (arith, later, out)
 
   pub find-filter : (lines : List A) → find p (filter q lines) ≡ find p lines
   find-filter [] = refl
-  find-filter (line ∷ lines) = elim (cases_Bool (q line)) [
-    | inl here ↦ rw (here, find-filter lines) refl
-    | inr away ↦ rw (away, outside line away) (find-filter lines)
-  ]
+  find-filter (line ∷ lines) =
+      let later = find-filter lines in
+      let out = outside line in grind (arith, later, out)
 
 names_nothing : (name : List ℕ) (option : Option (List ℕ)) → is_some option ≡ false →
     is_name name option ≡ false

@@ -7,8 +7,7 @@ use Rattle.std.proofs.lemmas.Bool.Decides.{nat_tests}
 
 any_step : (here any : Bool) (n len : ℕ) → any ≡ ltb n len →
     (here || any) ≡ ltb (cond (not here) (1 + n) 0) (suc len)
-any_step true any n len e = grind (arith, nat_tests)
-any_step false any n len e = grind (arith, nat_tests)
+any_step here any n len e = grind (arith, nat_tests)
 
 some_when : (test : Bool) (n : ℕ) → is_some (cond test (Some n) None) ≡ test
 some_when true n = refl
