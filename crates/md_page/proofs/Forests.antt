@@ -11,7 +11,7 @@ use Rattle.md_text.specs.Html.{Attribute, Forest, Empty, Text, Void, Element, be
 use Rattle.md_text.specs.Html.{written}
 use Rattle.md_safe.specs.Token.{Token, TokenAttribute, StartTag}
 use Rattle.md_safe.specs.Tokenizer.{IsTokenized}
-use Rattle.md_safe.specs.Tokens.{tokens, seen_attributes}
+use Rattle.md_safe.specs.Tokens.{seen_attributes}
 use Rattle.md_safe.specs.Contents.{Content, Flow, held_in, voids_in, may_say, is_contained}
 use Rattle.md_safe.specs.Built.{has_whole_texts, IsBuiltAsRead}
 use Rattle.md_safe.proofs.WholeTrees.{forest-built}

@@ -1,8 +1,7 @@
 -- The text of a heading by its bytes is that by its tokens.
 use Rattle.std.specs.Str.{bytes_eq}
 use Rattle.std.proofs.Common.{◌≡◌, ℕ, ◌==◌, true, false, cond, List, [], ◌∷◌, ◌++◌, inl, inr, arith}
-use Rattle.std.proofs.Common.{map, drop, refl, ap, ◌∙◌, append_assoc}
-use Rattle.std.proofs.Common.{codes, ne_eqb, eq-eqb}
+use Rattle.std.proofs.Common.{map, drop, refl, ap, ◌∙◌, append_assoc, codes, ne_eqb, eq-eqb}
 use Rattle.std.specs.List.{list_all}
 use Rattle.std.specs.Cmp.Lexicographic.{bytes_decides}
 use Rattle.std.proofs.lemmas.Bool.{and_parts, and_from, and_left, not-true, cond-true, cases_Bool}

@@ -37,9 +37,7 @@ use Rattle.md_page.proofs.Rules.{IsRule}
 
 -- two tests that pass together
 pub both : (a b : Bool) → (a ≡ true → b ≡ true) → (b ≡ true → a ≡ true) → a ≡ b
-both true b f g = sym (f refl)
-both false true f g = g refl
-both false false f g = refl
+both a b f g = grind (arith, f, g)
 
 -- ---- an attribute by its name
 

@@ -1,5 +1,5 @@
 -- A `<` whose tag the rule doesn't pick is passed.
-use Rattle.std.proofs.Common.{◌+◌, true, add-one, arith}
+use Rattle.std.proofs.Common.{◌+◌, add-one, arith}
 use Rattle.std.proofs.lemmas.List.{take_rest}
 use Rattle.md_page.specs.Scan.{picks_of, IsAngleFrom}
 use Rattle.md_page.proofs.Passing.{clear-one}
