@@ -1,13 +1,13 @@
 -- Names and attributes of pieces: the tokenizer takes them as they are, and so are those of the
 -- grammar's tables.
 use Rattle.std.specs.Str.{bytes_eq}
-use Rattle.std.proofs.Common.{◌≡◌, ℕ, ◌==◌, Bool, true, false, not, ◌&&◌, List, [], ◌∷◌, refl}
+use Rattle.std.proofs.Common.{◌≡◌, ℕ, Bool, true, false, ◌&&◌, List, [], ◌∷◌, refl}
 use Rattle.std.proofs.Common.{arith}
 use Rattle.std.specs.List.{list_all, list_any}
 use Rattle.std.proofs.lemmas.Bool.{and_parts, not-true}
 use Rattle.std.proofs.lemmas.Bool.Decides.{nat_tests}
 use Rattle.md_base.proofs.Lies.{lie}
-use Rattle.md_text.specs.Bytes.{is_between, is_letter, is_one_of}
+use Rattle.md_text.specs.Bytes.{is_one_of}
 use Rattle.md_text.specs.References.{is_escaped}
 use Rattle.md_text.specs.Html.{Attribute, is_tag, are_attributes, elements, void_tags}
 use Rattle.md_safe.proofs.Cases.{one_of-passes, all-weaker}
@@ -27,13 +27,9 @@ and3 a b c h =
 good_bytes : (name : List ℕ) → list_all is_name_byte name ≡ true → list_all is_good_byte name ≡ true
 good_bytes name h = all-weaker is_name_byte is_good_byte (λ b own. grind (arith, nat_tests)) name h
 
-letter_begins : (b : ℕ) → is_between 97 122 b ≡ true →
-    (not (b == 33) && (not (b == 47) && is_letter b)) ≡ true
-letter_begins b h = grind (arith, nat_tests)
-
 begins : (name : List ℕ) → begins_with_letter name ≡ true → begins_tag name ≡ true
 begins [] h = lie h
-begins (b ∷ rest) h = letter_begins b h
+begins (b ∷ rest) h = grind (arith, nat_tests)
 
 pub good_name : (name : List ℕ) → is_tag_name name ≡ true → is_good_name name ≡ true
 good_name name h =
