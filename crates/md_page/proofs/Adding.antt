@@ -1,24 +1,20 @@
 -- One more attribute in the pieces that a test picks is one more in their tokens.
 use Rattle.std.specs.Str.{bytes_eq}
-use Rattle.std.proofs.Common.{◌≡◌, ℕ, suc, Bool, true, false, not, cond, List, [], ◌∷◌, ◌++◌}
-use Rattle.std.proofs.Common.{map, filter, refl, sym, ap, ◌∙◌, subst}
+use Rattle.std.proofs.Common.{◌≡◌, ℕ, suc, Bool, true, false, not, cond, List, [], ◌∷◌, ◌++◌, arith}
+use Rattle.std.proofs.Common.{map, filter, refl, sym, ap, ◌∙◌}
 use Rattle.std.specs.List.{list_all, list_any}
 use Rattle.std.specs.Cmp.Lexicographic.{bytes_decides}
-use Rattle.std.proofs.lemmas.Bool.{and_parts, and_from, or_parts, or_from, cond_both, cond-true}
-use Rattle.std.proofs.lemmas.Bool.{cond-false, false_from_ne_true}
+use Rattle.std.proofs.lemmas.Bool.{and_from, cond-true, cond-false, false_from_ne_true}
 use Rattle.std.proofs.lemmas.List.Folds.{list_all-append, list_any-append}
 use Rattle.md_base.proofs.Lies.{lie}
 use Rattle.md_text.specs.References.{is_escaped}
 use Rattle.md_text.specs.Html.{Attribute}
-use Rattle.md_safe.specs.Token.{Token, Character, StartTag}
-use Rattle.md_safe.specs.Token.{TokenAttribute}
-use Rattle.md_safe.specs.Tokens.{seen, seen_attributes, is_listed}
+use Rattle.md_safe.specs.Token.{Token, Character, StartTag, TokenAttribute}
+use Rattle.md_safe.specs.Tokens.{seen, seen_attributes}
 use Rattle.md_safe.specs.SafeTokens.{attributes_pass}
 use Rattle.md_page.specs.Added.{with_attribute, added}
 use Rattle.md_page.specs.Attributed.{is_addition, is_listed_beside}
-use Rattle.md_page.specs.Pieces.{Piece, Words, Opening, Single, Closing}
-use Rattle.md_page.specs.Pieces.{are_plain, is_name}
-use Rattle.md_page.proofs.Plain.{plain_attribute}
+use Rattle.md_page.specs.Pieces.{Piece, Words, Opening, Single, Closing, are_plain, is_name}
 use Rattle.md_page.proofs.Tags.{PicksBy}
 
 -- an attribute as a tokenizer sees it
@@ -86,13 +82,10 @@ pub plain-more : (x : List Attribute) (a : Attribute) → are_plain x ≡ true �
     are_plain (x ++ (a ∷ [])) ≡ true
 plain-more [] a h named escaped fresh = and_from _ _ named (and_from _ _ escaped refl)
 plain-more (b ∷ x) a h named escaped fresh =
-    let p = plain_attribute b x h in
-    let f = or_parts (bytes_eq a.name b.name) (list_any (λ b. bytes_eq a.name b.name) x) fresh in
-    let lone : list_any (λ later. bytes_eq b.name later.name) (x ++ (a ∷ [])) ≡ false =
-    list_any-append (λ later. bytes_eq b.name later.name) x (a ∷ [])
-    ∙ or_from _ _ p.2 (or_from _ _ (other-way a.name b.name f.0) refl) in
-    and_from _ _ p.0 (and_from _ _ p.1
-    (and_from _ _ (ap not lone) (plain-more x a p.3 named escaped f.1)))
+    let later = plain-more x a in
+    let other = other-way a.name b.name in
+    rw (list_any-append (λ later. bytes_eq b.name later.name) x (a ∷ []))
+    (grind (arith, later, other, h, named, escaped, fresh))
 
 -- ---- tests of tokens
 
@@ -102,17 +95,14 @@ pub added-all : (p test : Token → Bool) (attribute : ℕ → TokenAttribute) (
     list_all p x ≡ true → list_all p (added test attribute n x) ≡ true
 added-all p test attribute n [] f h = refl
 added-all p test attribute n (t ∷ x) f h =
-    let q = and_parts (p t) (list_all p x) h in
-    cond_both (test t) (with_attribute t (attribute n) ∷ added test attribute (suc n) x)
-    (t ∷ added test attribute n x) (λ y. list_all p y ≡ true)
-    (λ passes. and_from _ _ (f n t passes q.0) (added-all p test attribute (suc n) x f q.1))
-    (λ _. and_from _ _ q.0 (added-all p test attribute n x f q.1))
+    let this = f n t in
+    let on = added-all p test attribute (suc n) x f in
+    let off = added-all p test attribute n x f in grind (arith, this, on, off, h)
 
 -- one more attribute that passes
 pub passes-more : (q : TokenAttribute → Bool) (t : Token) (a : TokenAttribute) → q a ≡ true →
     attributes_pass q t ≡ true → attributes_pass q (with_attribute t a) ≡ true
-passes-more q (StartTag name x flag) a k h =
-    list_all-append q x (a ∷ []) ∙ and_from _ _ h (and_from _ _ k refl)
+passes-more q (StartTag name x flag) a k h = simp list_all-append (grind (arith, k, h))
 passes-more q t a k h = refl
 
 -- one more attribute that is left out
@@ -130,6 +120,5 @@ pub listed-more : (t : Token) (a : TokenAttribute) → is_addition_to t a ≡ tr
     is_listed_beside t ≡ true →
     is_listed_beside (with_attribute t a) ≡ true
 listed-more (StartTag name x flag) a k h =
-    subst (λ y. is_listed (StartTag name y flag) ≡ true)
-    (sym (filter-more (λ a. not (is_addition name a)) x a (ap not k))) h
+    rw (filter-more (λ a. not (is_addition name a)) x a (ap not k)) h
 listed-more t a k h = h

@@ -7,7 +7,7 @@ use Rattle.std.proofs.Common.{inr, arith, append-nil}
 use Rattle.std.specs.List.{starts_with}
 use Rattle.std.specs.Fmt.{decimal}
 use Rattle.std.specs.Cmp.Lexicographic.{bytes_decides}
-use Rattle.std.proofs.lemmas.Bool.{and_parts, and_from, or_parts, not-true, cases_Bool, cond_both}
+use Rattle.std.proofs.lemmas.Bool.{and_parts, and_from, not-true, cases_Bool, cond_both}
 use Rattle.std.proofs.lemmas.Bool.{cond-true, cond-false}
 use Rattle.std.proofs.lemmas.Fmt.{decimal_injective}
 use Rattle.std.proofs.lemmas.List.{append_cancel_left}
@@ -45,9 +45,7 @@ once (x ∷ xs) d w =
   where
     none : (w : List ℕ) (xs : List (List ℕ)) → is_among w xs ≡ false → occurs w xs ≡ 0
     none w [] h = refl
-    none w (x ∷ xs) h =
-        let p = or_parts (bytes_eq x w) (is_among w xs) h in
-        cond-false (bytes_eq x w) _ _ p.0 ∙ none w xs p.1
+    none w (x ∷ xs) h = let later = none w xs in grind (arith, later, h)
 
 -- ---- tokens with ids added to their headings
 
@@ -69,9 +67,7 @@ count-passed n t x h = ap length (cond-false (gets_id t) _ _ h)
 past-ids : (x y : List TokenAttribute) → has_attribute (codes "id") x ≡ false →
     ids_in (x ++ y) ≡ ids_in y
 past-ids [] y h = refl
-past-ids (a ∷ x) y h =
-    let p = or_parts (bytes_eq (codes "id") a.name) (has_attribute (codes "id") x) h in
-    cond-false (bytes_eq (codes "id") a.name) _ _ p.0 ∙ past-ids x y p.1
+past-ids (a ∷ x) y h = let later = past-ids x y in grind (arith, later, h)
 
 old-none : (t : Token) → gets_id t ≡ true → ids_at t ≡ []
 old-none (StartTag name x flag) h =
@@ -92,25 +88,19 @@ counted : (values : ℕ → List ℕ) (w : List ℕ) (n : ℕ) (x : List Token) 
     ≡ occurs w (ids_among x) + occurs w (values_from values n (length (headings_after n x)))
 counted values w n [] = omega arith
 counted values w n (t ∷ x) = elim (cases_Bool (gets_id t)) [
-  | inl yes_it ↦ (let later = ids_among (added gets_id (id_seen values) (suc n) x) in omega (
-    arith,
-    ap (λ y. occurs w (ids_among y)) (added-this gets_id (id_seen values) n t x yes_it)
-        ∙ ap (λ y. occurs w (y ++ later)) (new-one values n t yes_it),
-    occurs-append w (values n ∷ []) later,
-    ap (λ y. occurs w (y ++ ids_among x)) (old-none t yes_it),
-    ap (λ k. occurs w (values_from values n k)) (count-picked n t x yes_it),
-    occurs-append w (values n ∷ [])
-        (values_from values (suc n) (length (headings_after (suc n) x))),
-    counted values w (suc n) x,
-  ))
-  | inr no_it ↦ omega (
-    arith,
-    ap (λ y. occurs w (ids_among y)) (added-other gets_id (id_seen values) n t x no_it),
-    occurs-append w (ids_at t) (ids_among (added gets_id (id_seen values) n x)),
-    occurs-append w (ids_at t) (ids_among x),
-    ap (λ k. occurs w (values_from values n k)) (count-passed n t x no_it),
-    counted values w n x,
-  )
+  | inl yes_it ↦ (let later = ids_among (added gets_id (id_seen values) (suc n) x) in
+      rw (added-this gets_id (id_seen values) n t x yes_it, new-one values n t yes_it)
+      (rw (old-none t yes_it, count-picked n t x yes_it) (omega (
+        arith,
+        occurs-append w (values n ∷ []) later,
+        occurs-append w (values n ∷ [])
+            (values_from values (suc n) (length (headings_after (suc n) x))),
+        counted values w (suc n) x,
+      ))))
+  | inr no_it ↦
+      rw (added-other gets_id (id_seen values) n t x no_it, count-passed n t x no_it)
+      (rw (occurs-append w (ids_at t) (ids_among (added gets_id (id_seen values) n x)))
+      (rw (occurs-append w (ids_at t) (ids_among x)) (omega (arith, counted values w n x))))
 ]
 
 pub distinct-made : (values : ℕ → List ℕ) (x : List Token) →
@@ -135,8 +125,8 @@ unbegun : (prefix w : List ℕ) (n k : ℕ) → starts_with nat_eq w prefix ≡ 
     occurs w (values_from (numbered prefix) n k) ≡ 0
 unbegun prefix w n zero h = refl
 unbegun prefix w n (suc k) h =
-    occurs-other w (numbered prefix n) _ (λ e. lie (sym h ∙ ap (λ y. starts_with nat_eq y prefix)
-    (sym e) ∙ begins-itself prefix (decimal (suc n)))) ∙ unbegun prefix w (suc n) k h
+    occurs-other w (numbered prefix n) _ (λ e. lie (sym (rw (← e) at h)
+    ∙ begins-itself prefix (decimal (suc n)))) ∙ unbegun prefix w (suc n) k h
 
 -- a text that begins with the prefix isn't among texts that don't
 begun : (prefix w : List ℕ) (xs : List (List ℕ)) → starts_with nat_eq w prefix ≡ true →
@@ -144,8 +134,7 @@ begun : (prefix w : List ℕ) (xs : List (List ℕ)) → starts_with nat_eq w pr
 begun prefix w [] h none = refl
 begun prefix w (x ∷ xs) h none =
     let p = and_parts (not (starts_with nat_eq x prefix)) (none_begins prefix xs) none in
-    occurs-other w x xs (λ e. lie (sym (not-true _ p.0) ∙ ap (λ y. starts_with nat_eq y prefix) e
-    ∙ h)) ∙ begun prefix w xs h p.1
+    occurs-other w x xs (λ e. lie (sym (not-true _ p.0) ∙ rw (← e) at h)) ∙ begun prefix w xs h p.1
 
 -- a number that was given before isn't given again
 none-later : (prefix : List ℕ) (m n k : ℕ) → m < n → n + k < 2 ^ 64 →

@@ -1,6 +1,6 @@
 -- A scan up to the first tag that is picked, and past it, by places.
-use Rattle.std.proofs.Common.{◌≡◌, ℕ, ◌+◌, ◌-◌, ◌≤◌, suc, Bool, true, false, List, [], ◌∷◌, ◌++◌}
-use Rattle.std.proofs.Common.{length, take, drop, sym, ap, ap₂, ◌∙◌, subst, append_assoc}
+use Rattle.std.proofs.Common.{◌≡◌, ℕ, ◌+◌, ◌-◌, ◌≤◌, suc, Bool, true, false, List, ◌++◌, refl}
+use Rattle.std.proofs.Common.{length, take, drop, ap, ◌∙◌, subst, append_assoc}
 use Rattle.std.proofs.Common.{append-nil, slice_range, add-one, arith}
 use Rattle.std.specs.List.{list_all}
 use Rattle.std.proofs.lemmas.List.{take_rest, drop-drop, drop_more, take-append-drop, length-drop}
@@ -8,7 +8,7 @@ use Rattle.std.proofs.lemmas.List.{take_all, drop_all}
 use Rattle.std.proofs.Math.Seq.{take-add}
 use Rattle.md_page.specs.Scan.{differs, IsFirstOf, IsTagAt, IsEndAt, clear, scanned}
 use Rattle.md_page.proofs.Parts.{around}
-use Rattle.md_page.proofs.Scanning.{scanned-picked, scanned-inside, scanned-unclosed}
+use Rattle.md_page.proofs.Scanning.{scanned-inside, scanned-unclosed}
 use Rattle.md_page.proofs.Passing.{clear-scanned, drop-at, take-at}
 
 -- of the bytes from a place on
@@ -22,13 +22,8 @@ into : (picks : List ℕ → Bool) (add : ℕ → List ℕ) (n : ℕ) (text : Li
     scanned picks add false n text
     ≡ take (at + 1) text ++ scanned picks add true n (drop (at + 1) text)
 into picks add n text at h =
-    let tag = drop (suc at) text in
-    clear-scanned picks add n at text h.before
-    ∙ ap (λ x. take at text ++ scanned picks add false n x) (drop-at text at h.within h.angle)
-    ∙ ap (λ x. take at text ++ x) (scanned-picked picks add n tag h.picked)
-    ∙ sym (append_assoc (take at text) (60 ∷ []) (scanned picks add true n tag))
-    ∙ ap (λ x. x ++ scanned picks add true n tag) (sym (take-at text at h.within h.angle))
-    ∙ ap (λ m. take m text ++ scanned picks add true n (drop m text)) (sym (add-one at))
+    rw (clear-scanned picks add n at text h.before, drop-at text at h.within h.angle, h.picked)
+    (rw (add-one at, take-at text at h.within h.angle, append_assoc) refl)
 
 -- to the end of a tag that is picked
 to_end : (picks : List ℕ → Bool) (add : ℕ → List ℕ) (n : ℕ) (text : List ℕ) (at end : ℕ) →
@@ -37,15 +32,9 @@ to_end : (picks : List ℕ → Bool) (add : ℕ → List ℕ) (n : ℕ) (text : 
     ≡ take (at + end) text ++ (add n ++ scanned picks add false (suc n) (drop (at + end) text))
 to_end picks add n text at end h =
     let tag = drop at text in
-    let later = scanned picks add false (suc n) (drop (end + 1) tag) in
-    ap (λ x. take at text ++ scanned picks add true n x) (around 62 tag end h)
-    ∙ ap (λ x. take at text ++ x)
-    (scanned-inside picks add n (take end tag) (drop (end + 1) tag) h.before)
-    ∙ sym (append_assoc (take at text) (take end tag) (add n ++ (62 ∷ later)))
-    ∙ ap (λ x. x ++ (add n ++ (62 ∷ later))) (sym (take-add at end text))
-    ∙ ap (λ x. take (at + end) text ++ (add n ++ scanned picks add false (suc n) x))
-    (sym (ap (λ b. b ∷ drop (end + 1) tag) h.is) ∙ sym (drop_more tag end 0 h.within)
-    ∙ drop-drop end at text)
+    let inside = scanned-inside picks add n (take end tag) (drop (end + 1) tag) h.before in
+    rw (rw (← around 62 tag end h) at inside, take-add at end text, ← drop-drop end at text)
+    (rw (drop_more tag end 0 h.within, h.is) (simp append_assoc))
 
 -- up to the end of the first tag that is picked
 pub picked : (picks : List ℕ → Bool) (add : ℕ → List ℕ) (n : ℕ) (text : List ℕ) (at end : ℕ) →
@@ -61,17 +50,15 @@ pub unended : (picks : List ℕ → Bool) (add : ℕ → List ℕ) (n : ℕ) (te
     IsTagAt picks text at →
     list_all (differs 62) (drop (at + 1) text) ≡ true → scanned picks add false n text ≡ text
 unended picks add n text at h none =
-    into picks add n text at h
-    ∙ ap (λ x. take (at + 1) text ++ x) (scanned-unclosed picks add n (drop (at + 1) text) none)
-    ∙ take-append-drop (at + 1) text
+    rw (into picks add n text at h, scanned-unclosed picks add n (drop (at + 1) text) none)
+    (take-append-drop (at + 1) text)
 
 -- no tag is picked
 pub done : (picks : List ℕ → Bool) (add : ℕ → List ℕ) (n : ℕ) (text : List ℕ) →
     clear picks (length text) text ≡ true → scanned picks add false n text ≡ text
 done picks add n text h =
-    clear-scanned picks add n (length text) text h
-    ∙ ap₂ (λ x y. x ++ scanned picks add false n y) (take_all (length text) text (omega arith))
-    (drop_all (length text) text (omega arith)) ∙ append-nil text
+    rw (clear-scanned picks add n (length text) text h, take_all (length text) text (omega arith))
+    (rw (drop_all (length text) text (omega arith)) (append-nil text))
 
 -- ---- one iteration of the loop that writes the text
 
@@ -86,13 +73,7 @@ pub turned : (picks : List ℕ → Bool) (add : ℕ → List ℕ) (n : ℕ) (res
     (n + 1 + length rest' ≤ n + length rest)
     × (out'' ++ scanned picks add false (n + 1) rest' ≡ whole)
 turned picks add n rest end out place scan first fronted second added later all =
-    let on = scanned picks add false (suc n) (drop end rest) in
     let whole : end - 0 ≡ end = omega arith in (
       omega (arith, place.0, place.1, ap length later, length-drop end rest),
-      ap₂ (λ x y. x ++ y) (second ∙ ap₂ (λ x y. x ++ y)
-          (first ∙ ap (λ x. out ++ x) (fronted ∙ ap (λ m. take m rest) whole)) added)
-          (ap₂ (λ m x. scanned picks add false m x) (add-one n) later)
-          ∙ append_assoc (out ++ take end rest) (add n) on
-          ∙ append_assoc out (take end rest) (add n ++ on)
-          ∙ ap (λ x. out ++ x) (sym scan) ∙ all,
+      rw (second, first, fronted, whole, added, add-one n, later, ← all, scan) (simp append_assoc),
     )

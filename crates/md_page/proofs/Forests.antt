@@ -1,5 +1,5 @@
 -- One more attribute in the tags of a forest: it is written, contained and built as before.
-use Rattle.std.proofs.Common.{◌≡◌, ℕ, suc, Bool, true, false, not, ◌&&◌, List, [], ◌∷◌, ◌++◌}
+use Rattle.std.proofs.Common.{◌≡◌, ℕ, suc, Bool, true, false, not, ◌&&◌, List, [], ◌∷◌, ◌++◌, arith}
 use Rattle.std.proofs.Common.{refl, sym, ap, ap₂, ◌∙◌, subst, inl, inr}
 use Rattle.std.specs.Prelude.{Option, Some, None}
 use Rattle.std.specs.Option.{option_map_or}
@@ -9,9 +9,9 @@ use Rattle.md_text.specs.Bytes.{is_one_of}
 use Rattle.md_text.specs.References.{is_escaped}
 use Rattle.md_text.specs.Html.{Attribute, Forest, Empty, Text, Void, Element, begins_with_text}
 use Rattle.md_text.specs.Html.{written}
-use Rattle.md_safe.specs.Token.{Token, TokenAttribute, StartTag, EndOfFile}
+use Rattle.md_safe.specs.Token.{Token, TokenAttribute, StartTag}
 use Rattle.md_safe.specs.Tokenizer.{IsTokenized}
-use Rattle.md_safe.specs.Tokens.{tokens, seen_attributes}
+use Rattle.md_safe.specs.Tokens.{seen_attributes}
 use Rattle.md_safe.specs.Contents.{Content, Flow, held_in, voids_in, may_say, is_contained}
 use Rattle.md_safe.specs.Built.{has_whole_texts, IsBuiltAsRead}
 use Rattle.md_safe.proofs.WholeTrees.{forest-built}
@@ -31,12 +31,8 @@ use Rattle.md_page.proofs.Rules.{IsRule, changes}
 
 plain-texts : (f : Forest) → is_plain_forest f ≡ true → has_whole_texts f ≡ true
 plain-texts Empty h = refl
-plain-texts (Text bytes rest) h =
-    let p = and3 (is_nonempty bytes) (is_escaped bytes) _ h in
-    let q = and_parts (not (begins_with_text rest)) (is_plain_forest rest) p.2 in
-    and_from _ _ (and_from _ _ (and_from _ _ p.0 p.1) q.0) (plain-texts rest q.1)
-plain-texts (Void name x rest) h =
-    plain-texts rest (and3 (is_one_of void_names name) (are_plain x) _ h).2
+plain-texts (Text bytes rest) h = let later = plain-texts rest in grind (arith, later, h)
+plain-texts (Void name x rest) h = let later = plain-texts rest in grind (arith, later, h)
 plain-texts (Element name x inner rest) h =
     let p = and_parts _ _ (and3 (is_tag_name name) (are_plain x) _ h).2 in
     and_from _ _ (plain-texts inner p.0) (plain-texts rest p.1)
@@ -139,9 +135,8 @@ built-so f text h e c = record {
   plain = h;
   written_so = e;
   contained = c;
-  tokenized = subst (λ t. IsTokenized t (tokens f ++ (EndOfFile ∷ []))) (whole-written f ∙ e)
-      (subst (IsTokenized (all_written (pieces_of f []))) (pieces-tokens f [])
-      (pieces-run (pieces_of f []) (plain-sound f [] h refl refl)));
+  tokenized = rw (← e, ← whole-written f, ← pieces-tokens f [])
+      (pieces-run (pieces_of f []) (plain-sound f [] h refl refl));
   builds = forest-built f (plain-texts f h) c;
 }
 

@@ -1,29 +1,24 @@
 -- What a safe text is read as, piece by piece.
-use Rattle.std.specs.Str.{bytes_eq}
-use Rattle.std.proofs.Common.{◌≡◌, ℕ, Bool, true, false, not, ◌&&◌, List, [], ◌∷◌, ◌++◌, map}
-use Rattle.std.proofs.Common.{filter, refl, sym, ap, ◌∙◌, subst, append-nil, append_assoc}
+use Rattle.std.proofs.Common.{◌≡◌, ℕ, Bool, true, not, List, [], ◌∷◌, ◌++◌, arith}
+use Rattle.std.proofs.Common.{filter, refl, sym, ◌∙◌, subst, append-nil, append_assoc}
 use Rattle.std.specs.List.{list_all}
-use Rattle.std.proofs.lemmas.Bool.{and_parts, and_from, or_left, or_right, cond_both}
+use Rattle.std.proofs.lemmas.Bool.{and_parts, and_from}
 use Rattle.md_base.proofs.Lies.{lie}
-use Rattle.md_base.specs.Identifier.{is_nonempty}
 use Rattle.md_text.specs.Bytes.{is_one_of}
-use Rattle.md_text.specs.References.{is_escaped}
 use Rattle.md_text.specs.Html.{Forest, Empty, Text, Void, Element, is_forest, is_tag}
-use Rattle.md_text.specs.Html.{begins_with_text, elements, void_tags, written, written_attributes}
-use Rattle.md_text.specs.Html.{HasOneReadingWith, all_attributes}
+use Rattle.md_text.specs.Html.{begins_with_text, elements, void_tags, written, HasOneReadingWith}
 use Rattle.md_text.specs.Safe.{is_safe_link, is_safe_image}
-use Rattle.md_safe.specs.Token.{Token, Character, StartTag, EndTag, EndOfFile, TokenAttribute}
-use Rattle.md_safe.specs.Tokens.{tokens, seen, seen_attributes, is_listed, is_tag_of}
+use Rattle.md_safe.specs.Token.{Token, StartTag, EndOfFile, TokenAttribute}
+use Rattle.md_safe.specs.Tokens.{tokens, is_listed, is_tag_of}
 use Rattle.md_safe.specs.SafeTokens.{has_safe_links, has_safe_images}
-use Rattle.md_safe.proofs.Cases.{either, all-weaker}
+use Rattle.md_safe.proofs.Cases.{all-weaker}
 use Rattle.md_safe.proofs.TokenTests.{all-append, all-tokens, forest-listed}
 use Rattle.md_safe.proofs.SafeTokens.{links-pass, images-pass}
 use Rattle.md_page.specs.Attributed.{is_addition, is_listed_beside}
 use Rattle.md_page.specs.Built.{is_plain_forest}
 use Rattle.md_page.specs.Pieces.{Piece, Words, Opening, Single, Closing, all_written, all_tokens}
-use Rattle.md_page.specs.Pieces.{are_sound, are_plain, is_tag_name, void_names, begins_with_words}
-use Rattle.md_page.specs.Pieces.{IsWritten}
-use Rattle.md_page.proofs.Plain.{and3, element-plain, void-plain}
+use Rattle.md_page.specs.Pieces.{are_plain, is_tag_name, are_sound, begins_with_words, IsWritten}
+use Rattle.md_page.proofs.Plain.{element-plain, void-plain, and3}
 
 -- the pieces of a forest, and what follows them
 abbrev pub pieces_of : Forest → List Piece → List Piece
@@ -36,31 +31,20 @@ pieces_of (Element name x children rest) more =
 pieces-written : (f : Forest) (more : List Piece) →
     all_written (pieces_of f more) ≡ written f ++ all_written more
 pieces-written Empty more = refl
-pieces-written (Text bytes rest) more =
-    ap (λ y. bytes ++ y) (pieces-written rest more)
-    ∙ sym (append_assoc bytes (written rest) (all_written more))
-pieces-written (Void name x rest) more =
-    ap (λ y. 60 ∷ (name ++ (written_attributes x ++ (32 ∷ 47 ∷ 62 ∷ y)))) (pieces-written rest more)
-    ∙ simp append_assoc
+pieces-written (Text bytes rest) more = simp (pieces-written rest more, append_assoc)
+pieces-written (Void name x rest) more = simp (pieces-written rest more, append_assoc)
 pieces-written (Element name x inner rest) more =
-    ap (λ y. 60 ∷ (name ++ (written_attributes x ++ (62 ∷ y))))
-    (pieces-written inner (Closing name ∷ pieces_of rest more)
-    ∙ ap (λ y. written inner ++ (60 ∷ 47 ∷ (name ++ (62 ∷ y)))) (pieces-written rest more))
-    ∙ simp append_assoc
+    rw (pieces-written inner (Closing name ∷ pieces_of rest more), pieces-written rest more)
+    (simp append_assoc)
 
 pub pieces-tokens : (f : Forest) (more : List Piece) →
     all_tokens (pieces_of f more) ≡ tokens f ++ all_tokens more
 pieces-tokens Empty more = refl
-pieces-tokens (Text bytes rest) more =
-    ap (λ y. map Character (seen bytes) ++ y) (pieces-tokens rest more)
-    ∙ sym (append_assoc (map Character (seen bytes)) (tokens rest) (all_tokens more))
-pieces-tokens (Void name x rest) more =
-    ap (λ y. StartTag name (seen_attributes x) true ∷ y) (pieces-tokens rest more)
+pieces-tokens (Text bytes rest) more = simp (pieces-tokens rest more, append_assoc)
+pieces-tokens (Void name x rest) more = rw (pieces-tokens rest more) refl
 pieces-tokens (Element name x inner rest) more =
-    ap (λ y. StartTag name (seen_attributes x) false ∷ y)
-    (pieces-tokens inner (Closing name ∷ pieces_of rest more)
-    ∙ ap (λ y. tokens inner ++ (EndTag name ∷ y)) (pieces-tokens rest more)
-    ∙ sym (append_assoc (tokens inner) (EndTag name ∷ tokens rest) (all_tokens more)))
+    rw (pieces-tokens inner (Closing name ∷ pieces_of rest more), pieces-tokens rest more)
+    (simp append_assoc)
 
 -- no text follows a text
 pub alone : (f : Forest) (more : List Piece) → not (begins_with_text f) ≡ true →
@@ -73,11 +57,7 @@ alone f more h k = refl
 -- a forest of the grammar's tables has such texts, names and attributes, and sound pieces
 pub forest-plain : (f : Forest) → is_forest f ≡ true → is_plain_forest f ≡ true
 forest-plain Empty h = refl
-forest-plain (Text bytes rest) h =
-    let p = and_parts _ (is_forest rest) h in
-    let q = and_parts _ (not (begins_with_text rest)) p.0 in
-    let r = and_parts (is_nonempty bytes) (is_escaped bytes) q.0 in
-    and_from _ _ r.0 (and_from _ _ r.1 (and_from _ _ q.1 (forest-plain rest p.1)))
+forest-plain (Text bytes rest) h = let later = forest-plain rest in grind (arith, later, h)
 forest-plain (Void name x rest) h =
     let p = and_parts (is_tag void_tags name x) (is_forest rest) h in
     let plain = void-plain name x p.0 in
@@ -86,20 +66,18 @@ forest-plain (Element name x inner rest) h =
     let p = and_parts _ (is_forest rest) h in
     let q = and_parts (is_tag elements name x) (is_forest inner) p.0 in
     let plain = element-plain name x q.0 in
-    and_from _ _ plain.0 (and_from _ _ plain.1
-    (and_from _ _ (forest-plain inner q.1) (forest-plain rest p.1)))
+    let within = forest-plain inner q.1 in
+    let later = forest-plain rest p.1 in grind (arith, plain.0, plain.1, within, later)
 
 pub plain-sound : (f : Forest) (more : List Piece) → is_plain_forest f ≡ true →
     not (begins_with_words more) ≡ true →
     are_sound more ≡ true → are_sound (pieces_of f more) ≡ true
 plain-sound Empty more h n s = s
 plain-sound (Text bytes rest) more h n s =
-    let p = and3 (is_nonempty bytes) (is_escaped bytes) _ h in
-    let q = and_parts _ (is_plain_forest rest) p.2 in
-    and_from _ _ p.1 (and_from _ _ (alone rest more q.0 n) (plain-sound rest more q.1 n s))
+    let lone = alone rest more in
+    let later = plain-sound rest more in grind (arith, lone, later, h, n, s)
 plain-sound (Void name x rest) more h n s =
-    let p = and3 (is_one_of void_names name) (are_plain x) (is_plain_forest rest) h in
-    and_from _ _ p.0 (and_from _ _ p.1 (plain-sound rest more p.2 n s))
+    let later = plain-sound rest more in grind (arith, later, h, n, s)
 plain-sound (Element name x inner rest) more h n s =
     let p = and3 (is_tag_name name) (are_plain x) _ h in
     let q = and_parts (is_plain_forest inner) (is_plain_forest rest) p.2 in
@@ -115,21 +93,15 @@ whole-written f = pieces-written f [] ∙ append-nil (written f)
 filter-all : (p keep : TokenAttribute → Bool) (x : List TokenAttribute) → list_all p x ≡ true →
     list_all p (filter keep x) ≡ true
 filter-all p keep [] h = refl
-filter-all p keep (a ∷ x) h =
-    let q = and_parts (p a) (list_all p x) h in
-    cond_both (keep a) (a ∷ filter keep x) (filter keep x) (λ y. list_all p y ≡ true)
-    (λ _. and_from _ _ q.0 (filter-all p keep x q.1)) (λ _. filter-all p keep x q.1)
+filter-all p keep (a ∷ x) h = let later = filter-all p keep x in grind (arith, later, h)
 
 tag-filter : (rules : List (List ℕ × List (List ℕ))) (name : List ℕ) (keep : TokenAttribute → Bool)
     (x : List TokenAttribute) → is_tag_of rules name x ≡ true →
     is_tag_of rules name (filter keep x) ≡ true
 tag-filter [] name keep x h = h
 tag-filter (rule ∷ rules) name keep x h =
-    let listed = λ (a : TokenAttribute). is_one_of rule.1 a.name in
-    either (bytes_eq rule.0 name && list_all listed x) (is_tag_of rules name x) h
-    (λ this. (let r = and_parts (bytes_eq rule.0 name) (list_all listed x) this in
-    or_left _ _ (and_from _ _ r.0 (filter-all listed keep x r.1))))
-    (λ later. or_right _ _ (tag-filter rules name keep x later))
+    let this = filter-all (λ a. is_one_of rule.1 a.name) keep x in
+    let later = tag-filter rules name keep x in grind (arith, this, later, h)
 
 beside : (t : Token) → is_listed t ≡ true → is_listed_beside t ≡ true
 beside (StartTag name x flag) h = tag-filter _ name (λ a. not (is_addition name a)) x h
@@ -160,6 +132,5 @@ written-safe text links images =
       safe_images =
           forest-passes has_safe_images f refl
           (all-tokens has_safe_images is_safe_image images-pass f h
-          (subst (λ f. all_attributes is_safe_image f ≡ true)
-          (sym (images.only f links.reading)) images.passes));
+          (rw (images.only f links.reading) images.passes));
     }

@@ -1,26 +1,22 @@
 -- The page around a title and a safe text.
-use Rattle.std.proofs.Common.{◌≡◌, ℕ, true, List, [], ◌∷◌, ◌++◌, refl, sym, ap, ◌∙◌}
-use Rattle.std.proofs.Common.{ap₂, subst}
-use Rattle.std.specs.List.{list_all}
+use Rattle.std.proofs.Common.{◌≡◌, ℕ, true, List, [], ◌∷◌, refl, ap, ◌∙◌}
 use Rattle.std.proofs.lemmas.Bool.{and_from}
 use Rattle.std.proofs.lemmas.List.{append-nil}
 use Rattle.md_text.specs.Encode.{encoded}
 use Rattle.md_text.specs.References.{is_escaped, read_back}
-use Rattle.md_text.specs.Html.{Forest, Empty, Text, written, all_attributes}
-use Rattle.md_text.specs.Safe.{is_safe_image}
+use Rattle.md_text.specs.Html.{Forest, Empty, Text, written}
 use Rattle.md_text.proofs.EncodeLaws.{is_escaped-encoded, read_back-encoded}
-use Rattle.md_safe.specs.Tokenizer.{IsTokenized}
-use Rattle.md_safe.specs.PageTokens.{page_tokens, IsTokenizedPage}
+use Rattle.md_safe.specs.PageTokens.{IsTokenizedPage}
 use Rattle.md_safe.proofs.PageRuns.{page-tokenized}
 use Rattle.md_safe.specs.Built.{IsBuiltAsRead}
 use Rattle.md_safe.specs.Page.{IsBuiltPage}
-use Rattle.md_safe.proofs.TreeSteps.{is_character, seen-characters}
+use Rattle.md_safe.proofs.TreeSteps.{seen-characters}
 use Rattle.md_safe.proofs.Pages.{text-page-built}
 use Rattle.md_html.specs.Safe.{IsSafe}
 use Rattle.md_page.specs.Added.{shown}
 use Rattle.md_page.specs.Page.{is_title, IsPage, IsPageOf, page_text}
 use Rattle.md_page.proofs.LinkRule.{seen-encoded}
-use Rattle.md_page.proofs.Pages.{before_title, before_body, after_body, page_written, one_page}
+use Rattle.md_page.proofs.Pages.{page_written, one_page}
 
 -- a text as a title
 abbrev titled_by : List ℕ → Forest
@@ -44,10 +40,8 @@ page_given title body text e safe =
     let page : IsPage text head inside = record {
       title_is_text = titled_by-title escaped (is_escaped-encoded title);
       body_in_grammar = safe.safe_links.reading.in_grammar;
-      written_so =
-          e ∙ sym (page_written head inside
-          ∙ ap₂ (λ t b. before_title ++ (t ++ (before_body ++ (b ++ after_body))))
-          (titled_by-written escaped) safe.safe_links.reading.written_so);
+      written_so = rw (e, page_written head inside, titled_by-written escaped)
+          (rw safe.safe_links.reading.written_so refl);
     }
     in
     record {
@@ -60,8 +54,7 @@ page_given title body text e safe =
       reading = safe.safe_links.reading;
       safe_links = safe.safe_links.passes;
       safe_images =
-          subst (λ f. all_attributes is_safe_image f ≡ true)
-          (sym (safe.safe_images.only inside safe.safe_links.reading)) safe.safe_images.passes;
+          rw (safe.safe_images.only inside safe.safe_links.reading) safe.safe_images.passes;
     }
 
 -- the same in the Standard's words
@@ -69,9 +62,8 @@ pub page_emitted : (title body text : List ℕ) → text ≡ page_text title bod
     IsTokenizedPage (shown title) body text
 page_emitted title body text e safe =
     let escaped = encoded true title in
-    subst (λ t. IsTokenizedPage (shown title) body t) (sym e)
-    (subst (λ c. IsTokenizedPage c body (page_text title body)) (seen-encoded title)
-    (page-tokenized escaped body (is_escaped-encoded title) safe.safe_links safe.safe_images))
+    rw (e, ← seen-encoded title)
+    (page-tokenized escaped body (is_escaped-encoded title) safe.safe_links safe.safe_images)
 
 -- and the document is built of it, where the body's text is built as it is read
 pub page_constructed : (title body text : List ℕ) → text ≡ page_text title body → IsSafe body →
@@ -84,10 +76,7 @@ page_constructed title body text e safe built =
       inside = built.forest;
       reading = built.reading;
       only = built.only;
-      tokenized = subst (λ f. IsTokenized text (page_tokens (shown title) f))
-          (built.only emitted.inside emitted.reading) emitted.tokenized;
+      tokenized = rw (built.only emitted.inside emitted.reading) at emitted.tokenized;
       built = text-page-built (shown title) body
-          (subst (λ t. list_all is_character t ≡ true) (seen-encoded title)
-          (seen-characters escaped (is_escaped-encoded title)))
-          built;
+          (rw (← seen-encoded title) (seen-characters escaped (is_escaped-encoded title))) built;
     }

@@ -1,8 +1,8 @@
 -- Where the ids of a text and those that its headings get are distinct, so are those of the text
 -- that is made.
-use Rattle.std.proofs.Common.{◌≡◌, ℕ, suc, true, false, List, [], ◌∷◌, ◌++◌, length, refl, sym, ap}
-use Rattle.std.proofs.Common.{◌∙◌, inl, inr, arith}
-use Rattle.std.proofs.lemmas.Bool.{cases_Bool, cond-true, cond-false}
+use Rattle.std.proofs.Common.{◌≡◌, ℕ, suc, true, false, List, [], ◌∷◌, ◌++◌, length, refl, ap}
+use Rattle.std.proofs.Common.{arith}
+use Rattle.std.proofs.lemmas.Bool.{cond-true, cond-false}
 use Rattle.md_text.specs.Ids.{are_distinct}
 use Rattle.md_text.proofs.HtmlIds.{occurs, occurs-append}
 use Rattle.md_safe.specs.Token.{Token}
@@ -10,7 +10,7 @@ use Rattle.md_page.specs.Added.{gets_id, shown, headings_after}
 use Rattle.md_page.specs.GivenIds.{id_text, with_given_ids, ids_after, ids_given}
 use Rattle.md_page.specs.Ids.{ids_among}
 pub use Rattle.md_page.proofs.Adding.{other-way}
-use Rattle.md_page.proofs.Distinct.{once, values_from, count-picked, count-passed, distinct-made}
+use Rattle.md_page.proofs.Distinct.{once, values_from, distinct-made}
 
 pub after-picked : (ids : List (List ℕ)) (n : ℕ) (t : Token) (x : List Token) →
     gets_id t ≡ true →
@@ -27,14 +27,9 @@ given ids n = shown (id_text ids n)
 given-values : (ids : List (List ℕ)) (n : ℕ) (x : List Token) →
     ids_after ids n x ≡ values_from (given ids) n (length (headings_after n x))
 given-values ids n [] = refl
-given-values ids n (t ∷ x) = elim (cases_Bool (gets_id t)) [
-  | inl yes_it ↦
-      after-picked ids n t x yes_it ∙ ap (λ y. given ids n ∷ y) (given-values ids (suc n) x)
-      ∙ sym (ap (values_from (given ids) n) (count-picked n t x yes_it))
-  | inr no_it ↦
-      after-passed ids n t x no_it ∙ given-values ids n x
-      ∙ sym (ap (values_from (given ids) n) (count-passed n t x no_it))
-]
+given-values ids n (t ∷ x) =
+    let on = given-values ids (suc n) x in
+    let off = given-values ids n x in grind (arith, on, off)
 
 pub distinct-given : (ids : List (List ℕ)) (x : List Token) →
     are_distinct (ids_among x ++ ids_given ids x) ≡ true →

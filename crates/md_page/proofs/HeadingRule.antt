@@ -1,7 +1,7 @@
 -- A heading that gets an `id`: its bytes decide the same as its token.
 use Rattle.std.specs.Str.{bytes_eq}
-use Rattle.std.specs.Prelude.{is_none, nat_le}
-use Rattle.std.proofs.Common.{◌≡◌, ℕ, ◌+◌, ◌≤◌, ◌==◌, suc, true, false, not, ◌&&◌, List, []}
+use Rattle.std.specs.Prelude.{is_none}
+use Rattle.std.proofs.Common.{◌≡◌, ℕ, ◌+◌, ◌==◌, suc, true, false, not, ◌&&◌, List, []}
 use Rattle.std.proofs.Common.{◌∷◌, ◌++◌, length, refl, sym, ap, ◌∙◌, subst, append_assoc}
 use Rattle.std.proofs.Common.{codes, ne_eqb, arith, add-one}
 use Rattle.std.specs.List.{list_all}
@@ -9,7 +9,8 @@ use Rattle.std.specs.Option.{option_map_or}
 use Rattle.std.specs.Fmt.{decimal}
 use Rattle.std.specs.Cmp.Lexicographic.{bytes_decides}
 use Rattle.std.proofs.lemmas.Bool.{and_parts, and_from, and_left, and_right, not-true, or_right}
-use Rattle.std.proofs.lemmas.Bool.{eqb-true, leb-true, agree_below_at, false_from_ne_true}
+use Rattle.std.proofs.lemmas.Bool.{false_from_ne_true}
+use Rattle.std.proofs.lemmas.Bool.Decides.{nat_tests}
 use Rattle.md_base.proofs.Lies.{lie}
 use Rattle.md_text.specs.Bytes.{is_one_of, is_between}
 use Rattle.md_text.specs.Encode.{encoded}
@@ -31,7 +32,7 @@ use Rattle.md_page.proofs.Numbers.{numbered-escaped, numbered-seen}
 use Rattle.md_page.proofs.Tags.{PicksBy, name-differs, all-join, attributes-differ, closes}
 use Rattle.md_page.proofs.Adding.{seen_new, is_addition_to}
 use Rattle.md_page.proofs.Rules.{IsRule}
-use Rattle.md_page.proofs.LinkRule.{both, value_of-found, none-found, before-attributes, same-names}
+use Rattle.md_page.proofs.LinkRule.{value_of-found, none-found, before-attributes, same-names}
 use Rattle.md_page.proofs.LinkRule.{seen-encoded}
 
 -- ---- the six names
@@ -62,18 +63,7 @@ no_heading name f =
 
 -- two bytes that begin a heading are its name
 pair-named : (b c : ℕ) → ((b == 104) && is_between 49 54 c) ≡ is_one_of heading_names (b ∷ c ∷ [])
-pair-named b c =
-    both ((b == 104) && is_between 49 54 c) (is_one_of heading_names (b ∷ c ∷ []))
-    (λ h. (let p = and_parts (b == 104) (is_between 49 54 c) h in
-    subst (λ b. is_one_of heading_names (b ∷ c ∷ []) ≡ true) (sym (eqb-true b 104 p.0))
-    (level c p.1)))
-    (λ h. by_heading (λ n. begins_heading n ≡ true) refl refl refl refl refl refl (b ∷ c ∷ []) h)
-  where
-    level : (c : ℕ) → is_between 49 54 c ≡ true → is_one_of heading_names (104 ∷ c ∷ []) ≡ true
-    level c h =
-        let high : c ≤ 54 = leb-true c 54 (and_parts (nat_le 49 c) (nat_le c 54) h).1 in
-        sym (agree_below_at (is_between 49 54) (λ c. is_one_of heading_names (104 ∷ c ∷ []))
-        55 c refl (omega arith)) ∙ h
+pair-named b c = grind (arith, nat_tests)
 
 -- ---- the tag
 
@@ -98,9 +88,7 @@ picks-name (b ∷ []) x r l n h =
     and_left _ _ (short b x r)
     ∙ sym (and_left _ _ (no_heading (b ∷ []) (λ e. omega (arith, e))))
 picks-name (b ∷ c ∷ []) x r l n h =
-    ap (λ v. ((b == 104) && is_between 49 54 c) && option_map_or want_id v false)
-    (before-attributes x r h) ∙ ap (λ t. t && want_id (written_attributes x)) (pair-named b c)
-    ∙ ap (λ t. is_one_of heading_names (b ∷ c ∷ []) && t) (wants-id x h)
+    rw (before-attributes x r h, wants-id x h, pair-named b c) refl
 picks-name (b ∷ c ∷ d ∷ name) x r l n h =
     let p = and3 (is_name_byte b) (is_name_byte c) (list_all is_name_byte (d ∷ name)) n in
     let third = (and_parts (is_name_byte d) (list_all is_name_byte name) p.2).0 in
@@ -182,10 +170,4 @@ given-rule ids =
 -- an `id` as it is written piece by piece
 pub id-written : (prefix start : List ℕ) (n : ℕ) → start ≡ codes " id=\"" ++ encoded true prefix →
     start ++ (decimal (n + 1) ++ (34 ∷ [])) ≡ written_attributes (new_id prefix n ∷ [])
-id-written prefix start n e =
-    let last = decimal (n + 1) ++ (34 ∷ []) in
-    let whole : (codes " id=\"" ++ encoded true prefix) ++ last
-    ≡ codes " id=\"" ++ ((encoded true prefix ++ decimal (n + 1)) ++ (34 ∷ [])) =
-    simp append_assoc in
-    ap (λ s. s ++ last) e ∙ whole
-    ∙ ap (λ m. codes " id=\"" ++ ((encoded true prefix ++ decimal m) ++ (34 ∷ []))) (add-one n)
+id-written prefix start n e = rw (e, add-one n) (simp append_assoc)

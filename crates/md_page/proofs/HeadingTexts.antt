@@ -1,11 +1,10 @@
 -- The text of a heading by its bytes is that by its tokens.
 use Rattle.std.specs.Str.{bytes_eq}
-use Rattle.std.proofs.Common.{◌≡◌, ℕ, ◌==◌, Bool, true, false, not, ◌&&◌, cond, List, [], ◌∷◌, ◌++◌}
-use Rattle.std.proofs.Common.{map, drop, refl, sym, ap, ap₂, ◌∙◌, subst, append_assoc}
-use Rattle.std.proofs.Common.{codes, ne_eqb, eq-eqb}
+use Rattle.std.proofs.Common.{◌≡◌, ℕ, ◌==◌, true, false, cond, List, [], ◌∷◌, ◌++◌, inl, inr, arith}
+use Rattle.std.proofs.Common.{map, drop, refl, ap, ◌∙◌, append_assoc, codes, ne_eqb, eq-eqb}
 use Rattle.std.specs.List.{list_all}
 use Rattle.std.specs.Cmp.Lexicographic.{bytes_decides}
-use Rattle.std.proofs.lemmas.Bool.{and_parts, and_from, and_left, not-true, cond-true}
+use Rattle.std.proofs.lemmas.Bool.{and_parts, and_from, and_left, not-true, cond-true, cases_Bool}
 use Rattle.std.proofs.lemmas.Bool.{cond-false}
 use Rattle.md_base.proofs.Lies.{lie}
 use Rattle.md_text.specs.Bytes.{is_one_of, is_between}
@@ -21,7 +20,7 @@ use Rattle.md_safe.specs.Token.{Token, Character}
 use Rattle.md_safe.specs.Tokens.{seen}
 use Rattle.md_safe.proofs.EscapedCases.{by_escaped, begins-is}
 use Rattle.md_safe.proofs.LineFeeds.{one-append, line_feeds-escaped}
-use Rattle.md_safe.proofs.Steps.{past, plain-ne}
+use Rattle.md_safe.proofs.Steps.{plain-ne}
 use Rattle.md_page.specs.Added.{characters_before}
 use Rattle.md_page.specs.Pieces.{Piece, Words, Opening, Single, Closing, all_written, all_tokens}
 use Rattle.md_page.specs.Pieces.{are_sound, are_plain, is_name_byte, is_tag_name, void_names}
@@ -39,11 +38,8 @@ use Rattle.md_page.proofs.LinkRule.{both}
 encoded-back : (x : List ℕ) → is_escaped x ≡ true → encoded true (read_back x) ≡ x
 encoded-back x h =
     by_escaped (λ x. encoded true (read_back x) ≡ x) refl
-    (λ b rest p later.
-    ap (encoded true) (read_back-other b rest (plain-ne b p))
-    ∙ ap (λ y. y ++ encoded true (read_back rest))
-    (encoded_byte-plain true b p.no_nul p.no_and p.no_quote p.no_less p.no_more)
-    ∙ ap (λ y. b ∷ y) later)
+    (λ b rest p later. rw (read_back-other b rest (plain-ne b p))
+    (rw (encoded_byte-plain true b p.no_nul p.no_and p.no_quote p.no_less p.no_more, later) refl))
     (λ rest later. ap (λ y. codes "&amp;" ++ y) later)
     (λ rest later. ap (λ y. codes "&quot;" ++ y) later)
     (λ rest later. ap (λ y. codes "&lt;" ++ y) later)
@@ -68,33 +64,22 @@ pub text-run : (digit : ℕ) (x r : List ℕ) → list_all (differs 60) x ≡ tr
 text-run digit [] r h n = refl
 text-run digit (b ∷ x) r h n =
     let p = and_parts (differs 60 b) (list_all (differs 60) x) h in
-    past _ (not-true (b == 60) p.0)
-    (ap₂ (λ y z. y ++ z) (lined-append b x r n) (text-run digit x r p.1 n))
-    ∙ sym (append_assoc (lined_byte b x) (with_line_feeds x) (text_before digit false r))
-    ∙ ap (λ y. y ++ text_before digit false r) (sym (lined-step b x))
+    rw (not-true (b == 60) p.0, lined-append b x r n, text-run digit x r p.1 n, lined-step b x)
+    (rw append_assoc refl)
 
 pub past-run : (x r : List ℕ) → list_all (differs 62) x ≡ true → past_angle (x ++ (62 ∷ r)) ≡ r
 past-run [] r h = refl
-past-run (b ∷ x) r h =
-    let p = and_parts (differs 62 b) (list_all (differs 62) x) h in
-    past _ (not-true (b == 62) p.0) (past-run x r p.1)
+past-run (b ∷ x) r h = let later = past-run x r in grind (arith, later, h)
 
 pub past-none : (x : List ℕ) → list_all (differs 62) x ≡ true → past_angle x ≡ []
 past-none [] h = refl
-past-none (b ∷ x) h =
-    let p = and_parts (differs 62 b) (list_all (differs 62) x) h in
-    past _ (not-true (b == 62) p.0) (past-none x p.1)
+past-none (b ∷ x) h = let later = past-none x in grind (arith, later, h)
 
 -- the inside of a tag is removed
 pub text-inside : (digit : ℕ) (x : List ℕ) →
     text_before digit true x ≡ text_before digit false (past_angle x)
 text-inside digit [] = refl
-text-inside digit (b ∷ x) = by (b == 62) (text-inside digit x)
-  where
-    by : (is : Bool) → text_before digit true x ≡ text_before digit false (past_angle x) →
-        text_before digit (not is) x ≡ text_before digit false (cond is x (past_angle x))
-    by true e = refl
-    by false e = e
+text-inside digit (b ∷ x) = let later = text-inside digit x in grind (arith, later)
 
 -- a `<` before an end tag of the heading, and before any other tag
 pub text-closes : (digit : ℕ) (tag : List ℕ) → closes_heading digit tag ≡ true →
@@ -130,19 +115,15 @@ closes-name digit name r d h =
     (bytes_decides name (104 ∷ digit ∷ [])).1
     (split is_name_byte name (104 ∷ digit ∷ []) (62 ∷ r) (62 ∷ rest) h
     (and_from (is_name_byte digit) true d refl) refl refl is).0))
-    (λ e. subst (λ n. closes_heading digit (47 ∷ (n ++ (62 ∷ r))) ≡ true)
-    (sym ((bytes_decides name (104 ∷ digit ∷ [])).0 e))
-    (ap (λ t. t && true) (eq-eqb digit digit refl)))
+    (λ e. rw ((bytes_decides name (104 ∷ digit ∷ [])).0 e, eq-eqb digit digit refl) refl)
 
 -- a tag that doesn't end the heading
 passed : (digit : ℕ) (tag : Piece) (more : List Piece) → is_sound_tag tag ≡ true →
     closes_heading digit (inside tag ++ (62 ∷ all_written more)) ≡ false →
     text_before digit false (all_written (tag ∷ more)) ≡ text_before digit false (all_written more)
 passed digit tag more sound on =
-    ap (text_before digit false) (tag-written tag more sound)
-    ∙ text-opens digit (inside tag ++ (62 ∷ all_written more)) on
-    ∙ text-inside digit (inside tag ++ (62 ∷ all_written more)) ∙ ap (text_before digit false)
-    (past-run (inside tag) (all_written more) (tag-differs 62 tag closes sound))
+    rw (tag-written tag more sound, on, text-inside digit (inside tag ++ (62 ∷ all_written more)))
+    (rw (past-run (inside tag) (all_written more) (tag-differs 62 tag closes sound)) refl)
 
 pub text-pieces : (digit : ℕ) (x : List Piece) → is_name_byte digit ≡ true → are_sound x ≡ true →
     text_before digit false (all_written x)
@@ -151,11 +132,11 @@ text-pieces digit [] d h = refl
 text-pieces digit (Words text ∷ more) d h =
     let q = and3 (is_escaped text) _ (are_sound more) h in
     let name = 104 ∷ digit ∷ [] in
-    text-run digit text (all_written more) (escaped-differs 60 text opens.escaped q.0)
-    (after_text more q.1)
-    ∙ ap₂ (λ y z. y ++ z) (sym (encoded-seen text q.0)) (text-pieces digit more d q.2)
-    ∙ sym (encoded-append true (seen text) (characters_before name (all_tokens more)))
-    ∙ ap (encoded true) (sym (characters-run name (seen text) (all_tokens more)))
+    rw (text-run digit text (all_written more) (escaped-differs 60 text opens.escaped q.0)
+    (after_text more q.1))
+    (rw (text-pieces digit more d q.2, characters-run name (seen text) (all_tokens more))
+    (rw (encoded-append true (seen text) (characters_before name (all_tokens more)))
+    (rw (encoded-seen text q.0) refl)))
 text-pieces digit (Opening name x ∷ more) d h =
     let q = and3 (is_tag_name name) (are_plain x) (are_sound more) h in
     passed digit (Opening name x) more (and_from _ _ q.0 q.1)
@@ -168,16 +149,9 @@ text-pieces digit (Single name x ∷ more) d h =
     (void-name begins_with_letter name refl q.0)) ∙ text-pieces digit more d q.2
 text-pieces digit (Closing name ∷ more) d h =
     let q = and_parts (is_tag_name name) (are_sound more) h in
-    by (bytes_eq name (104 ∷ digit ∷ []))
-    (closes-name digit name (all_written more) d (name_bytes name q.0)) q.0
-    (text-pieces digit more d q.1)
-  where
-    later : List ℕ
-    later = characters_before (104 ∷ digit ∷ []) (all_tokens more)
-
-    by : (b : Bool) → closes_heading digit (47 ∷ (name ++ (62 ∷ all_written more))) ≡ b →
-        is_tag_name name ≡ true → text_before digit false (all_written more) ≡ encoded true later →
-        text_before digit false (all_written (Closing name ∷ more))
-        ≡ encoded true (cond b [] later)
-    by true e sound on = text-closes digit (47 ∷ (name ++ (62 ∷ all_written more))) e
-    by false e sound on = passed digit (Closing name) more sound e ∙ on
+    let ends = closes-name digit name (all_written more) d (name_bytes name q.0) in
+    elim (cases_Bool (bytes_eq name (104 ∷ digit ∷ []))) [
+      | inl e ↦ rw e (text-closes digit (47 ∷ (name ++ (62 ∷ all_written more))) (ends ∙ e))
+      | inr e ↦
+          rw e (passed digit (Closing name) more q.0 (ends ∙ e) ∙ text-pieces digit more d q.1)
+    ]

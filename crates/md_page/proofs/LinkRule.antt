@@ -2,23 +2,23 @@
 use Rattle.std.specs.Str.{bytes_eq}
 use Rattle.std.specs.Prelude.{nat_eq, is_none}
 use Rattle.std.proofs.Common.{◌≡◌, ℕ, ◌==◌, Bool, true, false, not, ◌&&◌, ◌||◌, cond, List, [], ◌∷◌}
-use Rattle.std.proofs.Common.{◌++◌, drop, refl, sym, ap, ap₂, ◌∙◌, subst, append_assoc, inl, inr}
-use Rattle.std.proofs.Common.{Option, Some, None, codes, ne_eqb}
+use Rattle.std.proofs.Common.{◌++◌, refl, sym, ap, ◌∙◌, subst, append_assoc, inl, inr}
+use Rattle.std.proofs.Common.{Option, Some, None, codes, ne_eqb, arith}
 use Rattle.std.specs.List.{list_all, list_any, starts_with}
 use Rattle.std.specs.Option.{option_map_or}
 use Rattle.std.specs.Cmp.Lexicographic.{bytes_decides}
-use Rattle.std.proofs.lemmas.Bool.{and_parts, and_from, and_left, not-true, or_parts, or_from}
+use Rattle.std.proofs.lemmas.Bool.{and_parts, and_from, and_left, not-true}
 use Rattle.std.proofs.lemmas.Bool.{or_left, cases_Bool, cases_eq}
 use Rattle.std.proofs.lemmas.List.{append_cancel_right}
 use Rattle.md_base.proofs.Lies.{lie}
 use Rattle.md_base.specs.Identifier.{is_nonempty}
-use Rattle.md_text.specs.References.{is_escaped, begins_with, read_back}
+use Rattle.md_text.specs.References.{is_escaped, begins_with}
 use Rattle.md_text.specs.Html.{Attribute, written_attributes}
 use Rattle.md_text.specs.Encode.{encoded}
 use Rattle.md_text.proofs.EncodeLaws.{read_back-other, read_back-encoded, is_escaped-encoded}
 use Rattle.md_text.proofs.EncodeLemmas.{and_false}
 use Rattle.md_text.proofs.HtmlReading.{tail_of}
-use Rattle.md_safe.specs.Input.{with_line_feeds, begins_with_line_feed}
+use Rattle.md_safe.specs.Input.{with_line_feeds}
 use Rattle.md_safe.specs.Token.{Token, StartTag}
 use Rattle.md_safe.specs.Tokens.{seen, seen_attributes}
 use Rattle.md_safe.proofs.EscapedCases.{IsPlain, by_escaped}
@@ -26,7 +26,7 @@ use Rattle.md_safe.proofs.Schemes.{seen-is}
 use Rattle.md_safe.proofs.Steps.{plain-ne}
 use Rattle.md_page.specs.Added.{gets_rel, leads_away, has_attribute, shown, rel_of}
 use Rattle.md_page.specs.Pieces.{are_plain, is_name_byte, begins_with_letter}
-use Rattle.md_page.specs.Scan.{differs, before_angle, parts_of, value_in, value_of, is_away}
+use Rattle.md_page.specs.Scan.{differs, before_angle, parts_of, value_of, is_away}
 use Rattle.md_page.specs.Scan.{want_rel, picks_link, new_rel}
 use Rattle.md_page.proofs.Parts.{parts-filled, parts-run, value_in-step, before-run}
 use Rattle.md_page.proofs.Plain.{and3, plain_attribute, void-name}
@@ -37,9 +37,7 @@ use Rattle.md_page.proofs.Rules.{IsRule}
 
 -- two tests that pass together
 pub both : (a b : Bool) → (a ≡ true → b ≡ true) → (b ≡ true → a ≡ true) → a ≡ b
-both true b f g = sym (f refl)
-both false true f g = g refl
-both false false f g = refl
+both a b f g = grind (arith, f, g)
 
 -- ---- an attribute by its name
 
@@ -68,25 +66,17 @@ value_of-found key (a ∷ x) h =
     let front : list_all (differs 34) (framed a.name) ≡ true =
     all-join (differs 34) a.name (61 ∷ [])
     (name-differs 34 a.name refl (and_parts _ (list_all is_name_byte a.name) p.0).1) refl in
-    ap (λ y. value_in (framed key) (parts_of (32 ∷ y))) (sym (append_assoc a.name (61 ∷ []) (34
-    ∷ (a.value ++ (34 ∷ later)))))
-    ∙ ap (value_in (framed key)) (parts-run (framed a.name) (a.value ++ (34 ∷ later)) front
-    ∙ ap (λ y. framed a.name ∷ y)
-    (parts-run a.value later (escaped-differs 34 a.value (λ rest. refl) p.1)))
-    ∙ value_in-step (framed key) (framed a.name) a.value (parts_of later) (parts-filled later)
-    ∙ ap₂ (λ c y. cond c (Some a.value) y) (framed-eq key a.name) (value_of-found key x p.3)
+    rw (← append_assoc a.name (61 ∷ []) (34 ∷ (a.value ++ (34 ∷ later))))
+    (rw (parts-run (framed a.name) (a.value ++ (34 ∷ later)) front)
+    (rw (parts-run a.value later (escaped-differs 34 a.value (λ rest. refl) p.1))
+    (rw (value_in-step (framed key) (framed a.name) a.value (parts_of later) (parts-filled later))
+    (rw (framed-eq key a.name, value_of-found key x p.3) refl))))
 
 -- there is none exactly if no attribute has the name
 pub none-found : (key : List ℕ) (x : List Attribute) →
     is_none (found key x) ≡ not (has_attribute key (seen_attributes x))
 none-found key [] = refl
-none-found key (a ∷ x) = by (bytes_eq key a.name) (none-found key x)
-  where
-    by : (c : Bool) → is_none (found key x) ≡ not (has_attribute key (seen_attributes x)) →
-        is_none (cond c (Some a.value) (found key x))
-        ≡ not (c || has_attribute key (seen_attributes x))
-    by true e = refl
-    by false e = e
+none-found key (a ∷ x) = let later = none-found key x in grind (arith, later)
 
 -- ---- a value as it is written, and as it is seen
 
@@ -96,20 +86,15 @@ away value = is_nonempty value && not (starts_with nat_eq value (codes "#"))
 
 away-plain : (b : ℕ) (rest : List ℕ) → IsPlain b → away (seen (b ∷ rest)) ≡ away (b ∷ rest)
 away-plain b rest p = elim (cases_eq b 13) [
-  | inl is ↦ subst (λ b. away (seen (b ∷ rest)) ≡ away (b ∷ rest)) (sym is) (returned rest)
-  | inr ne ↦
-      ap (λ c. away (read_back (cond c (cond (begins_with_line_feed rest) (with_line_feeds rest)
-      (10 ∷ with_line_feeds rest)) (b ∷ with_line_feeds rest)))) (ne_eqb b 13 ne) ∙ ap away
-      (read_back-other b (with_line_feeds rest) (plain-ne b p))
+  | inl is ↦ rw is (returned rest)
+  | inr ne ↦ rw (ne_eqb b 13 ne, read_back-other b (with_line_feeds rest) (plain-ne b p)) refl
 ]
   where
     returned : (rest : List ℕ) → away (seen (13 ∷ rest)) ≡ away (13 ∷ rest)
     returned [] = refl
     returned (c ∷ rest) = elim (cases_eq c 10) [
-      | inl is ↦ subst (λ c. away (seen (13 ∷ c ∷ rest)) ≡ away (13 ∷ c ∷ rest)) (sym is) refl
-      | inr ne ↦ ap (λ t.
-          away (read_back (cond t (with_line_feeds (c ∷ rest)) (10 ∷ with_line_feeds (c ∷ rest)))))
-          (ne_eqb c 10 ne)
+      | inl is ↦ rw is refl
+      | inr ne ↦ rw (ne_eqb c 10 ne) refl
     ]
 
 away-seen : (value : List ℕ) → is_escaped value ≡ true → away (seen value) ≡ is_away value
@@ -121,33 +106,20 @@ away-seen value h =
 none-away : (x : List Attribute) → list_any (λ a. bytes_eq (codes "href") a.name) x ≡ false →
     list_any leads_away (seen_attributes x) ≡ false
 none-away [] h = refl
-none-away (a ∷ x) h =
-    let p = or_parts (bytes_eq (codes "href") a.name) _ h in
-    or_from _ _ (and_left _ _ p.0) (none-away x p.1)
+none-away (a ∷ x) h = let later = none-away x in grind (arith, later, h)
 
 found-away : (x : List Attribute) → are_plain x ≡ true →
     option_map_or is_away (found (codes "href") x) false ≡ list_any leads_away (seen_attributes x)
 found-away [] h = refl
 found-away (a ∷ x) h =
     let p = plain_attribute a x h in
-    by (bytes_eq (codes "href") a.name) refl (away-seen a.value p.1) p.2 (found-away x p.3)
-  where
-    by : (c : Bool) → bytes_eq (codes "href") a.name ≡ c → away (seen a.value) ≡ is_away a.value →
-        list_any (λ later. bytes_eq a.name later.name) x ≡ false →
-        option_map_or is_away (found (codes "href") x) false
-        ≡ list_any leads_away (seen_attributes x) →
-        option_map_or is_away (cond c (Some a.value) (found (codes "href") x)) false
-        ≡ ((c && away (seen a.value)) || list_any leads_away (seen_attributes x))
-    by true is same none on =
-        sym (ap (λ t. away (seen a.value) || t) (none-away x
-        (ap (λ n. list_any (λ later. bytes_eq n later.name) x)
-        ((bytes_decides (codes "href") a.name).0 is) ∙ none))
-        ∙ or_false (away (seen a.value)) ∙ same)
-      where
-        or_false : (b : Bool) → (b || false) ≡ b
-        or_false true = refl
-        or_false false = refl
-    by false is same none on = on
+    elim (cases_Bool (bytes_eq (codes "href") a.name)) [
+      | inl is ↦
+          (let none = none-away x (ap (λ n. list_any (λ later. bytes_eq n later.name) x)
+          ((bytes_decides (codes "href") a.name).0 is) ∙ p.2) in
+          rw (is, none) (grind (arith, away-seen a.value p.1)))
+      | inr e ↦ rw e (found-away x p.3)
+    ]
 
 -- ---- the tag
 
@@ -159,9 +131,8 @@ wants : (x : List Attribute) → are_plain x ≡ true → want_rel (written_attr
     ≡ (list_any leads_away (seen_attributes x)
     && not (has_attribute (codes "rel") (seen_attributes x)))
 wants x h =
-    ap₂ (λ v w. option_map_or is_away v false && is_none w)
-    (value_of-found (codes "href") x h) (value_of-found (codes "rel") x h)
-    ∙ ap₂ (λ s t. s && t) (found-away x h) (none-found (codes "rel") x)
+    rw (value_of-found (codes "href") x h, value_of-found (codes "rel") x h, found-away x h)
+    (rw (none-found (codes "rel") x) refl)
 
 -- an `a`
 picks-a : (x : List Attribute) (r : List ℕ) → are_plain x ≡ true →
@@ -190,15 +161,11 @@ link-picks : PicksBy picks_link gets_rel
 link-picks = record {
   elements = λ name x r named plain.
       elim (cases_Bool (bytes_eq name (codes "a"))) [
-        | inl is ↦
-            subst (λ n. picks_link (n ++ (written_attributes x ++ (62 ∷ r)))
-            ≡ gets_rel (StartTag n (seen_attributes x) false))
-            (sym ((bytes_decides name (codes "a")).0 is)) (picks-a x r plain)
+        | inl is ↦ rw ((bytes_decides name (codes "a")).0 is) (picks-a x r plain)
         | inr other ↦
             (let p = and3 (begins_with_letter name) (list_all is_name_byte name) _ named in
             let tail = written_attributes x ++ (62 ∷ r) in
-            ap (λ t. t && option_map_or want_rel (before_angle (drop 1 (name ++ tail))) false)
-            (no-a name tail p.1 other p.0) ∙ sym (and_left _ _ other))
+            rw (no-a name tail p.1 other p.0, other) refl)
       ];
   voids = λ name r h.
       not-true (picks_link (name ++ r)) (void-name (λ n. not (picks_link (n ++ r))) name refl h);

@@ -1,8 +1,8 @@
 -- The headings that are found by bytes are those of the tokens.
-use Rattle.std.proofs.Common.{◌≡◌, ℕ, ◌-◌, ◌==◌, suc, Bool, true, false, ◌&&◌, cond, List, []}
+use Rattle.std.proofs.Common.{◌≡◌, ℕ, ◌-◌, suc, true, false, List, [], inl, inr, arith}
 use Rattle.std.proofs.Common.{◌∷◌, ◌++◌, map, refl, sym, ap, ap₂, ◌∙◌}
 use Rattle.std.specs.List.{list_all}
-use Rattle.std.proofs.lemmas.Bool.{and_parts, and_from, and_left, not-true, cond-true, cond-false}
+use Rattle.std.proofs.lemmas.Bool.{and_parts, and_from, cond-true, cond-false, cases_Bool}
 use Rattle.md_text.specs.Bytes.{is_one_of}
 use Rattle.md_text.specs.References.{is_escaped}
 use Rattle.md_text.specs.Html.{Attribute, written_attributes}
@@ -28,10 +28,7 @@ use Rattle.md_page.proofs.HeadingTexts.{past-run, text-pieces}
 pub headings-run : (n : ℕ) (x r : List ℕ) → list_all (differs 60) x ≡ true →
     scanned_headings n (x ++ r) ≡ scanned_headings n r
 headings-run n [] r h = refl
-headings-run n (b ∷ x) r h =
-    let p = and_parts (differs 60 b) (list_all (differs 60) x) h in
-    cond-false ((b == 60) && picks_heading (x ++ r)) _ _ (and_left _ _ (not-true (b == 60) p.0))
-    ∙ headings-run n x r p.1
+headings-run n (b ∷ x) r h = let later = headings-run n x r in grind (arith, later, h)
 
 pub headings-picked : (n : ℕ) (tag : List ℕ) → picks_heading tag ≡ true →
     scanned_headings n (60 ∷ tag) ≡ scanned_heading (suc n) tag ∷ scanned_headings (suc n) tag
@@ -68,9 +65,8 @@ unpicked : (n : ℕ) (tag : Piece) (more : List Piece) → is_sound_tag tag ≡ 
     picks_heading (inside tag ++ (62 ∷ all_written more)) ≡ false →
     scanned_headings n (all_written (tag ∷ more)) ≡ scanned_headings n (all_written more)
 unpicked n tag more sound e =
-    ap (scanned_headings n) (tag-written tag more sound)
-    ∙ cond-false (picks_heading (inside tag ++ (62 ∷ all_written more))) _ _ e
-    ∙ headings-run n (inside tag) (62 ∷ all_written more) (tag-differs 60 tag opens sound)
+    rw (tag-written tag more sound, e)
+    (rw (headings-run n (inside tag) (62 ∷ all_written more) (tag-differs 60 tag opens sound)) refl)
 
 pub headings-pieces : (n : ℕ) (x : List Piece) → are_sound x ≡ true →
     scanned_headings n (all_written x) ≡ headings_after n (all_tokens x)
@@ -81,33 +77,19 @@ headings-pieces n (Words text ∷ more) h =
     ∙ headings-pieces n more q.2 ∙ sym (headings-characters n (seen text) (all_tokens more))
 headings-pieces n (Opening name x ∷ more) h =
     let q = and3 (is_tag_name name) (are_plain x) (are_sound more) h in
+    let tag = Opening name x in
+    let text = inside tag ++ (62 ∷ all_written more) in
     let sound : is_sound_tag tag ≡ true = and_from _ _ q.0 q.1 in
-    by (gets_id (token_of tag)) sound (picks-tag heading-picks tag (all_written more) sound)
-    (λ passes. one_heading n name x more
-    (and_parts (is_one_of heading_names name) _ passes).0 q.1 q.2)
-    refl (headings-pieces (suc n) more q.2) (headings-pieces n more q.2)
-  where
-    tag : Piece
-    tag = Opening name x
-
-    text : List ℕ
-    text = inside tag ++ (62 ∷ all_written more)
-
-    by : (b : Bool) → is_sound_tag tag ≡ true → picks_heading text ≡ b →
-        (gets_id (token_of tag) ≡ true →
-        scanned_heading (suc n) text ≡ heading_of n (token_of tag) (all_tokens more)) →
-        gets_id (token_of tag) ≡ b →
-        scanned_headings (suc n) (all_written more) ≡ headings_after (suc n) (all_tokens more) →
-        scanned_headings n (all_written more) ≡ headings_after n (all_tokens more) →
-        scanned_headings n (all_written (tag ∷ more)) ≡ cond b
-        (heading_of n (token_of tag) (all_tokens more) ∷ headings_after (suc n) (all_tokens more))
-        (headings_after n (all_tokens more))
-    by true sound e first is on off =
-        ap (scanned_headings n) (tag-written tag more sound) ∙ headings-picked n text e
-        ∙ ap₂ (λ y z. y ∷ z) (first is)
-        (headings-run (suc n) (inside tag) (62 ∷ all_written more) (tag-differs 60 tag opens sound)
-        ∙ on)
-    by false sound e first is on off = unpicked n tag more sound e ∙ off
+    let picks = picks-tag heading-picks tag (all_written more) sound in
+    elim (cases_Bool (gets_id (token_of tag))) [
+      | inl e ↦ rw e (ap (scanned_headings n) (tag-written tag more sound)
+          ∙ headings-picked n text (picks ∙ e)
+          ∙ ap₂ (λ y z. y ∷ z)
+          (one_heading n name x more (and_parts (is_one_of heading_names name) _ e).0 q.1 q.2)
+          (headings-run (suc n) (inside tag) (62 ∷ all_written more)
+          (tag-differs 60 tag opens sound) ∙ headings-pieces (suc n) more q.2))
+      | inr e ↦ rw e (unpicked n tag more sound (picks ∙ e) ∙ headings-pieces n more q.2)
+    ]
 headings-pieces n (Single name x ∷ more) h =
     let q = and3 (is_one_of void_names name) (are_plain x) (are_sound more) h in
     let tag = Single name x in

@@ -1,17 +1,17 @@
 -- Quicker ways: a link that stays within the page, and a text without headings.
 use Rattle.std.specs.Prelude.{is_none, is_some}
-use Rattle.std.proofs.Common.{◌≡◌, ℕ, suc, ◌==◌, Bool, true, false, ◌&&◌, cond, List, [], ◌∷◌, ◌++◌}
+use Rattle.std.proofs.Common.{◌≡◌, ℕ, ◌==◌, Bool, true, false, ◌&&◌, List, [], ◌∷◌, ◌++◌, inl, inr}
 use Rattle.std.proofs.Common.{length, drop, map, Option, Some, None, option_map}
 use Rattle.std.proofs.Common.{refl, sym, ap, ◌∙◌, arith, codes}
 use Rattle.std.specs.Option.{option_map_or}
-use Rattle.std.proofs.lemmas.Bool.{eqb-true}
+use Rattle.std.proofs.lemmas.Bool.{eqb-true, cases_Bool}
 use Rattle.md_base.proofs.Lies.{lie}
 use Rattle.md_text.specs.References.{begins_with}
 use Rattle.md_text.specs.Html.{written_attributes}
 use Rattle.md_safe.proofs.EscapedCases.{begins-is}
 use Rattle.md_page.specs.Headings.{listed}
 use Rattle.md_page.specs.Scan.{before_angle, parts_of, value_in, onto_first, is_away, want_rel}
-use Rattle.md_page.specs.Scan.{picks_link, picks_heading, scanned, scanned_heading}
+use Rattle.md_page.specs.Scan.{picks_link, picks_heading, scanned}
 use Rattle.md_page.specs.Scan.{scanned_headings, with_new, new_id, new_rel, IsScannedTo}
 use Rattle.md_page.specs.declared.headings.Heading.{Heading}
 
@@ -68,15 +68,11 @@ leads-nowhere tag is =
 
 none-picked : (add : ℕ → List ℕ) (n m : ℕ) (text : List ℕ) → [] ≡ scanned_headings n text →
     scanned picks_heading add false m text ≡ text
-none-picked add n m [] h = refl
-none-picked add n m (b ∷ rest) h = by ((b == 60) && picks_heading rest) h (none-picked add n m rest)
-  where
-    by : (is : Bool) → [] ≡ cond is (scanned_heading (suc n) rest ∷ scanned_headings (suc n) rest)
-        (scanned_headings n rest) →
-        ([] ≡ scanned_headings n rest → scanned picks_heading add false m rest ≡ rest) →
-        b ∷ scanned picks_heading add is m rest ≡ b ∷ rest
-    by true e later = cc
-    by false e later = ap (λ y. b ∷ y) (later e)
+none-picked add n m [] = λ h. refl
+none-picked add n m (b ∷ rest) = elim (cases_Bool ((b == 60) && picks_heading rest)) [
+  | inl e ↦ rw e (λ h. cc)
+  | inr e ↦ rw e (λ h. ap (λ y. b ∷ y) (none-picked add n m rest h))
+]
 
 pub unheaded : (headings : List Heading) (prefix text : List ℕ) → (length headings == 0) ≡ true →
     map listed headings ≡ scanned_headings 0 text →

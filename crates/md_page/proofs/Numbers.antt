@@ -1,16 +1,17 @@
 -- A number in decimal digits, as it is written and seen.
-use Rattle.std.proofs.Common.{◌≡◌, ℕ, ◌+◌, ◌-◌, ◌≤◌, ◌==◌, Bool, true, false, not, ◌&&◌, leb}
-use Rattle.std.proofs.Common.{List, [], ◌∷◌, ◌++◌, refl, sym, ap, ◌∙◌, subst, arith, append-nil}
+use Rattle.std.proofs.Common.{◌≡◌, ℕ, ◌==◌, Bool, true, false, not, ◌&&◌}
+use Rattle.std.proofs.Common.{List, [], ◌∷◌, ◌++◌, refl, ap, ◌∙◌, arith, append-nil}
 use Rattle.std.specs.Fmt.{decimal}
 use Rattle.std.specs.List.{list_all}
-use Rattle.std.proofs.lemmas.Bool.{and_parts, agree_below_at, eqb-false, leb-true}
+use Rattle.std.proofs.lemmas.Bool.{and_parts, eqb-false}
+use Rattle.std.proofs.lemmas.Bool.Decides.{nat_tests}
 use Rattle.md_content.specs.Built.{is_digit}
 use Rattle.md_text.specs.Encode.{encoded}
 use Rattle.md_text.specs.References.{is_escaped, read_back}
 use Rattle.md_text.proofs.EncodeLaws.{read_back-other, read_back-before, is_escaped-encoded}
 use Rattle.md_text.proofs.EscapedLemmas.{escaped-append}
 use Rattle.md_text.proofs.HtmlRead.{passes_not}
-use Rattle.md_safe.specs.Input.{with_line_feeds, begins_with_line_feed}
+use Rattle.md_safe.specs.Input.{begins_with_line_feed}
 use Rattle.md_safe.specs.Tokens.{seen}
 use Rattle.md_safe.proofs.Cases.{all-weaker}
 use Rattle.md_safe.proofs.EscapedCases.{IsPlain}
@@ -25,12 +26,7 @@ is_itself b = not (b == 0) && (not (b == 38) && (not (b == 34) && (not (b == 60)
     && (not (b == 13) && not (b == 10))))))
 
 digit-itself : (b : ℕ) → is_digit b ≡ true → is_itself b ≡ true
-digit-itself b h =
-    let low : 48 ≤ b = leb-true 48 b (and_parts (leb 48 b) (leb b 57) h).0 in
-    let high : b ≤ 57 = leb-true b 57 (and_parts (leb 48 b) (leb b 57) h).1 in
-    let same : b - 48 + 48 ≡ b = omega arith in
-    subst (λ d. is_itself d ≡ true) same
-    (agree_below_at (λ d. is_itself (d + 48)) (λ d. true) 10 (b - 48) refl (omega arith))
+digit-itself b h = grind (arith, nat_tests)
 
 pub decimal-itself : (n : ℕ) → list_all is_itself (decimal n) ≡ true
 decimal-itself n = all-weaker is_digit is_itself digit-itself (decimal n) (decimal-digits n)
@@ -81,9 +77,7 @@ pub numbered-seen : (prefix : List ℕ) (n : ℕ) →
 numbered-seen prefix n =
     let h = decimal-itself n in
     let digits = decimal n in
-    seen-is (encoded true prefix ++ digits) (numbered-escaped prefix n)
-    ∙ ap with_line_feeds
-    (read_back-before prefix digits ∙ ap (λ x. encoded false prefix ++ x) (itself-back digits h))
-    ∙ line_feeds-append (encoded false prefix) digits (itself-begins digits h)
-    ∙ ap (λ x. shown prefix ++ x) (ap with_line_feeds (sym (append-nil digits))
-    ∙ line_feeds-name digits [] (itself-returns digits h) ∙ append-nil digits)
+    rw (seen-is (encoded true prefix ++ digits) (numbered-escaped prefix n))
+    (rw (read_back-before prefix digits, itself-back digits h)
+    (rw (line_feeds-append (encoded false prefix) digits (itself-begins digits h))
+    (rw (simp append-nil at (line_feeds-name digits [] (itself-returns digits h))) refl)))

@@ -1,6 +1,6 @@
 -- A page can be read in one way: its title ends where the first `<` stands, and its body
 -- has one reading.
-use Rattle.std.proofs.Common.{◌≡◌, ℕ, true, List, [], ◌++◌, refl, sym, ap, ap₂, ◌∙◌, codes}
+use Rattle.std.proofs.Common.{◌≡◌, ℕ, true, List, [], ◌++◌, refl, sym, ap, ◌∙◌, codes}
 use Rattle.std.specs.List.{list_all}
 use Rattle.std.proofs.lemmas.Bool.{and_parts}
 use Rattle.std.proofs.lemmas.List.{append_assoc, append-nil, append_cancel_left}
@@ -23,17 +23,11 @@ before_body = codes "</title></head><body>"
 abbrev pub after_body : List ℕ
 after_body = codes "</body></html>\n"
 
-regroup : (a t x b y z w : List ℕ) → (((a ++ t) ++ (x ++ (b ++ y))) ++ z) ++ w ≡ a
-    ++ (t ++ (x ++ (b ++ (y ++ (z ++ w)))))
-regroup a t x b y z w = simp append_assoc
-
 -- a page from its start to its end
 pub page_written : (title body : Forest) →
     codes "<!doctype html>\n" ++ written (page_tree title body) ++ codes "\n"
     ≡ before_title ++ (written title ++ (before_body ++ (written body ++ after_body)))
-page_written title body =
-    ap (λ r. before_title ++ r) (regroup (written title) (codes "</title>") (codes "</head><body>")
-    (written body) (codes "</body>") (codes "</html>") (codes "\n"))
+page_written title body = simp append_assoc
 
 title_tidy : (title : Forest) → is_title title ≡ true → list_all no_angle (written title) ≡ true
 title_tidy Empty e = refl
@@ -75,11 +69,9 @@ pub page_appended : (title body : List ℕ) {start one two three four five given
     start ≡ [] → one ≡ start ++ before_title → two ≡ one ++ given → three ≡ two ++ before_body →
     four ≡ three ++ inside → five ≡ four ++ after_body → given ≡ title → inside ≡ body →
     five ≡ before_title ++ (title ++ (before_body ++ (body ++ after_body)))
-page_appended title body {given = given} {inside = inside} e0 e1 e2 e3 e4 e5 titled bodied =
-    e5 ∙ ap (λ x. x ++ after_body) (e4 ∙ ap (λ x. x ++ inside) (e3 ∙ ap (λ x. x ++ before_body)
-    (e2 ∙ ap (λ x. x ++ given) (e1 ∙ ap (λ x. x ++ before_title) e0))))
-    ∙ joined before_title given before_body inside after_body
-    ∙ ap₂ (λ t b. before_title ++ (t ++ (before_body ++ (b ++ after_body)))) titled bodied
+page_appended title body e0 e1 e2 e3 e4 e5 titled bodied =
+    rw (e5, e4, e3, e2, e1, e0, titled, bodied)
+    (joined before_title title before_body body after_body)
   where
     joined : (a t b x c : List ℕ) → (((a ++ t) ++ b) ++ x) ++ c ≡ a ++ (t ++ (b ++ (x ++ c)))
     joined a t b x c = simp append_assoc

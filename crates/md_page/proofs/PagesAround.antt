@@ -1,19 +1,16 @@
 -- A page around a text that is built as it is written is built with that text's forest.
-use Rattle.std.proofs.Common.{◌≡◌, ℕ, true, false, List, [], ◌∷◌, ◌++◌, map, refl, sym, ap, ◌∙◌}
-use Rattle.std.proofs.Common.{subst}
-use Rattle.std.proofs.Common.{append_assoc, codes}
-use Rattle.std.specs.List.{list_all}
+use Rattle.std.proofs.Common.{◌≡◌, ℕ, true, List, [], ◌∷◌, ◌++◌, map, refl, ap, subst, append_assoc}
+use Rattle.std.proofs.Common.{codes}
 use Rattle.md_text.specs.Encode.{encoded}
 use Rattle.md_text.specs.Html.{Forest, Empty, Text, Void, Element}
 use Rattle.md_text.proofs.EncodeLaws.{is_escaped-encoded}
 use Rattle.md_safe.specs.Token.{Token, Doctype, Character, StartTag, EndTag, EndOfFile}
 use Rattle.md_safe.specs.Tokenizer.{IsTokenized}
-use Rattle.md_safe.specs.Tokens.{tokens, seen, seen_attributes}
+use Rattle.md_safe.specs.Tokens.{tokens, seen}
 use Rattle.md_safe.specs.PageTokens.{charset, page_text, plain_tag}
-use Rattle.md_safe.specs.Node.{InBody}
-use Rattle.md_safe.specs.Node.{Empty as NoNode}
+use Rattle.md_safe.specs.Node.{InBody, Empty as NoNode}
 use Rattle.md_safe.proofs.Pages.{body-place, page-built, body_at, root_at}
-use Rattle.md_safe.proofs.TreeSteps.{is_character, seen-characters}
+use Rattle.md_safe.proofs.TreeSteps.{seen-characters}
 use Rattle.md_page.specs.Added.{shown}
 use Rattle.md_page.specs.Built.{IsBuiltAsWritten, IsBuiltPageAround}
 use Rattle.md_page.specs.PageAround.{going_on, after_body}
@@ -27,19 +24,12 @@ on-forest : (f : Forest) (x after : List Token) →
     going_on (tokens f ++ x) after ≡ tokens f ++ going_on x after
 on-forest Empty x after = refl
 on-forest (Text bytes rest) x after =
-    let first = map Character (seen bytes) in
-    ap (λ y. going_on y after) (append_assoc first (tokens rest) x)
-    ∙ characters-on (seen bytes) (tokens rest ++ x) after
-    ∙ ap (λ y. first ++ y) (on-forest rest x after)
-    ∙ sym (append_assoc first (tokens rest) (going_on x after))
-on-forest (Void name attributes rest) x after =
-    ap (λ y. StartTag name (seen_attributes attributes) true ∷ y) (on-forest rest x after)
+    simp (append_assoc, characters-on (seen bytes) (tokens rest ++ x) after, on-forest rest x after)
+on-forest (Void name attributes rest) x after = rw (on-forest rest x after) refl
 on-forest (Element name attributes inner rest) x after =
-    ap (λ y. StartTag name (seen_attributes attributes) false ∷ y)
-    (ap (λ y. going_on y after) (append_assoc (tokens inner) (EndTag name ∷ tokens rest) x)
-    ∙ on-forest inner (EndTag name ∷ (tokens rest ++ x)) after
-    ∙ ap (λ y. tokens inner ++ (EndTag name ∷ y)) (on-forest rest x after)
-    ∙ sym (append_assoc (tokens inner) (EndTag name ∷ tokens rest) (going_on x after)))
+    rw (append_assoc (tokens inner) (EndTag name ∷ tokens rest) x)
+    (rw (on-forest inner (EndTag name ∷ (tokens rest ++ x)) after, on-forest rest x after)
+    (simp append_assoc))
 
 -- a page whose body has these tokens, and what follows them
 abbrev around_body : List ℕ → List Token → List Token
@@ -61,8 +51,7 @@ page-around-built title body w b =
           (ap (around_body (shown title)) (on-forest f (EndOfFile ∷ []) after_body))
           (page-emitted title body w (tokens f ++ (EndOfFile ∷ [])) b.tokenized).tokenized;
       built = page-built (shown title) f
-          (subst (λ t. list_all is_character t ≡ true) (seen-encoded title)
-          (seen-characters escaped (is_escaped-encoded title)))
+          (rw (← seen-encoded title) (seen-characters escaped (is_escaped-encoded title)))
           (b.builds InBody (body_at NoNode) (root_at (shown title) ∷ []) [] 5
           (body-place (shown title)));
     }

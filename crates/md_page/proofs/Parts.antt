@@ -2,25 +2,15 @@
 use Rattle.std.specs.Str.{bytes_eq}
 use Rattle.std.proofs.Common.{◌≡◌, ℕ, suc, MatchOption, ◌<◌, ◌+◌, ◌-◌, ◌==◌, Bool, true, false, not}
 use Rattle.std.proofs.Common.{cond, List, [], ◌∷◌, ◌++◌, length, get_or, take, drop, refl, sym, ap}
-use Rattle.std.proofs.Common.{◌∙◌, Option, Some, None, option_map, arith}
-use Rattle.std.proofs.Common.{append_assoc}
+use Rattle.std.proofs.Common.{◌∙◌, Option, Some, None, arith}
 use Rattle.std.specs.List.{list_all}
-use Rattle.std.proofs.lemmas.Bool.{and_parts, and_from, not-true, eqb-true}
-use Rattle.std.proofs.lemmas.Bool.{cond-true, false_from_ne_true}
+use Rattle.std.proofs.lemmas.Bool.{and_from, eqb-true, cond_both, cond-true, false_from_ne_true}
 use Rattle.std.proofs.lemmas.List.{take-append-drop, drop_more, length-take, length-drop}
 use Rattle.std.proofs.lemmas.List.{get_or-take, take_rest}
 use Rattle.memchr.specs.Find.{IsFirstByte, is_byte}
 use Rattle.md_base.proofs.Lies.{lie}
-use Rattle.md_safe.proofs.Steps.{past}
 use Rattle.md_page.specs.Scan.{differs, IsFirstOf, before_angle, parts_of, onto_first, value_in}
 use Rattle.md_page.specs.Scan.{value_of}
-
--- what is written, and after it the result for the rest, stays the whole
-pub written-on : {A : Type 0} (out front later : List A) {out' all whole : List A} →
-    out' ≡ out ++ front → all ≡ front ++ later → out ++ all ≡ whole → out' ++ later ≡ whole
-written-on out front later first scan before =
-    ap (λ y. y ++ later) first ∙ append_assoc out front later ∙ ap (λ y. out ++ y) (sym scan)
-    ∙ before
 
 -- ---- the parts of attributes
 
@@ -30,21 +20,18 @@ is_filled (part ∷ more) = true
 
 pub parts-filled : (x : List ℕ) → is_filled (parts_of x) ≡ true
 parts-filled [] = refl
-parts-filled (b ∷ x) = by (b == 34) (parts_of x)
+parts-filled (b ∷ x) =
+    cond_both (b == 34) _ _ (λ y. is_filled y ≡ true) (λ _. refl) (λ _. on b (parts_of x))
   where
-    by : (c : Bool) (parts : List (List ℕ)) →
-        is_filled (cond c ([] ∷ parts) (onto_first b parts)) ≡ true
-    by true parts = refl
-    by false [] = refl
-    by false (part ∷ more) = refl
+    on : (b : ℕ) (parts : List (List ℕ)) → is_filled (onto_first b parts) ≡ true
+    on b [] = refl
+    on b (part ∷ more) = refl
 
 -- up to a `"`
 pub parts-run : (x r : List ℕ) → list_all (differs 34) x ≡ true →
     parts_of (x ++ (34 ∷ r)) ≡ x ∷ parts_of r
 parts-run [] r h = refl
-parts-run (b ∷ x) r h =
-    let p = and_parts (differs 34 b) (list_all (differs 34) x) h in
-    past _ (not-true (b == 34) p.0) (ap (onto_first b) (parts-run x r p.1))
+parts-run (b ∷ x) r h = let later = parts-run x r in grind (arith, later, h)
 
 pub value_in-step : (key name value : List ℕ) (parts : List (List ℕ)) → is_filled parts ≡ true →
     value_in key (name ∷ value ∷ parts) ≡ cond (bytes_eq key name) (Some value) (value_in key parts)
@@ -54,22 +41,16 @@ value_in-step key name value (part ∷ more) h = refl
 -- no `"`
 pub parts-none : (x : List ℕ) → list_all (differs 34) x ≡ true → parts_of x ≡ x ∷ []
 parts-none [] h = refl
-parts-none (b ∷ x) h =
-    let p = and_parts (differs 34 b) (list_all (differs 34) x) h in
-    past _ (not-true (b == 34) p.0) (ap (onto_first b) (parts-none x p.1))
+parts-none (b ∷ x) h = let later = parts-none x in grind (arith, later, h)
 
 pub before-run : (x r : List ℕ) → list_all (differs 62) x ≡ true →
     before_angle (x ++ (62 ∷ r)) ≡ Some x
 before-run [] r h = refl
-before-run (b ∷ x) r h =
-    let p = and_parts (differs 62 b) (list_all (differs 62) x) h in
-    past _ (not-true (b == 62) p.0) (ap (option_map (λ later. b ∷ later)) (before-run x r p.1))
+before-run (b ∷ x) r h = let later = before-run x r in grind (arith, later, h)
 
 pub before-none : (x : List ℕ) → list_all (differs 62) x ≡ true → before_angle x ≡ None
 before-none [] h = refl
-before-none (b ∷ x) h =
-    let p = and_parts (differs 62 b) (list_all (differs 62) x) h in
-    past _ (not-true (b == 62) p.0) (ap (option_map (λ later. b ∷ later)) (before-none x p.1))
+before-none (b ∷ x) h = let later = before-none x in grind (arith, later, h)
 
 -- ---- the first of a byte
 

@@ -6,7 +6,6 @@ use Rattle.std.proofs.Common.{take_all, length-drop}
 use Rattle.std.specs.Prelude.{slice_index, Option, Some, None, MatchOption}
 use Rattle.std.specs.List.{list_all}
 use Rattle.std.proofs.lemmas.Bool.{and_parts, and_from, and_left, and_right, not-true, eqb-false}
-use Rattle.std.proofs.lemmas.Bool.{cond-false}
 use Rattle.md_text.specs.Bytes.{is_between}
 use Rattle.md_page.specs.declared.scan.Rule.{Rule}
 use Rattle.md_page.specs.declared.scan.Rule.TheVariants.{Link, Heading}
@@ -20,25 +19,18 @@ pub clear-one : (picks : List ℕ → Bool) (k : ℕ) (text : List ℕ) → k < 
 clear-one picks k [] within h e = absurd (omega (arith, within))
 clear-one picks zero (b ∷ rest) within h e = and_from _ _ (ap not e) refl
 clear-one picks (suc k) (b ∷ rest) within h e =
-    let p = and_parts (not ((b == 60) && picks rest)) (clear picks k rest) h in
-    and_from _ _ p.0 (clear-one picks k rest (omega (arith, within)) p.1 e)
+    let later = clear-one picks k rest (omega (arith, within)) in grind (arith, later, h, e)
 
 -- one stretch after another
 pub clear-more : (picks : List ℕ → Bool) (j k : ℕ) (text : List ℕ) → clear picks j text ≡ true →
     clear picks k (drop j text) ≡ true → clear picks (j + k) text ≡ true
-clear-more picks zero k text a b =
-    let plus : k ≡ 0 + k = omega arith in
-    subst (λ n. clear picks n text ≡ true) plus b
-clear-more picks (suc j) k [] a b = none (suc j + k)
-  where
-    none : (n : ℕ) → clear picks n [] ≡ true
-    none zero = refl
-    none (suc n) = refl
+clear-more picks zero k text a b = let plus : 0 + k ≡ k = omega arith in rw plus b
+clear-more picks (suc j) k [] a b =
+    let next : suc j + k ≡ suc (j + k) = omega arith in rw next refl
 clear-more picks (suc j) k (x ∷ rest) a b =
     let p = and_parts (not ((x == 60) && picks rest)) (clear picks j rest) a in
-    let next : suc (j + k) ≡ suc j + k = omega arith in
-    subst (λ n. clear picks n (x ∷ rest) ≡ true) next
-    (and_from _ _ p.0 (clear-more picks j k rest p.1 b))
+    let next : suc j + k ≡ suc (j + k) = omega arith in
+    rw next (and_from _ _ p.0 (clear-more picks j k rest p.1 b))
 
 -- none begins where no `<` stands
 pub clear-run : (picks : List ℕ → Bool) (k : ℕ) (text : List ℕ) →
@@ -46,9 +38,7 @@ pub clear-run : (picks : List ℕ → Bool) (k : ℕ) (text : List ℕ) →
     clear picks k text ≡ true
 clear-run picks zero text h = refl
 clear-run picks (suc k) [] h = refl
-clear-run picks (suc k) (b ∷ rest) h =
-    let p = and_parts (differs 60 b) (list_all (differs 60) (take k rest)) h in
-    and_from _ _ (ap not (and_left _ _ (not-true (b == 60) p.0))) (clear-run picks k rest p.1)
+clear-run picks (suc k) (b ∷ rest) h = let later = clear-run picks k rest in grind (arith, later, h)
 
 -- ---- the result for such a stretch
 
@@ -58,9 +48,7 @@ pub clear-scanned : (picks : List ℕ → Bool) (add : ℕ → List ℕ) (n k : 
 clear-scanned picks add n zero text h = refl
 clear-scanned picks add n (suc k) [] h = refl
 clear-scanned picks add n (suc k) (b ∷ rest) h =
-    let p = and_parts (not ((b == 60) && picks rest)) (clear picks k rest) h in
-    ap (λ t. b ∷ scanned picks add t n rest) (not-true ((b == 60) && picks rest) p.0)
-    ∙ ap (λ y. b ∷ y) (clear-scanned picks add n k rest p.1)
+    let later = clear-scanned picks add n k rest in grind (arith, later, h)
 
 pub clear-headings : (n k : ℕ) (text : List ℕ) → clear picks_heading k text ≡ true →
     scanned_headings n text ≡ scanned_headings n (drop k text)
@@ -68,8 +56,7 @@ clear-headings n zero text h = refl
 clear-headings n (suc k) [] h = refl
 clear-headings n (suc k) (b ∷ rest) h =
     let p = and_parts (not ((b == 60) && picks_heading rest)) (clear picks_heading k rest) h in
-    cond-false ((b == 60) && picks_heading rest) _ _ (not-true _ p.0)
-    ∙ clear-headings n k rest p.1
+    rw (not-true _ p.0) (clear-headings n k rest p.1)
 
 -- ---- a text at a `<`
 
@@ -167,18 +154,15 @@ pub unnamed : (rule : Rule) (text : List ℕ) (at : ℕ) → at + 1 < length tex
     (slice_index text (at + 1) == letter_of rule) ≡ false →
     picks_of rule (drop (suc at) text) ≡ false
 unnamed rule text at within other =
-    ap (picks_of rule) (drop-cons text (suc at) 0 (omega (arith, within)))
-    ∙ unbegun rule (slice_index text (suc at)) (drop (suc (suc at)) text)
-    (ap (λ m. slice_index text m == letter_of rule) (sym (add-one at)) ∙ other)
+    rw (drop-cons text (suc at) 0 (omega (arith, within)))
+    (unbegun rule (slice_index text (suc at)) (drop (suc (suc at)) text) (rw (add-one at) at other))
 
 -- no level
 pub unlevelled : (text : List ℕ) (at : ℕ) → at + 2 < length text →
     is_between 49 54 (slice_index text (at + 2)) ≡ false →
     picks_heading (drop (suc at) text) ≡ false
 unlevelled text at within other =
+    let second = drop-cons text (suc at) 0 (omega (arith, within)) in
+    let third = drop-cons text (suc (suc at)) 0 (omega (arith, within)) in
     let two : suc (suc at) ≡ at + 2 = omega arith in
-    ap picks_heading (drop-cons text (suc at) 0 (omega (arith, within))
-    ∙ ap (λ t. slice_index text (suc at) ∷ t)
-    (drop-cons text (suc (suc at)) 0 (omega (arith, within))))
-    ∙ and_left _ _ (and_right (slice_index text (suc at) == 104) _
-    (ap (λ m. is_between 49 54 (slice_index text m)) two ∙ other))
+    rw (second, third, two, other) (grind arith)

@@ -8,16 +8,15 @@ use Rattle.md_text.specs.References.{is_escaped}
 use Rattle.md_text.specs.Html.{Attribute, written_attributes}
 use Rattle.md_text.proofs.HtmlWriting.{attributes_before, written_attributes-before}
 use Rattle.md_safe.specs.Input.{with_line_feeds, begins_with_line_feed}
-use Rattle.md_safe.specs.Token.{Token, Character, StartTag, EndTag, EndOfFile}
+use Rattle.md_safe.specs.Token.{Token, Character, EndOfFile}
 use Rattle.md_safe.specs.TokenizerStates.{Data}
 use Rattle.md_safe.specs.Tokenizer.{IsTokenized}
-use Rattle.md_safe.specs.Tokens.{seen, seen_attributes}
+use Rattle.md_safe.specs.Tokens.{seen}
 use Rattle.md_safe.proofs.LineFeeds.{line_feeds-append, line_feeds-escaped}
 use Rattle.md_safe.proofs.GoodNames.{is_good_name, are_good}
 use Rattle.md_safe.proofs.Steps.{along}
 use Rattle.md_safe.proofs.TextLeads.{text-runs}
-use Rattle.md_safe.proofs.TagLeads.{lined, line_feeds-attributes, element-runs}
-use Rattle.md_safe.proofs.TagLeads.{void-runs, end-runs}
+use Rattle.md_safe.proofs.TagLeads.{lined, line_feeds-attributes, element-runs, void-runs, end-runs}
 use Rattle.md_safe.proofs.ForestLeads.{good-line_feeds}
 use Rattle.md_page.specs.Pieces.{Piece, Words, Opening, Single, Closing, all_written, all_tokens}
 use Rattle.md_page.specs.Pieces.{are_sound, are_plain, is_tag_name, void_names, begins_with_words}
@@ -47,13 +46,9 @@ tag-line_feeds : (name : List ℕ) (x : List Attribute) (ends more r : List ℕ)
     name ++ attributes_before (lined x) (with_line_feeds (ends ++ (more ++ r)))
     ≡ with_line_feeds ((name ++ (written_attributes x ++ (ends ++ more))) ++ r)
 tag-line_feeds name x ends more r g h =
-    let later = ends ++ (more ++ r) in
-    let whole : (name ++ (written_attributes x ++ (ends ++ more))) ++ r
-    ≡ name ++ (written_attributes x ++ later) = simp append_assoc in
-    ap (λ y. name ++ y) (sym (line_feeds-attributes x later h))
-    ∙ sym (good-line_feeds name (attributes_before x later) g)
-    ∙ ap (λ y. with_line_feeds (name ++ y)) (sym (written_attributes-before x later))
-    ∙ sym (ap with_line_feeds whole)
+    rw (← line_feeds-attributes x (ends ++ (more ++ r)) h)
+    (rw (← good-line_feeds name (attributes_before x (ends ++ (more ++ r))) g)
+    (rw (← written_attributes-before x (ends ++ (more ++ r))) (simp append_assoc)))
 
 pub pieces-before : (x : List Piece) (r : List ℕ) (t : List Token) → are_sound x ≡ true →
     begins_with_line_feed r ≡ false → IsTokenized r t →
@@ -92,12 +87,10 @@ pieces-before (Closing name ∷ more) r t h n k =
 -- in place of the end of file the end of file
 on-end : (x : List Piece) → going_on (all_tokens x) (EndOfFile ∷ []) ≡ all_tokens x
 on-end [] = refl
-on-end (Words text ∷ more) =
-    characters-on (seen text) (all_tokens more) (EndOfFile ∷ [])
-    ∙ ap (λ y. map Character (seen text) ++ y) (on-end more)
-on-end (Opening name x ∷ more) = ap (λ y. StartTag name (seen_attributes x) false ∷ y) (on-end more)
-on-end (Single name x ∷ more) = ap (λ y. StartTag name (seen_attributes x) true ∷ y) (on-end more)
-on-end (Closing name ∷ more) = ap (λ y. EndTag name ∷ y) (on-end more)
+on-end (Words text ∷ more) = rw (characters-on (seen text) (all_tokens more), on-end more) refl
+on-end (Opening name x ∷ more) = rw (on-end more) refl
+on-end (Single name x ∷ more) = rw (on-end more) refl
+on-end (Closing name ∷ more) = rw (on-end more) refl
 
 pub pieces-run : (x : List Piece) → are_sound x ≡ true → IsTokenized (all_written x) (all_tokens x)
 pieces-run x h =

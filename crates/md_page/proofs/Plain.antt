@@ -1,19 +1,17 @@
 -- Names and attributes of pieces: the tokenizer takes them as they are, and so are those of the
 -- grammar's tables.
 use Rattle.std.specs.Str.{bytes_eq}
-use Rattle.std.proofs.Common.{◌≡◌, ℕ, ◌==◌, Bool, true, false, not, ◌&&◌, List, [], ◌∷◌, refl, ap}
+use Rattle.std.proofs.Common.{◌≡◌, ℕ, Bool, true, false, ◌&&◌, List, [], ◌∷◌, refl}
 use Rattle.std.proofs.Common.{arith}
 use Rattle.std.specs.List.{list_all, list_any}
-use Rattle.std.proofs.lemmas.Bool.{and_parts, and_from, not-true}
+use Rattle.std.proofs.lemmas.Bool.{and_parts, not-true}
 use Rattle.std.proofs.lemmas.Bool.Decides.{nat_tests}
 use Rattle.md_base.proofs.Lies.{lie}
-use Rattle.md_base.specs.Identifier.{is_nonempty}
-use Rattle.md_text.specs.Bytes.{is_between, is_letter, is_one_of}
+use Rattle.md_text.specs.Bytes.{is_one_of}
 use Rattle.md_text.specs.References.{is_escaped}
 use Rattle.md_text.specs.Html.{Attribute, is_tag, are_attributes, elements, void_tags}
 use Rattle.md_safe.proofs.Cases.{one_of-passes, all-weaker}
-use Rattle.md_safe.proofs.GoodNames.{is_good_byte, is_good_name, is_good_attribute_name, begins_tag}
-use Rattle.md_safe.proofs.GoodNames.{are_good, by_rule}
+use Rattle.md_safe.proofs.GoodNames.{is_good_byte, is_good_name, begins_tag, are_good, by_rule}
 use Rattle.md_page.specs.Pieces.{is_name_byte, is_name, is_tag_name, begins_with_letter, are_plain}
 use Rattle.md_page.specs.Pieces.{void_names}
 
@@ -29,18 +27,14 @@ and3 a b c h =
 good_bytes : (name : List ℕ) → list_all is_name_byte name ≡ true → list_all is_good_byte name ≡ true
 good_bytes name h = all-weaker is_name_byte is_good_byte (λ b own. grind (arith, nat_tests)) name h
 
-letter_begins : (b : ℕ) → is_between 97 122 b ≡ true →
-    (not (b == 33) && (not (b == 47) && is_letter b)) ≡ true
-letter_begins b h = grind (arith, nat_tests)
-
 begins : (name : List ℕ) → begins_with_letter name ≡ true → begins_tag name ≡ true
 begins [] h = lie h
-begins (b ∷ rest) h = letter_begins b h
+begins (b ∷ rest) h = grind (arith, nat_tests)
 
 pub good_name : (name : List ℕ) → is_tag_name name ≡ true → is_good_name name ≡ true
 good_name name h =
-    let p = and3 (begins_with_letter name) (list_all is_name_byte name) _ h in
-    and_from _ _ (begins name p.0) (and_from _ _ (good_bytes name p.1) p.2)
+    let first = begins name in
+    let bytes = good_bytes name in grind (arith, first, bytes, h)
 
 pub name_bytes : (name : List ℕ) → is_tag_name name ≡ true → list_all is_name_byte name ≡ true
 name_bytes name h = (and3 (begins_with_letter name) (list_all is_name_byte name) _ h).1
@@ -57,10 +51,8 @@ plain_attribute a x h =
 pub good_attributes : (x : List Attribute) → are_plain x ≡ true → are_good x ≡ true
 good_attributes [] h = refl
 good_attributes (a ∷ x) h =
-    let p = plain_attribute a x h in
-    let name = and_parts (is_nonempty a.name) (list_all is_name_byte a.name) p.0 in
-    and_from (is_good_attribute_name a.name) _ (and_from _ _ name.0 (good_bytes a.name name.1))
-    (and_from _ _ p.1 (and_from _ _ (ap not p.2) (good_attributes x p.3)))
+    let bytes = good_bytes a.name in
+    let later = good_attributes x in grind (arith, bytes, later, h)
 
 -- ---- the tables
 
@@ -68,11 +60,8 @@ attributes-plain : (listed : List (List ℕ)) (x : List Attribute) → list_all 
     are_attributes listed x ≡ true → are_plain x ≡ true
 attributes-plain listed [] g e = refl
 attributes-plain listed (a ∷ x) g e =
-    let p = and_parts _ (are_attributes listed x) e in
-    let q = and_parts _ _ p.0 in
-    let r = and_parts (is_one_of listed a.name) (is_escaped a.value) q.0 in
-    and_from (is_name a.name) _ (one_of-passes is_name listed a.name g r.0)
-    (and_from _ _ r.1 (and_from _ _ q.1 (attributes-plain listed x g p.1)))
+    let named = one_of-passes is_name listed a.name g in
+    let later = attributes-plain listed x g in grind (arith, named, later, e)
 
 -- each rule has a name that passes a test, and names of attributes
 tag-plain : (named : List ℕ → Bool) (rules : List (List ℕ × List (List ℕ))) (name : List ℕ)

@@ -1,14 +1,13 @@
 -- What the program makes of sound pieces is written for the changed ones.
-use Rattle.std.proofs.Common.{◌≡◌, ℕ, ◌==◌, suc, Bool, true, false, not, ◌&&◌, List, [], ◌∷◌, ◌++◌}
+use Rattle.std.proofs.Common.{◌≡◌, ℕ, suc, Bool, true, false, not, List, [], ◌∷◌, ◌++◌, arith}
 use Rattle.std.proofs.Common.{map, refl, sym, ap, ap₂, ◌∙◌, append_assoc}
 use Rattle.std.specs.List.{list_all}
-use Rattle.std.proofs.lemmas.Bool.{and_parts, and_from, not-true, cond_both}
+use Rattle.std.proofs.lemmas.Bool.{and_parts, and_from, cond_both}
 use Rattle.md_text.specs.Bytes.{is_one_of}
 use Rattle.md_text.specs.References.{is_escaped}
 use Rattle.md_text.specs.Html.{Attribute, written_attributes}
 use Rattle.md_safe.specs.Token.{Token, Character, StartTag, EndOfFile}
 use Rattle.md_safe.specs.Tokens.{seen, seen_attributes}
-use Rattle.md_safe.proofs.Steps.{past}
 use Rattle.md_page.specs.Added.{added}
 use Rattle.md_page.specs.Pieces.{Piece, Words, Opening, Single, Closing, all_written, all_tokens}
 use Rattle.md_page.specs.Pieces.{are_sound, are_plain, is_tag_name, void_names, begins_with_words}
@@ -27,15 +26,7 @@ pub scanned-run : (picks : List ℕ → Bool) (add : ℕ → List ℕ) (n : ℕ)
     scanned picks add false n (x ++ r) ≡ x ++ scanned picks add false n r
 scanned-run picks add n [] r h = refl
 scanned-run picks add n (b ∷ x) r h =
-    let p = and_parts (differs 60 b) (list_all (differs 60) x) h in
-    ap (λ t. b ∷ scanned picks add (t && picks (x ++ r)) n (x ++ r)) (not-true (b == 60) p.0)
-    ∙ ap (λ y. b ∷ y) (scanned-run picks add n x r p.1)
-
--- a `<` before what is picked
-pub scanned-picked : (picks : List ℕ → Bool) (add : ℕ → List ℕ) (n : ℕ) (rest : List ℕ) →
-    picks rest ≡ true →
-    scanned picks add false n (60 ∷ rest) ≡ 60 ∷ scanned picks add true n rest
-scanned-picked picks add n rest e = ap (λ t. 60 ∷ scanned picks add t n rest) e
+    let later = scanned-run picks add n x r in grind (arith, later, h)
 
 -- inside a tag that is picked
 pub scanned-inside : (picks : List ℕ → Bool) (add : ℕ → List ℕ) (n : ℕ) (x r : List ℕ) →
@@ -44,15 +35,13 @@ pub scanned-inside : (picks : List ℕ → Bool) (add : ℕ → List ℕ) (n : �
     ≡ x ++ (add n ++ (62 ∷ scanned picks add false (suc n) r))
 scanned-inside picks add n [] r h = refl
 scanned-inside picks add n (b ∷ x) r h =
-    let p = and_parts (differs 62 b) (list_all (differs 62) x) h in
-    past _ (not-true (b == 62) p.0) (ap (λ y. b ∷ y) (scanned-inside picks add n x r p.1))
+    let later = scanned-inside picks add n x r in grind (arith, later, h)
 
 pub scanned-unclosed : (picks : List ℕ → Bool) (add : ℕ → List ℕ) (n : ℕ) (x : List ℕ) →
     list_all (differs 62) x ≡ true → scanned picks add true n x ≡ x
 scanned-unclosed picks add n [] h = refl
 scanned-unclosed picks add n (b ∷ x) h =
-    let p = and_parts (differs 62 b) (list_all (differs 62) x) h in
-    past _ (not-true (b == 62) p.0) (ap (λ y. b ∷ y) (scanned-unclosed picks add n x p.1))
+    let later = scanned-unclosed picks add n x in grind (arith, later, h)
 
 -- ---- over pieces
 
@@ -63,18 +52,12 @@ inserted new n = written_attributes (new n ∷ [])
 attributes-append : (x y : List Attribute) →
     written_attributes (x ++ y) ≡ written_attributes x ++ written_attributes y
 attributes-append [] y = refl
-attributes-append (a ∷ x) y =
-    ap (λ z. 32 ∷ (a.name ++ (61 ∷ 34 ∷ (a.value ++ (34 ∷ z))))) (attributes-append x y)
-    ∙ simp append_assoc
+attributes-append (a ∷ x) y = simp (attributes-append x y, append_assoc)
 
 grown-written : (name : List ℕ) (x : List Attribute) (a : Attribute) (r : List ℕ) →
     (name ++ written_attributes x) ++ (written_attributes (a ∷ []) ++ (62 ∷ r))
     ≡ name ++ (written_attributes (x ++ (a ∷ [])) ++ (62 ∷ r))
-grown-written name x a r =
-    append_assoc name (written_attributes x) (written_attributes (a ∷ []) ++ (62 ∷ r))
-    ∙ ap (λ y. name ++ y)
-    (sym (append_assoc (written_attributes x) (written_attributes (a ∷ [])) (62 ∷ r))
-    ∙ ap (λ y. y ++ (62 ∷ r)) (sym (attributes-append x (a ∷ []))))
+grown-written name x a r = simp (attributes-append x (a ∷ []), append_assoc)
 
 -- what is known of pieces and of the changed ones, if n tags passed before
 pub record AreChanged (picks : List ℕ → Bool) (test : Token → Bool) (new : ℕ → Attribute) (n : ℕ)
@@ -90,17 +73,15 @@ kept : {picks : List ℕ → Bool} {test : Token → Bool} {new : ℕ → Attrib
     test (token_of tag) ≡ false → AreChanged picks test new n more y →
     AreChanged picks test new n (tag ∷ more) (tag ∷ y)
 kept {picks} {test} {new} {n} {more} {y} by tag sound fails r = record {
-  tokens = tag-tokens tag y sound ∙ ap (λ ts. token_of tag ∷ ts) r.tokens
-      ∙ sym (ap (added test (seen_new new) n) (tag-tokens tag more sound)
-      ∙ added-other test (seen_new new) n (token_of tag) (all_tokens more) fails);
+  tokens = rw (tag-tokens tag y sound, r.tokens, tag-tokens tag more sound)
+      (rw (added-other test (seen_new new) n (token_of tag) (all_tokens more) fails) refl);
   sound = tag-sound tag y sound r.sound;
   words = words tag;
-  written = ap (scanned picks (inserted new) false n) (tag-written tag more sound)
-      ∙ ap (λ t. 60 ∷ scanned picks (inserted new) t n (inside tag ++ (62 ∷ all_written more)))
-      (picks-tag by tag (all_written more) sound ∙ fails)
-      ∙ ap (λ z. 60 ∷ z) (scanned-run picks (inserted new) n (inside tag) (62 ∷ all_written more)
-      (tag-differs 60 tag opens sound) ∙ ap (λ z. inside tag ++ (62 ∷ z)) r.written)
-      ∙ sym (tag-written tag y sound);
+  written = rw (tag-written tag more sound, tag-written tag y sound)
+      (rw (picks-tag by tag (all_written more) sound, fails)
+      (rw (scanned-run picks (inserted new) n (inside tag) (62 ∷ all_written more)
+      (tag-differs 60 tag opens sound))
+      (rw r.written refl)));
 }
   where
     words : (tag : Piece) → begins_with_words (tag ∷ y) ≡ begins_with_words (tag ∷ more)
@@ -124,13 +105,11 @@ grown {picks} {test} {new} {n} {more} {y} by may name x named plain passes r =
           (plain-more x (new n) plain (may.named n) (may.escaped n) (may.fresh n name x passes))
           r.sound);
       words = refl;
-      written = ap (scanned picks (inserted new) false n) (tag-written tag more sound)
-          ∙ scanned-picked picks (inserted new) n (inside tag ++ (62 ∷ all_written more))
-          (picks-tag by tag (all_written more) sound ∙ passes)
-          ∙ ap (λ z. 60 ∷ z) (scanned-inside picks (inserted new) n (inside tag) (all_written more)
-          (tag-differs 62 tag closes sound)
-          ∙ ap (λ z. inside tag ++ (inserted new n ++ (62 ∷ z))) r.written
-          ∙ grown-written name x (new n) (all_written y));
+      written = rw (← append_assoc name (written_attributes x) (62 ∷ all_written more))
+          (rw (picks-tag by tag (all_written more) sound, passes)
+          (rw (scanned-inside picks (inserted new) n (inside tag) (all_written more)
+          (tag-differs 62 tag closes sound))
+          (rw (r.written, grown-written name x (new n) (all_written y)) refl)));
     }
 
 pub changed-pieces : {picks : List ℕ → Bool} {test : Token → Bool} {new : ℕ → Attribute} →

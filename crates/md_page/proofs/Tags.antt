@@ -1,6 +1,6 @@
 -- The tags of sound pieces: their tokens, and the bytes between `<` and `>`.
 use Rattle.std.proofs.Common.{◌≡◌, ℕ, Bool, true, false, not, ◌&&◌, List, [], ◌∷◌, ◌++◌, refl}
-use Rattle.std.proofs.Common.{sym, ap, ◌∙◌, append_assoc, codes}
+use Rattle.std.proofs.Common.{sym, ap, ◌∙◌, append_assoc, codes, arith}
 use Rattle.std.specs.List.{list_all}
 use Rattle.std.proofs.lemmas.Bool.{and_parts, and_from}
 use Rattle.std.proofs.lemmas.List.Folds.{list_all-append}
@@ -15,7 +15,7 @@ use Rattle.md_safe.proofs.Cases.{all-weaker}
 use Rattle.md_page.specs.Pieces.{Piece, Words, Opening, Single, Closing, all_written, all_tokens}
 use Rattle.md_page.specs.Pieces.{are_sound, are_plain, is_name_byte, is_tag_name, void_names}
 use Rattle.md_page.specs.Scan.{differs}
-use Rattle.md_page.proofs.Plain.{and3, plain_attribute, name_bytes, void-name}
+use Rattle.md_page.proofs.Plain.{plain_attribute, name_bytes, void-name}
 
 -- a tag that may be among sound pieces
 abbrev pub is_sound_tag : Piece → Bool
@@ -53,10 +53,7 @@ tag-tokens tag more h = refl
 pub tag-sound : (tag : Piece) (more : List Piece) → is_sound_tag tag ≡ true →
     are_sound more ≡ true → are_sound (tag ∷ more) ≡ true
 tag-sound (Words text) more h later = lie h
-tag-sound (Closing name) more h later = and_from _ _ h later
-tag-sound tag more h later =
-    let p = and_parts _ _ h in
-    and_from _ _ p.0 (and_from _ _ p.1 later)
+tag-sound tag more h later = grind (arith, h, later)
 
 -- tags are picked by their bytes as by their tokens, and each is the start tag of an element
 pub record PicksBy (picks : List ℕ → Bool) (test : Token → Bool) : Type 0 where
@@ -76,13 +73,13 @@ pub picks-tag : {picks : List ℕ → Bool} {test : Token → Bool} → PicksBy 
     (tag : Piece) (r : List ℕ) → is_sound_tag tag ≡ true →
     picks (inside tag ++ (62 ∷ r)) ≡ test (token_of tag)
 picks-tag by (Words text) r h = lie h
-picks-tag {picks = picks} by (Opening name x) r h =
+picks-tag by (Opening name x) r h =
     let p = and_parts (is_tag_name name) (are_plain x) h in
-    ap picks (append_assoc name (written_attributes x) (62 ∷ r)) ∙ by.elements name x r p.0 p.1
-picks-tag {picks = picks} by (Single name x) r h =
+    rw (append_assoc name (written_attributes x) (62 ∷ r)) (by.elements name x r p.0 p.1)
+picks-tag by (Single name x) r h =
     let void = (and_parts (is_one_of void_names name) (are_plain x) h).0 in
-    ap picks (append_assoc name (written_attributes x ++ (32 ∷ 47 ∷ [])) (62 ∷ r))
-    ∙ by.voids name _ void ∙ sym (by.void_tokens name (seen_attributes x) void)
+    rw (append_assoc name (written_attributes x ++ (32 ∷ 47 ∷ [])) (62 ∷ r))
+    (rw (by.voids name _ void, by.void_tokens name (seen_attributes x) void) refl)
 picks-tag by (Closing name) r h = by.ends (name ++ (62 ∷ r)) ∙ sym (by.end_tokens name)
 
 -- ---- bytes that aren't in tags
@@ -122,13 +119,10 @@ pub attributes-differ : (n : ℕ) (x : List Attribute) → StandsOutside n → a
 attributes-differ n [] o h = refl
 attributes-differ n (a ∷ x) o h =
     let p = plain_attribute a x h in
-    let m = and3 (differs n 32) (differs n 61) _ o.marks in
-    let quote = (and_parts (differs n 34) _ m.2).0 in
-    and_from _ _ m.0 (all-join (differs n) a.name _ (name-differs n a.name o.names
-    (and_parts _ (list_all is_name_byte a.name) p.0).1)
-    (and_from _ _ m.1 (and_from _ _ quote (all-join (differs n) a.value _
-    (escaped-differs n a.value o.escaped p.1)
-    (and_from _ _ quote (attributes-differ n x o p.3))))))
+    let name = name-differs n a.name o.names (and_parts _ (list_all is_name_byte a.name) p.0).1 in
+    let value = escaped-differs n a.value o.escaped p.1 in
+    let later = attributes-differ n x o p.3 in
+    simp list_all-append (grind (arith, o.marks, name, value, later))
 
 pub tag-differs : (n : ℕ) (tag : Piece) → StandsOutside n → is_sound_tag tag ≡ true →
     list_all (differs n) (inside tag) ≡ true
@@ -139,12 +133,9 @@ tag-differs n (Opening name x) o h =
     (name-differs n name o.names (name_bytes name p.0)) (attributes-differ n x o p.1)
 tag-differs n (Single name x) o h =
     let p = and_parts (is_one_of void_names name) (are_plain x) h in
-    let m = and3 (differs n 32) (differs n 61) _ o.marks in
-    all-join (differs n) name (written_attributes x ++ (32 ∷ 47 ∷ []))
-    (name-differs n name o.names (void-name (list_all is_name_byte) name refl p.0))
-    (all-join (differs n) (written_attributes x) (32 ∷ 47 ∷ []) (attributes-differ n x o p.1)
-    (and_from _ _ m.0 (and_parts (differs n 34) _ m.2).1))
+    let named =
+    name-differs n name o.names (void-name (list_all is_name_byte) name refl p.0) in
+    let later = attributes-differ n x o p.1 in
+    simp list_all-append (grind (arith, o.marks, named, later))
 tag-differs n (Closing name) o h =
-    let m = and3 (differs n 32) (differs n 61) _ o.marks in
-    and_from _ _ (and_parts _ _ (and_parts (differs n 34) _ m.2).1).0
-    (name-differs n name o.names (name_bytes name h))
+    let named = name-differs n name o.names (name_bytes name h) in grind (arith, o.marks, named)

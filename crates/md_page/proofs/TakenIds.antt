@@ -1,12 +1,10 @@
 -- Each id among the tokens of a text stands in quotes after ` id=`.
 use Rattle.std.specs.Str.{bytes_eq}
-use Rattle.std.proofs.Common.{◌≡◌, ℕ, Bool, true, false, cond, List, [], ◌∷◌, ◌++◌, map}
+use Rattle.std.proofs.Common.{◌≡◌, ℕ, true, cond, List, [], ◌∷◌, ◌++◌, map, inl, inr}
 use Rattle.std.proofs.Common.{refl, sym, ap, ◌∙◌, subst, append_assoc, codes}
-use Rattle.std.specs.Prelude.{nat_eq}
 use Rattle.std.specs.List.{list_all}
-use lib.Pointwise.{pointwise}
 use Rattle.std.specs.Cmp.Lexicographic.{bytes_decides}
-use Rattle.std.proofs.lemmas.Bool.{and_parts, and_from, or_left, or_right}
+use Rattle.std.proofs.lemmas.Bool.{and_parts, and_from, or_left, or_right, cases_Bool}
 use Rattle.std.proofs.lemmas.List.Prefix.{end_rest}
 use Rattle.md_base.proofs.Lies.{lie}
 use Rattle.md_text.specs.Bytes.{is_one_of}
@@ -26,7 +24,7 @@ use Rattle.md_page.specs.Pieces.{IsWritten}
 use Rattle.md_page.specs.Scan.{differs, parts_of, ends_at_id, ids_in_parts, scanned_ids}
 use Rattle.md_page.proofs.Distinct.{in-append}
 use Rattle.md_page.proofs.HeadingTexts.{encoded-seen}
-use Rattle.md_page.proofs.Parts.{written-on, is_filled, parts-filled, parts-run}
+use Rattle.md_page.proofs.Parts.{is_filled, parts-filled, parts-run}
 use Rattle.md_page.proofs.Plain.{and3, plain_attribute, name_bytes, void-name}
 use Rattle.md_page.proofs.Rules.{attributed}
 use Rattle.md_page.proofs.Tags.{escaped-differs, name-differs, all-join}
@@ -47,8 +45,7 @@ FoundAfter ids text = (pre : List ℕ) → Unquoted pre → AreFound ids (scanne
 after : (x r : List ℕ) (ids : List (List ℕ)) → Unquoted x → FoundAfter ids r →
     FoundAfter ids (x ++ r)
 after x r ids unquoted found pre u id k =
-    ap (λ y. is_among (encoded true id) (scanned_ids y)) (sym (append_assoc pre x r))
-    ∙ found (pre ++ x) (all-join (differs 34) pre x u unquoted) id k
+    rw (← append_assoc pre x r) (found (pre ++ x) (all-join (differs 34) pre x u unquoted) id k)
 
 -- ---- parts
 
@@ -59,18 +56,15 @@ step before value [] h = lie h
 step before value (part ∷ more) h = refl
 
 at_id : (x : List ℕ) → ends_at_id (x ++ codes " id=") ≡ true
-at_id x =
-    ap (λ y. pointwise nat_eq (codes " id=") y)
-    (end_rest (x ++ codes " id=") (codes " id=") x refl)
+at_id x = rw (end_rest (x ++ codes " id=") (codes " id=") x refl) refl
 
 -- a value after the text before it
 value_step : (before value rest : List ℕ) → Unquoted before → Unquoted value →
     scanned_ids (before ++ (34 ∷ (value ++ (34 ∷ rest))))
     ≡ cond (ends_at_id before) (with_line_feeds value ∷ []) [] ++ scanned_ids rest
 value_step before value rest b v =
-    ap ids_in_parts (parts-run before (value ++ (34 ∷ rest)) b
-    ∙ ap (λ y. before ∷ y) (parts-run value rest v))
-    ∙ step before value (parts_of rest) (parts-filled rest)
+    rw (parts-run before (value ++ (34 ∷ rest)) b, parts-run value rest v)
+    (step before value (parts_of rest) (parts-filled rest))
 
 -- ---- attributes
 
@@ -93,34 +87,25 @@ attributes_found (a ∷ x) r later plain f pre u id h =
     let whole : pre ++ (written_attributes (a ∷ x) ++ r)
     ≡ up_to pre a.name ++ (34 ∷ (a.value ++ (34 ∷ (written_attributes x ++ r)))) =
     simp append_assoc in
+    let k = attributes_found x r later p.3 f [] refl id in
     subst (λ found. is_among (encoded true id) found ≡ true)
     (sym (ap scanned_ids whole ∙ value_step (up_to pre a.name) a.value (written_attributes x ++ r)
     unquoted (escaped-differs 34 a.value (λ rest. refl) p.1)))
-    (by (bytes_eq (codes "id") a.name) refl h (attributes_found x r later p.3 f [] refl id) p.1)
-  where
-    later_ids : List (List ℕ)
-    later_ids = scanned_ids (written_attributes x ++ r)
-
-    by : (b : Bool) → bytes_eq (codes "id") a.name ≡ b →
-        is_among id (cond b (seen a.value ∷ ids_in (seen_attributes x))
-        (ids_in (seen_attributes x)) ++ later) ≡ true →
-        (is_among id (ids_in (seen_attributes x) ++ later) ≡ true →
-        is_among (encoded true id) later_ids ≡ true) →
-        is_escaped a.value ≡ true →
-        is_among (encoded true id) (cond (ends_at_id (up_to pre a.name))
-        (with_line_feeds a.value ∷ []) [] ++ later_ids) ≡ true
-    by false e h k escaped =
-        in-append (encoded true id)
-        (cond (ends_at_id (up_to pre a.name)) (with_line_feeds a.value ∷ []) []) later_ids
-        ∙ or_right _ _ (k h)
-    by true e h k escaped =
-        ap (λ c. is_among (encoded true id) (cond c (with_line_feeds a.value ∷ []) [] ++ later_ids))
-        (ap (λ name. ends_at_id (up_to pre name)) (sym ((bytes_decides (codes "id") a.name).0 e))
-        ∙ at_id pre) ∙ either (bytes_eq (seen a.value) id) _ h
-        (λ same. or_left _ _ ((bytes_decides (with_line_feeds a.value) (encoded true id)).1
-        (sym (encoded-seen a.value escaped)
-        ∙ ap (encoded true) ((bytes_decides (seen a.value) id).0 same))))
-        (λ another. or_right _ _ (k another))
+    (elim (cases_Bool (bytes_eq (codes "id") a.name)) [
+      | inl is ↦
+          (let ends : ends_at_id (up_to pre a.name) ≡ true =
+          ap (λ name. ends_at_id (up_to pre name)) (sym ((bytes_decides (codes "id") a.name).0 is))
+          ∙ at_id pre in
+          rw ends (either (bytes_eq (seen a.value) id) _ (rw is at h)
+          (λ same. or_left _ _ ((bytes_decides (with_line_feeds a.value) (encoded true id)).1
+          (sym (encoded-seen a.value p.1)
+          ∙ ap (encoded true) ((bytes_decides (seen a.value) id).0 same))))
+          (λ another. or_right _ _ (k another))))
+      | inr no_id ↦
+          in-append (encoded true id)
+          (cond (ends_at_id (up_to pre a.name)) (with_line_feeds a.value ∷ []) [])
+          (scanned_ids (written_attributes x ++ r)) ∙ or_right _ _ (k (rw no_id at h))
+    ])
 
 -- ---- pieces
 
@@ -184,6 +169,4 @@ pub id-turn : (before value more : List ℕ) (found : List (List ℕ)) {after re
     found' ≡ found ++ cond (ends_at_id before) (with_line_feeds value ∷ []) [] →
     found ++ scanned_ids rest ≡ whole → found' ++ scanned_ids more ≡ whole
 id-turn before value more found is b also v put all =
-    written-on found (cond (ends_at_id before) (with_line_feeds value ∷ []) []) (scanned_ids more)
-    put (ap scanned_ids (is ∙ ap (λ y. before ++ (34 ∷ y)) also)
-    ∙ value_step before value more b v) all
+    rw (put, ← all, is, also, value_step before value more b v, append_assoc) refl

@@ -1,22 +1,22 @@
 -- Names and numbers at the front of a text, where sixteen bytes are compared at once.
 use Rattle.std.proofs.Common.{◌≡◌, ℕ, zero, suc, ◌+◌, ◌-◌, ◌<◌, ◌≤◌, Bool, true, false, not, cond}
-use Rattle.std.proofs.Common.{List, [], ◌∷◌, ◌++◌, map, length, take, drop, get_or}
+use Rattle.std.proofs.Common.{List, [], ◌∷◌, ◌++◌, map, length, take, drop, get_or, inl, inr}
 use Rattle.std.proofs.Common.{Option, Some, None, refl, sym, ap, ◌∙◌, arith, subst, codes, bytes_eq}
-use Rattle.std.specs.Prelude.{nat_le, option_map, find}
+use Rattle.std.specs.Prelude.{nat_le}
 use Rattle.std.specs.List.{before_first, list_all, list_any, slice_get}
-use Rattle.std.proofs.lemmas.Bool.{and_parts, eqb-true, not-true}
-use Rattle.std.proofs.lemmas.List.{take-append-drop, take_rest}
+use Rattle.std.proofs.lemmas.Bool.{and_parts, eqb-true, not-true, cases_Bool}
+use Rattle.std.proofs.lemmas.List.{take_rest}
 use Rattle.std.proofs.lemmas.List.Folds.{list_any-append}
 use Rattle.std.proofs.lemmas.Option.{slice_get-map}
 use Rattle.std.proofs.lemmas.Slice.Eq.{bytes_eq-Decides}
+use Rattle.md_script.proofs.NameLemmas.{other_whole}
 use Rattle.md_base.specs.declared.event.Kind.{Kind}
 use Rattle.md_base.specs.declared.event.Name.{Name}
 use Rattle.md_base.specs.declared.event.Point.{Point}
 use Rattle.md_base.specs.declared.event.Name.TheVariants.{Other}
 use Rattle.md_base.specs.EventNames.{event_names}
 use Rattle.md_base.specs.Table.{listed}
-use Rattle.md_script.specs.Line.{◌>>=◌, is_space, kind_of, otherwise, other_name}
-use Rattle.md_script.specs.Line.{name_of}
+use Rattle.md_script.specs.Line.{◌>>=◌, is_space, kind_of, otherwise, other_name, name_of}
 use Rattle.md_script.specs.Number.{number_of}
 use Rattle.md_script.specs.CommonName.{IsFirstSpace, spelled, named, is_full, AreRows}
 use Rattle.md_script.specs.PlainLine.{is_break, BeginsWithEvent, BeginsWithNumber, BeginsWithName}
@@ -33,11 +33,8 @@ row_named : (rows : List Row) (i : ℕ) (row : Row) → map spelled rows ≡ map
     slice_get rows i ≡ Some row →
     spelled row ≡ named row
 row_named rows i row same at =
-    let spelling : Some (spelled row) ≡ Some (named row) =
-    ap (option_map spelled) (sym at) ∙ sym (slice_get-map spelled rows i)
-    ∙ ap (λ names. slice_get names i) same ∙ slice_get-map named rows i
-    ∙ ap (option_map named) at in
-    cc
+    let one = rw (at) at (slice_get-map spelled rows i) in
+    let two = rw (at) at (slice_get-map named rows i) in cc
 
 row_full : (rows : List Row) (i : ℕ) (row : Row) → list_all is_full rows ≡ true →
     slice_get rows i ≡ Some row →
@@ -87,15 +84,11 @@ pub other_read : (bytes digits following : List ℕ) (number : ℕ) (name : Name
     BeginsWithName bytes name following
 other_read bytes digits following number name other rest read is =
     let spelling = read.digits in
-    let whole : bytes ≡ codes "Other" ++ digits =
-    sym (take-append-drop 5 bytes)
-    ∙ ap (λ front. front ++ drop 5 bytes) ((bytes_eq-Decides (take 5 bytes)
-    (codes "Other")).0 other) ∙ ap (λ d. codes "Other" ++ d) (sym rest) in
     let same : other_name (codes "Other" ++ spelling) ≡ name_of (codes "Other" ++ spelling) =
     refl in
     record {
       text = codes "Other" ++ spelling;
-      whole = whole ∙ ap (λ d. codes "Other" ++ d) read.whole;
+      whole = other_whole bytes other ∙ ap (λ d. codes "Other" ++ d) (sym rest ∙ read.whole);
       says = sym same ∙ ap (λ n. n >>= numbered) read.value ∙ sym is;
     }
 
@@ -103,28 +96,17 @@ other_read bytes digits following number name other rest read is =
 abbrev is_whole : List ℕ × Name → Bool
 is_whole entry = not (list_any is_break entry.0)
 
-abbrev find_in : List (List ℕ × Name) → List ℕ → Option (List ℕ × Name)
-find_in table text = find (λ entry. bytes_eq entry.0 text) table
-
-listed_step : (entry : List ℕ × Name) (table : List (List ℕ × Name)) (text : List ℕ)
-    (name : Name) (test : Bool) →
-    test ≡ bytes_eq entry.0 text → is_whole entry ≡ true →
-    (listed table text ≡ Some name → list_any is_break text ≡ false) →
-    listed (entry ∷ table) text ≡ Some name →
-    list_any is_break text ≡ false
-listed_step entry table text name true e whole rest at =
-    subst (λ t. list_any is_break t ≡ false) ((bytes_eq-Decides entry.0 text).0 (sym e))
-    (not-true _ whole)
-listed_step entry table text name false e whole rest at =
-    rest (ap (λ t. option_map (λ found. found.1) (cond t (Some entry) (find_in table text))) e ∙ at)
-
 listed_unbroken : (table : List (List ℕ × Name)) (text : List ℕ) (name : Name) →
     list_all is_whole table ≡ true →
     listed table text ≡ Some name → list_any is_break text ≡ false
-listed_unbroken [] text name all at = cc
-listed_unbroken (entry ∷ table) text name all at =
+listed_unbroken [] text name all = λ found. cc
+listed_unbroken (entry ∷ table) text name all =
     let parts = and_parts (is_whole entry) (list_all is_whole table) all in
-    listed_step entry table text name _ refl parts.0 (listed_unbroken table text name parts.1) at
+    elim (cases_Bool (bytes_eq entry.0 text)) [
+      | inl same ↦
+          λ found. rw (← (bytes_eq-Decides entry.0 text).0 same) (not-true _ parts.0)
+      | inr other ↦ rw other (listed_unbroken table text name parts.1)
+    ]
 
 names_whole : list_all is_whole event_names ≡ true
 names_whole = refl
@@ -136,10 +118,8 @@ other_unbroken text name false number et en e = cc
 other_unbroken text name true None et en e = cc
 other_unbroken text name true (Some n) et en e =
     let all = number_is_digits 5 (drop 5 text) n _ _ refl refl (sym en) in
-    let whole : text ≡ codes "Other" ++ drop 5 text =
-    sym (take-append-drop 5 text) ∙ ap (λ front. front ++ drop 5 text)
-    ((bytes_eq-Decides (take 5 text) (codes "Other")).0 (sym et)) in
-    ap (list_any is_break) whole ∙ list_any-append is_break (codes "Other") (drop 5 text)
+    ap (list_any is_break) (other_whole text (sym et))
+    ∙ list_any-append is_break (codes "Other") (drop 5 text)
     ∙ digits_unbroken (drop 5 text) all
 
 named_unbroken : (text : List ℕ) (name : Name) (first second : Option Name) →

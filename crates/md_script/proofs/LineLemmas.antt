@@ -43,10 +43,7 @@ pub event_built : (line : List ℕ) (sign : ℕ) (rest before after : List ℕ) 
     point ≡ point_of after →
     built kind name point ≡ event_of line
 event_built line sign rest before after kind name point whole front back kinds names points =
-    ap (λ k. built k name point) kinds
-    ∙ ap (λ n. built (kind_of sign) n point) (names ∙ ap name_of front)
-    ∙ ap (built (kind_of sign) (name_of (before_first is_space rest))) (points ∙ ap point_of back)
-    ∙ ap event_of (sym whole)
+    rw (whole, kinds, names, front, points, back) refl
 
 -- ---- the first line
 
@@ -60,8 +57,7 @@ pub lines_cut : (input line following : List ℕ) → true ≡ list_any is_line_
     line ≡ before_first is_line_feed input → following ≡ after_first is_line_feed input →
     lines_of input ≡ line ∷ lines_of following
 lines_cut input line following some front back =
-    lines_at input some ∙ ap (λ l. l ∷ lines_of (after_first is_line_feed input)) (sym front)
-    ∙ ap (λ f. line ∷ lines_of f) (sym back)
+    rw (front, back) (lines_at input some)
 
 pub lines_alone : (input : List ℕ) → list_any is_line_feed input ≡ false →
     lines_of input ≡ input ∷ []

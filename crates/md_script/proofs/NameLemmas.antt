@@ -5,11 +5,11 @@ use Rattle.std.proofs.Common.{arith, inl, inr, codes, bytes_eq}
 use Rattle.std.specs.Prelude.{filter, option_map, option_and_then, nat_le}
 use Rattle.std.specs.Borrow.{Bor}
 use Rattle.std.specs.List.{list_all, slice_get}
-use Rattle.std.proofs.lemmas.Bool.{cases_Bool, and_parts, leb-true, leb-false, eq-eqb, ne_eqb}
-use Rattle.std.proofs.lemmas.Bool.{true≢false}
+use Rattle.std.proofs.lemmas.Bool.{cases_Bool, leb-true, leb-false}
 use Rattle.std.proofs.lemmas.List.{take-append-drop}
 use Rattle.std.proofs.lemmas.Option.{slice_get_past}
 use Rattle.std.proofs.lemmas.Slice.Eq.{bytes_eq-Decides}
+use Rattle.std.proofs.lemmas.Bool.Decides.{nat_tests}
 use Rattle.md_base.specs.declared.event.Name.{Name}
 use Rattle.md_base.specs.declared.event.Name.TheVariants.{Other}
 use Rattle.md_base.specs.EventNames.{event_names}
@@ -22,11 +22,7 @@ use Rattle.md_script.proofs.SettingLemmas.{find-filter}
 other_length : (text : List ℕ) (entry : List ℕ × Name) → is_long (length text) entry ≡ false →
     bytes_eq entry.0 text ≡ false
 other_length text entry other =
-    elim (cases_Bool (bytes_eq entry.0 text)) [
-      | inl same ↦ absurd (true≢false
-          (sym (eq-eqb _ _ (ap length ((bytes_eq-Decides entry.0 text).0 same))) ∙ other))
-      | inr differs ↦ differs
-    ]
+    let same = (bytes_eq-Decides entry.0 text).0 in grind (arith, nat_tests, same, other)
 
 -- only names that are as long can be the text
 pub listed_by_length : (text : List ℕ) →
@@ -40,13 +36,7 @@ none_long : (table : List (List ℕ × Name)) (size : ℕ) →
     36 ≤ size → filter (is_long size) table ≡ []
 none_long [] size all long = refl
 none_long (entry ∷ table) size all long =
-    let parts =
-    and_parts (leb (length entry.0) 35) (list_all (λ e. leb (length e.0) 35) table) all in
-    let least = leb-true (length entry.0) 35 parts.0 in
-    let other : is_long size entry ≡ false =
-    ne_eqb (length entry.0) size (λ e. omega (arith, least, long, e)) in
-    ap (λ t. cond t (entry ∷ filter (is_long size) table) (filter (is_long size) table)) other
-    ∙ none_long table size parts.1 long
+    let later = none_long table size in grind (arith, nat_tests, later, all, long)
 
 pub unlisted_long : (text : List ℕ) → 36 ≤ length text → listed event_names text ≡ None
 unlisted_long text long =
@@ -95,16 +85,17 @@ otherwise_none : (name : Option Name) → otherwise name None ≡ name
 otherwise_none None = refl
 otherwise_none (Some name) = refl
 
+pub other_whole : (text : List ℕ) → bytes_eq (take 5 text) (codes "Other") ≡ true →
+    text ≡ codes "Other" ++ drop 5 text
+other_whole text other =
+    rw ((bytes_eq-Decides (take 5 text) (codes "Other")).0 other) at (sym (take-append-drop 5 text))
+
 pub name_of_other : (text digits : List ℕ) → bytes_eq (take 5 text) (codes "Other") ≡ true →
     digits ≡ drop 5 text →
     other_name (codes "Other" ++ digits) ≡ name_of text
 name_of_other text digits other rest =
-    let whole : codes "Other" ++ digits ≡ text =
-    ap (λ d. codes "Other" ++ d) rest ∙ ap (λ front. front
-    ++ drop 5 text) (sym ((bytes_eq-Decides (take 5 text) (codes "Other")).0 other))
-    ∙ take-append-drop 5 text in
     let same : other_name (codes "Other" ++ digits) ≡ name_of (codes "Other" ++ digits) = refl in
-    same ∙ ap name_of whole
+    same ∙ ap name_of (ap (λ d. codes "Other" ++ d) rest ∙ sym (other_whole text other))
 
 pub name_of_listed : (text : List ℕ) → bytes_eq (take 5 text) (codes "Other") ≡ false →
     listed event_names text ≡ name_of text

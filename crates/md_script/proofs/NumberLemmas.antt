@@ -35,9 +35,7 @@ push_digits : (digits : List ℕ) (c : ℕ) → all_ascii_digits digits ≡ true
     all_ascii_digits (digits ++ c ∷ []) ≡ true
 push_digits [] c all digit = and_from (is_ascii_digit c) true digit refl
 push_digits (d ∷ digits) c all digit =
-    let parts = and_parts (is_ascii_digit d) (all_ascii_digits digits) all in
-    and_from (is_ascii_digit d) (all_ascii_digits (digits ++ c ∷ [])) parts.0
-    (push_digits digits c parts.1 digit)
+    let more = push_digits digits c in grind (arith, more, all, digit)
 
 pub digits_more : (digits : List ℕ) (i : ℕ) → i < length digits →
     all_ascii_digits (take i digits) ≡ true →
@@ -63,8 +61,8 @@ not_all : (digits : List ℕ) (i : ℕ) → i < length digits →
     all_ascii_digits digits ≡ false
 not_all [] i inside other = absurd (omega (arith, inside))
 not_all (d ∷ digits) zero inside other = and_left (is_ascii_digit d) (all_ascii_digits digits) other
-not_all (d ∷ digits) (suc i) inside other = and_right (is_ascii_digit d) (all_ascii_digits digits)
-    (not_all digits i (omega (arith, inside)) other)
+not_all (d ∷ digits) (suc i) inside other =
+    let later = not_all digits i (omega (arith, inside)) other in grind (arith, later)
 
 abbrev chosen : List ℕ → Bool → Option ℕ
 chosen digits test = cond test (Some (digits_value 10 digits)) None

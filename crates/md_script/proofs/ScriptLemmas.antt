@@ -3,7 +3,7 @@
 -- about all lines together.
 use Rattle.std.proofs.Common.{◌≡◌, ℕ, ◌+◌, ◌*◌, ◌<◌, ◌≤◌, Bool, true, false, ◌&&◌, ◌||◌, cond, List}
 use Rattle.std.proofs.Common.{[], ◌∷◌, ◌++◌, length, Option, Some, None, refl, sym, ap, ◌∙◌, arith}
-use Rattle.std.proofs.Common.{subst, is_some, bytes_eq}
+use Rattle.std.proofs.Common.{is_some, bytes_eq}
 use Rattle.std.specs.Prelude.{filter_map, filter, option_to_list, MatchOption, unwrap_or}
 use Rattle.std.specs.Borrow.{Bor}
 use Rattle.std.specs.List.{join_with_byte, cons_option}
@@ -15,8 +15,7 @@ use Rattle.std.proofs.lemmas.Slice.Eq.{bytes_eq-Decides}
 use Rattle.md_base.specs.declared.event.Event.{Event}
 use Rattle.md_script.specs.Line.{lines_of, event_of}
 use Rattle.md_script.specs.Script.{end_line, is_readable_after, ReadsAfter, StandsFor, StopsAfter}
-use Rattle.md_script.specs.Script.{IsFirstUnreadable}
-use Rattle.md_script.specs.Script.{Explains}
+use Rattle.md_script.specs.Script.{IsFirstUnreadable, Explains}
 use Rattle.md_script.specs.PlainLine.{BeginsWithEvent}
 use Rattle.md_script.specs.declared.error.RunError.TheVariants.{Line}
 use Rattle.md_text.specs.declared.options.CompileOptions.{CompileOptions}
@@ -37,17 +36,11 @@ pub record Progress (input : List ℕ) (events : List Event) (settings : List (L
 
 reads_push : (earlier seen : List (List ℕ)) (line : List ℕ) → ReadsAfter earlier seen →
     is_readable_after (earlier ++ seen) line ≡ true → ReadsAfter earlier (seen ++ line ∷ [])
-reads_push earlier [] line reads readable = (
-  subst (λ lines. is_readable_after lines line
-      ≡ true) (append-nil earlier) readable,
-  tt,
-)
-reads_push earlier (first ∷ seen) line reads readable = (
-  reads.0,
-  reads_push (earlier ++ first ∷ []) seen line reads.1
-      (subst (λ lines. is_readable_after lines line ≡ true)
-      (sym (append_assoc earlier (first ∷ []) seen)) readable),
-)
+reads_push earlier [] line reads readable = (rw append-nil at readable, tt)
+reads_push earlier (first ∷ seen) line reads readable =
+    let more : is_readable_after ((earlier ++ first ∷ []) ++ seen) line ≡ true =
+    rw (append_assoc earlier (first ∷ []) seen) readable in
+    (reads.0, reads_push (earlier ++ first ∷ []) seen line reads.1 more)
 
 cons_alone : (said : Option Event) → option_to_list said ≡ cons_option said []
 cons_alone None = refl
@@ -57,8 +50,7 @@ says_push : (seen : List (List ℕ)) (line : List ℕ) →
     filter_map event_of seen ++ option_to_list (event_of line)
     ≡ filter_map event_of (seen ++ line ∷ [])
 says_push seen line =
-    ap (λ said. filter_map event_of seen ++ said) (cons_alone (event_of line))
-    ∙ sym (filter_map-append event_of seen (line ∷ []))
+    rw (cons_alone (event_of line), filter_map-append event_of seen (line ∷ [])) refl
 
 -- ---- one line more
 
@@ -67,22 +59,13 @@ abbrev pub takes : List (List ℕ) → List ℕ → Bool
 takes settings line =
     is_some (event_of line) || is_setting line && is_new settings (option_name line)
 
-readable_by_marked : (seen : List (List ℕ)) (line : List ℕ) →
-    takes (filter is_marked seen) line ≡ is_readable_after seen line
-readable_by_marked seen line = ap (λ new. is_some (event_of line) || is_setting line
-    && new) (new_by_marked seen (option_name line))
-
 -- a line that is read is kept unless it is an event
 kept_line : (settings : List (List ℕ)) (line : List ℕ) (said : Option Event) →
     said ≡ event_of line →
     takes settings line ≡ true → cond (is_some said) [] (line ∷ []) ≡ filter is_marked (line ∷ [])
-kept_line settings line (Some event) e taken =
-    sym (ap (λ t. cond t (line ∷ []) []) (event_is_unmarked line event e))
+kept_line settings line (Some event) e taken = rw (event_is_unmarked line event e) refl
 kept_line settings line None e taken =
-    let second : (is_setting line && is_new settings (option_name line)) ≡ true =
-    ap (λ said. is_some said || is_setting line && is_new settings (option_name line)) e ∙ taken in
-    sym (ap (λ t. cond t (line ∷ []) [])
-    (setting_is_marked line (and_parts (is_setting line) _ second).0))
+    rw (setting_is_marked line (and_parts (is_setting line) _ (rw (← e) at taken)).0) refl
 
 read_line_has_bytes : (settings : List (List ℕ)) (line : List ℕ) →
     takes settings line ≡ true → 0 < length line
@@ -120,17 +103,15 @@ clash before [] (line ∷ others) [] document e reads script stops =
 clash before [] [] (first ∷ body) document e reads script stops = cc
 clash before [] (line ∷ others) (first ∷ body) document e reads script stops =
     let same : first ≡ line = cc in
-    true≢false (sym script.0 ∙ ap (is_readable_after before) same
-    ∙ ap (λ b. is_readable_after b line) (sym (append-nil before)) ∙ stops.1)
+    true≢false (sym (rw same at script.0) ∙ rw append-nil at stops.1)
 clash before (line ∷ earlier) others [] document e reads script stops =
     let same : line ≡ end_line = cc in
-    true≢false (sym reads.0 ∙ ap (is_readable_after before) same ∙ end_unreadable before)
+    true≢false (sym (rw same at reads.0) ∙ end_unreadable before)
 clash before (line ∷ earlier) others (first ∷ body) document e reads script stops =
     let same : first ≡ line = cc in
     let tails : earlier ++ others ≡ body ++ end_line ∷ document = cc in
     clash (before ++ line ∷ []) earlier others body document tails reads.1
-    (subst (λ l. ReadsAfter (before ++ l ∷ []) body) same script.1)
-    (subst (λ lines. StopsAfter lines others) (sym (append_assoc before (line ∷ []) earlier)) stops)
+    (rw same at script.1) (rw (append_assoc before (line ∷ []) earlier) stops)
 
 explained : {input : List ℕ} {number : ℕ} → IsFirstUnreadable input number →
     Explains input (Line number)
@@ -154,27 +135,24 @@ Begins input line following = MatchOption following (lines_of input ≡ line ∷
 
 module _ {input rest : List ℕ} {events : List Event} {settings : List (List ℕ)}
     (known : Progress input events settings rest) where
+  -- a line is taken exactly if it can be read after those that were seen
+  readable : (line : List ℕ) → is_readable_after known.seen line ≡ takes settings line
+  readable line = rw (known.sets, new_by_marked known.seen (option_name line)) refl
+
   pub line_more : (line following : List ℕ) →
       lines_of rest ≡ line ∷ lines_of following → length line + length following + 1 ≡ length rest →
       takes settings line ≡ true →
       Progress input (events ++ option_to_list (event_of line))
       (settings ++ cond (is_some (event_of line)) [] (line ∷ [])) following
   line_more line following cut size taken =
-      let readable : is_readable_after known.seen line ≡ true =
-      sym (readable_by_marked known.seen line)
-      ∙ ap (λ kept. takes kept line) (sym known.sets) ∙ taken in
       let more = counted_more events settings line (event_of line) in
       record {
         seen = known.seen ++ line ∷ [];
-        whole = known.whole ∙ ap (λ lines. known.seen ++ lines) cut
-            ∙ sym (append_assoc known.seen (line ∷ []) (lines_of following));
-        reads = reads_push [] known.seen line known.reads readable;
-        says = ap (λ said. said ++ option_to_list (event_of line)) known.says
-            ∙ says_push known.seen line;
-        sets =
-            ap (λ kept. settings ++ kept) (kept_line settings line (event_of line) refl taken)
-            ∙ ap (λ kept. kept ++ filter is_marked (line ∷ [])) known.sets
-            ∙ sym (filter-append is_marked known.seen (line ∷ []));
+        whole = rw (known.whole, cut) (sym (append_assoc known.seen (line ∷ []) _));
+        reads = reads_push [] known.seen line known.reads (readable line ∙ taken);
+        says = rw known.says (says_push known.seen line);
+        sets = rw (kept_line settings line (event_of line) refl taken, known.sets)
+            (sym (filter-append is_marked known.seen (line ∷ [])));
         counted = omega (arith, known.counted, length_push known.seen line, more);
         short = omega (arith, known.short, size, read_line_has_bytes settings line taken, more);
       }
@@ -185,8 +163,7 @@ module _ {input rest : List ℕ} {events : List Event} {settings : List (List �
       Progress input (events ++ event ∷ []) settings following
   plain_more event following read =
       let line = read.line in
-      let taken : takes settings line ≡ true = ap (λ said. is_some said || is_setting line
-      && is_new settings (option_name line)) read.says in
+      let taken : takes settings line ≡ true = rw read.says refl in
       rw (read.says, append-nil) at (line_more line following read.cut read.size taken)
 
   script_ends : (line bytes : List ℕ) (document : List (List ℕ))
@@ -197,14 +174,11 @@ module _ {input rest : List ℕ} {events : List Event} {settings : List (List �
     body = known.seen;
     document = document;
     script = record {
-      whole = known.whole
-          ∙ ap (λ lines. known.seen ++ lines) (cut ∙ ap (λ l. l ∷ document) (is_end line ends));
+      whole = rw (known.whole, cut, is_end line ends) refl;
       reads = known.reads;
     };
     says = known.says;
-    sets =
-        options_by_marked known.seen options
-        (subst (λ kept. HasOptions kept options) known.sets has);
+    sets = options_by_marked known.seen options (rw known.sets at has);
     rest = joined;
   }
 
@@ -217,8 +191,8 @@ module _ {input rest : List ℕ} {events : List Event} {settings : List (List �
   script_ends_at line None document empty options cut ends is nothing has =
       script_ends line document.now [] options cut ends (ap (λ d. d.now) is ∙ nothing) has
   script_ends_at line (Some f) document empty options cut ends is nothing has =
-      script_ends line document.now (lines_of f.now) options cut ends (ap (λ d. d.now) is
-      ∙ sym (join_with_byte-slice_split 10 f.now)) has
+      script_ends line document.now (lines_of f.now) options cut ends
+      (rw is (sym (join_with_byte-slice_split 10 f.now))) has
 
   pub line_stops : (line : List ℕ) (following : Option (Bor (List ℕ))) →
       Begins rest line following →
@@ -229,11 +203,7 @@ module _ {input rest : List ℕ} {events : List Event} {settings : List (List �
     others = line ∷ lines_after following;
     whole = known.whole ∙ ap (λ lines. known.seen ++ lines) (cut_after following cut);
     reads = known.reads;
-    stops = (
-      other,
-      sym (readable_by_marked known.seen line)
-          ∙ ap (λ kept. takes kept line) (sym known.sets) ∙ nothing,
-    );
+    stops = (other, readable line ∙ nothing);
     counted = ap (λ n. n + 1) known.counted;
   })
     where
@@ -247,10 +217,8 @@ module _ {input rest : List ℕ} {events : List Event} {settings : List (List �
   input_stops line cut taken = explained (record {
     earlier = known.seen ++ line ∷ [];
     others = [];
-    whole = known.whole ∙ ap (λ lines. known.seen ++ lines) cut
-        ∙ sym (append-nil (known.seen ++ line ∷ []));
-    reads = reads_push [] known.seen line known.reads (sym (readable_by_marked known.seen line)
-        ∙ ap (λ kept. takes kept line) (sym known.sets) ∙ taken);
+    whole = rw (known.whole, cut) (sym (append-nil (known.seen ++ line ∷ [])));
+    reads = reads_push [] known.seen line known.reads (readable line ∙ taken);
     stops = tt;
     counted = omega (arith, known.counted, length_push known.seen line);
   })

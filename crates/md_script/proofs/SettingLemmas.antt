@@ -1,11 +1,10 @@
 -- Options given by some of the lines, and bytes read as a text.
-use Rattle.std.proofs.Common.{◌≡◌, ℕ, Bool, true, false, not, cond, eqb, ◌||◌, List, [], ◌∷◌}
-use Rattle.std.proofs.Common.{Option, Some, None, Result, Ok, Err, IsUtf8, refl, sym, ap, ◌∙◌, inl}
-use Rattle.std.proofs.Common.{inr}
+use Rattle.std.proofs.Common.{◌≡◌, ℕ, Bool, true, false, not, eqb, List, [], ◌∷◌, Option, Some}
+use Rattle.std.proofs.Common.{None, Result, Ok, Err, IsUtf8, refl, sym, ap, ◌∙◌, inl, inr, arith}
 use Rattle.std.specs.Prelude.{option_copied, option_and_then, unwrap_or, find, filter, is_some}
 use Rattle.std.specs.Prelude.{is_ok, MatchResult}
 use Rattle.std.specs.Borrow.{Bor}
-use Rattle.std.specs.List.{list_any, before_first}
+use Rattle.std.specs.List.{list_any}
 use Rattle.std.specs.Result.{result_ok}
 use Rattle.std.specs.Str.{is_utf8}
 use Rattle.std.proofs.lemmas.Bool.{cases_Bool, and_parts, eqb-true}
@@ -16,9 +15,8 @@ use Rattle.md_base.proofs.SpaceLemmas.{chosen}
 use Rattle.md_text.specs.declared.options.CompileOptions.{CompileOptions}
 use Rattle.md_text.specs.declared.line_ending.LineEnding.TheVariants.{LineFeed}
 use Rattle.md_script.specs.Line.{event_of}
-use Rattle.md_script.specs.Setting.{is_setting, is_equals, option_name, is_name, is_given}
-use Rattle.md_script.specs.Setting.{text_given, value_of, is_new, ending_named, ending_name}
-use Rattle.md_script.specs.Setting.{HasOptions}
+use Rattle.md_script.specs.Setting.{is_setting, option_name, is_name, is_given, text_given}
+use Rattle.md_script.specs.Setting.{value_of, is_new, ending_named, ending_name, HasOptions}
 
 -- ---- bytes as a text
 
@@ -47,47 +45,29 @@ is_marked line = is_some (option_name line)
 
 pub setting_is_marked : (line : List ℕ) → is_setting line ≡ true → is_marked line ≡ true
 setting_is_marked [] h = cc
-setting_is_marked (sign ∷ rest) h =
-    ap (λ t. is_some (cond t (Some (before_first is_equals rest)) None))
-    (and_parts (eqb sign 33) _ h).0
-
-marked_says_nothing : (sign : ℕ) (rest : List ℕ) (event : Event) → sign ≡ 33 →
-    Some event ≡ event_of (sign ∷ rest) → ⊥
-marked_says_nothing sign rest event mark e = let no : Some event ≡ event_of (33 ∷ rest) = e
-    ∙ ap (λ s. event_of (s ∷ rest)) mark in cc
+setting_is_marked (sign ∷ rest) h = rw (and_parts (eqb sign 33) _ h).0 refl
 
 pub event_is_unmarked : (line : List ℕ) (event : Event) → Some event ≡ event_of line →
     is_marked line ≡ false
 event_is_unmarked [] event e = cc
 event_is_unmarked (sign ∷ rest) event e =
     elim (cases_Bool (eqb sign 33)) [
-      | inl mark ↦ absurd (marked_says_nothing sign rest event (eqb-true sign 33 mark) e)
-      | inr other ↦ ap (λ t. is_some (cond t (Some (before_first is_equals rest)) None)) other
+      | inl mark ↦ let no = rw (eqb-true sign 33 mark) at e in cc
+      | inr other ↦ rw other refl
     ]
 
 module _ {A : Type 0} (p q : A → Bool) (outside : (x : A) → q x ≡ false → p x ≡ false) where
-  any-filter_step : (here : Bool) (line : A) (lines : List A) → q line ≡ here →
-      list_any p (filter q lines) ≡ list_any p lines →
-      list_any p (cond here (line ∷ filter q lines) (filter q lines)) ≡ (p line || list_any p lines)
-  any-filter_step true line lines h ih = ap (λ t. p line || t) ih
-  any-filter_step false line lines h ih =
-      ih ∙ sym (ap (λ t. t || list_any p lines) (outside line h))
-
   pub any-filter : (lines : List A) → list_any p (filter q lines) ≡ list_any p lines
   any-filter [] = refl
-  any-filter (line ∷ lines) = any-filter_step (q line) line lines refl (any-filter lines)
-
-  find-filter_step : (here : Bool) (line : A) (lines : List A) → q line ≡ here →
-      find p (filter q lines) ≡ find p lines →
-      find p (cond here (line ∷ filter q lines) (filter q lines))
-      ≡ cond (p line) (Some line) (find p lines)
-  find-filter_step true line lines h ih = ap (λ t. cond (p line) (Some line) t) ih
-  find-filter_step false line lines h ih =
-      ih ∙ sym (ap (λ t. cond t (Some line) (find p lines)) (outside line h))
+  any-filter (line ∷ lines) =
+      let later = any-filter lines in
+      let out = outside line in grind (arith, later, out)
 
   pub find-filter : (lines : List A) → find p (filter q lines) ≡ find p lines
   find-filter [] = refl
-  find-filter (line ∷ lines) = find-filter_step (q line) line lines refl (find-filter lines)
+  find-filter (line ∷ lines) =
+      let later = find-filter lines in
+      let out = outside line in grind (arith, later, out)
 
 names_nothing : (name : List ℕ) (option : Option (List ℕ)) → is_some option ≡ false →
     is_name name option ≡ false

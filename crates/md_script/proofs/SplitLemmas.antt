@@ -1,5 +1,5 @@
 -- Whether a byte is there, and where it is first.
-use Rattle.std.proofs.Common.{◌≡◌, ℕ, suc, ◌+◌, Bool, true, false, not, ◌||◌, cond, ltb, List, []}
+use Rattle.std.proofs.Common.{◌≡◌, ℕ, suc, ◌+◌, Bool, not, ◌||◌, cond, ltb, List, []}
 use Rattle.std.proofs.Common.{◌∷◌, length, refl, sym, ◌∙◌, arith, is_some, Some, None}
 use Rattle.std.specs.Prelude.{position}
 use Rattle.std.specs.List.{position_or_len, list_any}
@@ -7,12 +7,10 @@ use Rattle.std.proofs.lemmas.Bool.Decides.{nat_tests}
 
 any_step : (here any : Bool) (n len : ℕ) → any ≡ ltb n len →
     (here || any) ≡ ltb (cond (not here) (1 + n) 0) (suc len)
-any_step true any n len e = grind (arith, nat_tests)
-any_step false any n len e = grind (arith, nat_tests)
+any_step here any n len e = grind (arith, nat_tests)
 
 some_when : (test : Bool) (n : ℕ) → is_some (cond test (Some n) None) ≡ test
-some_when true n = refl
-some_when false n = refl
+some_when test n = grind arith
 
 module _ (p : ℕ → Bool) where
   pub any_by_place : (xs : List ℕ) → list_any p xs ≡ ltb (position_or_len p xs) (length xs)

@@ -40,6 +40,7 @@ loop-at-preserved c =
 
 pub returns : goal.returns
 returns c =
-    sym (ap (λ y. map listed c.loop-at.found.items ++ y) (headings-all (vec_len c.loop-at.found)
-    c.loop-at.rest.now (rw c.as_bytes.ensures.value at c.in_default.ensures))
-    ∙ append-nil (map listed c.loop-at.found.items)) ∙ c.loop-at.invariant.1
+    rw (← c.loop-at.invariant.1)
+    (rw (headings-all (vec_len c.loop-at.found) c.loop-at.rest.now
+    (rw c.as_bytes.ensures.value at c.in_default.ensures))
+    (sym (append-nil (map listed c.loop-at.found.items))))

@@ -1,19 +1,16 @@
 -- An iteration adds a value that follows ` id=`.
-use Rattle.std.proofs.Common.{◌∷◌, ◌++◌, map, string_bytes, sym, ap, ◌∙◌, append-nil}
-use Rattle.md_page.specs.Scan.{ids_in_parts, scanned_ids}
+use Rattle.std.proofs.Common.{map, string_bytes, sym, append-nil}
 use Rattle.md_page.proofs.Parts.{parts-run, parts-none}
 use Rattle.md_page.proofs.TakenIds.{id-turn}
 use Rattle.md_page.proofs.taken.ids_of.Goals as goal
 
 pub returns-in_default-split_at_byte : goal.returns-in_default-split_at_byte
 returns-in_default-split_at_byte c =
-    let found = map string_bytes c.loop-before.found.items in
     let parts = c.in-Some.ensures.parts in
-    sym (append-nil found)
-    ∙ ap (λ y. found ++ y) (sym (ap scanned_ids parts.0 ∙ ap ids_in_parts
-    (parts-run c.in-Some.before.now c.in-Some.after.now parts.1 ∙ ap (λ y. c.in-Some.before.now ∷ y)
-    (parts-none c.in-Some.after.now c.in_default-split_at_byte.ensures.parts))))
-    ∙ c.loop-before.invariant.0
+    rw (← c.loop-before.invariant.0, parts.0)
+    (rw (parts-run c.in-Some.before.now c.in-Some.after.now parts.1)
+    (rw (parts-none c.in-Some.after.now c.in_default-split_at_byte.ensures.parts)
+    (sym (append-nil (map string_bytes c.loop-before.found.items)))))
 
 pub loop-before-preserved : goal.loop-before-preserved
 loop-before-preserved c =
@@ -27,8 +24,5 @@ loop-before-preserved c =
 
 pub returns : goal.returns
 returns c =
-    let found = map string_bytes c.loop-before.found.items in
-    sym (append-nil found)
-    ∙ ap (λ y. found ++ y)
-    (sym (ap ids_in_parts (parts-none c.loop-before.rest.now c.in_default.ensures.parts)))
-    ∙ c.loop-before.invariant.0
+    rw (← c.loop-before.invariant.0, parts-none c.loop-before.rest.now c.in_default.ensures.parts)
+    (sym (append-nil (map string_bytes c.loop-before.found.items)))

@@ -1,8 +1,7 @@
 -- A valid line is one step of progress; the line that ends the script, an invalid one or the
 -- input's end decides the result. The search alone doesn't derive the meaning of all lines from the
 -- last one.
-use Rattle.std.proofs.Common.{rules, ◌≡◌, ℕ, ◌+◌, List, refl, sym, ◌∙◌}
-use Rattle.std.proofs.Common.{subst, arith, length}
+use Rattle.std.proofs.Common.{rules, ◌≡◌, ℕ, ◌+◌, List, refl, sym, ◌∙◌, subst, arith, length}
 use Rattle.std.specs.Borrow.{Bor}
 use Rattle.std.proofs.lemmas.List.{length-map}
 use Rattle.md_script.specs.Setting.{texts_of, HasOptions}
