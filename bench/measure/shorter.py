@@ -25,6 +25,9 @@ import tempfile
 ROOT = pathlib.Path(__file__).resolve().parents[2]
 SIGNATURE = re.compile(r"( *)(?:pub )?([a-zA-Z][^\s(){}:=]*) :(?: |$)")
 CITED = re.compile(r"[A-Za-z][^\s(){}\[\],;.]*")
+# An argument of a call: a word, or something in brackets with at most one pair of brackets in it.
+ARGUMENT = (r"(?: (?!(?:in|then|else|where|as)\b)"
+            r"(?:\((?:[^()]|\([^()]*\))*\)|[\w\[\]][^\s()\[\],;∙]*|\[\]))")
 IMPORTED = re.compile(r"(?m)^use \S+\.\{(.*)\}$")
 REJECTED = re.compile(r"(?m)^\./(\S+?):\d+:\d+: error: `([^`]+)`")
 COMMON = "use Rattle.std.proofs.Common.{arith}"
@@ -81,7 +84,9 @@ def tactics(name, body, depth, known, again):
     text = "\n".join(body)
     cited = [word for word in dict.fromkeys(CITED.findall(text)) if word in known and word != name]
     parts = clauses(body, name, depth)
-    call = re.compile(rf"(?<!\S)\(?({re.escape(name)} [^,∙()]*)")
+    if any("{" in part.split(" =", 1)[0] for part in parts):
+        return []
+    call = re.compile(rf"(?<![^\s(])({re.escape(name)}{ARGUMENT}+)")
     calls = [call.findall(part.split(" =", 1)[1]) if " =" in part else [] for part in parts]
     if not any(calls):
         variables = " ".join(f"x{k}" for k in range(1, len(patterns(parts[0], name)) + 1))
@@ -90,7 +95,7 @@ def tactics(name, body, depth, known, again):
     if not again:
         return []
     return [[(" ".join(patterns(part, name)),
-              f"grind ({', '.join(['arith', *cited, *map(str.strip, facts)])})")
+              f"grind ({', '.join(['arith', *cited, *facts])})")
              for part, facts in zip(parts, calls)]]
 
 
