@@ -1,7 +1,7 @@
 -- Texts in a row, and the line endings of two of them; single texts that end in the data state, and
 -- ones that don't.
 use Rattle.std.proofs.Common.{◌≡◌, ℕ, ◌==◌, Bool, true, false, ◌&&◌, cond, List, [], ◌∷◌, ◌++◌}
-use Rattle.std.proofs.Common.{refl, ap, ◌∙◌, append-nil, append_assoc, codes, sym}
+use Rattle.std.proofs.Common.{refl, ap, ◌∙◌, append-nil, append_assoc, codes, sym, arith}
 use Rattle.md_safe.specs.Input.{begins_with_line_feed, with_line_feeds}
 use Rattle.md_safe.specs.Embedded.{splits_newline, EndsInDataState, HasTokensAfter}
 use Rattle.md_safe.specs.Embedded.{ends_with_return}
@@ -104,9 +104,7 @@ reading-runs p text one =
 pub join : (before text : List ℕ) (earlier emits : List Token) → EndsInDataState before earlier →
     EndsInDataState text emits → splits_newline before text ≡ false →
     EndsInDataState (before ++ text) (earlier ++ emits)
-join before text earlier emits h k n after = rw (line_feeds-apart before text n, append_assoc)
-    (leads-on Data _ (with_line_feeds text ++ after) after earlier emits (h (with_line_feeds text ++
-    after)) (k after))
+join before text earlier emits h k n after = grind (arith, line_feeds-apart, append_assoc, leads-on)
 
 -- a text that ends so, and one with a reading
 joined : (before text : List ℕ) (earlier : List Token) (f : Forest) →

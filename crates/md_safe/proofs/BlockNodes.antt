@@ -1,6 +1,5 @@
 -- Names that print nothing, or only their children.
-use Rattle.std.proofs.Common.{◌≡◌, Bool, true, false, not, ◌&&◌, ◌||◌, List, [], refl}
-use Rattle.std.proofs.lemmas.Bool.{and_parts, not-true}
+use Rattle.std.proofs.Common.{◌≡◌, Bool, true, false, not, ◌&&◌, ◌||◌, List, [], arith}
 use Rattle.md_base.specs.declared.event.Name.{Name}
 use Rattle.md_base.specs.declared.event.Name.TheVariants as name_variants
 use name_variants.{LineEnding, GfmFootnoteDefinition, GfmFootnoteDefinitionPrefix, Definition}
@@ -79,12 +78,6 @@ abbrev is_silent_block : Name → Bool
 is_silent_block name =
     not (is_silent name) || (is_blocks (content_of name Blocks) && not (named Link name))
 
-silent-blocks : (name : Name) → is_silent_block name ≡ true
-silent-blocks Link = refl
-silent-blocks _ = refl
-
 pub silent-block : (name : Name) → is_silent name ≡ true →
     (is_blocks (content_of name Blocks) ≡ true) × (named Link name ≡ false)
-silent-block name is =
-    let parts = and_parts _ _ (rw is at (silent-blocks name)) in
-    (parts.0, not-true _ parts.1)
+silent-block name is = grind arith

@@ -4,7 +4,6 @@ use Rattle.std.proofs.Common.{◌++◌, refl, subst, append_assoc, codes, arith}
 use Rattle.std.specs.Prelude.{Option, Some, None, option_map, string_bytes}
 use Rattle.std.specs.Fmt.{decimal}
 use Rattle.std.proofs.lemmas.Bool.{cond_both}
-use Rattle.md_text.specs.Url.{sanitized}
 use Rattle.md_text.specs.Html.{Attribute, HasReadingWith, is_tag, elements}
 use Rattle.md_text.proofs.EncodeLaws.{is_escaped-encoded}
 use Rattle.md_text.proofs.EscapedLemmas.{escaped-append, sanitized-escaped}
@@ -38,11 +37,7 @@ id_prefix options = option_or (prefix_given options) (codes "user-content-")
 pub id-escaped : (options : CompileOptions) (kind identifier : List ℕ) (number : ℕ) → Escaped kind →
     Escaped (id_of options kind identifier number)
 id-escaped options kind identifier number h =
-    let own : List ℕ =
-    cond options.gfm_footnote_number_ids (decimal number) (sanitized identifier) in
-    let e : Escaped own = grind (arith, decimal-escaped number, sanitized-escaped identifier) in
-    escaped-append (id_prefix options) (kind ++ own) (option-escaped (prefix_given options) (codes
-    "user-content-") refl) (escaped-append kind own h e)
+    grind (arith, decimal-escaped, sanitized-escaped, escaped-append, option-escaped)
 
 pub call_id-escaped : (options : CompileOptions) (identifier : List ℕ) (number occurrence : ℕ) →
     Escaped (call_id options identifier number occurrence)

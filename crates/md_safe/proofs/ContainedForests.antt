@@ -2,10 +2,9 @@
 -- some content; one induction over blocks, in addition to that of `Forests`, which covers strings,
 -- code and images.
 use Rattle.std.proofs.Common.{◌≡◌, ℕ, Bool, true, List, [], ◌++◌, refl, false, sym, ◌||◌, cond, ◌∷◌}
-use Rattle.std.proofs.Common.{ap, ◌∙◌, subst, append-nil}
+use Rattle.std.proofs.Common.{ap, ◌∙◌, subst, append-nil, arith}
 use Rattle.md_meaning.specs.Meaning.Layout.{Piece, layout, when}
 use Rattle.md_safe.proofs.Laid.{Adds, adds-append, adds-weaker, adds-nothing, adds-needed}
-use Rattle.md_safe.proofs.Laid.{adds-alone}
 use Rattle.md_safe.specs.Contents.{Content, Phrasing, Flow}
 use Rattle.md_safe.proofs.Stands.{Stands, stands-join, stands-nothing, stands-white, takes-white}
 use Rattle.md_safe.proofs.Stands.{IsWhite, is_spaced, white_beside, line_ends-white, stands-text}
@@ -23,13 +22,13 @@ use Rattle.md_safe.proofs.Elements.{adds-empty_cells}
 use Rattle.std.specs.Prelude.{Option}
 use Rattle.md_base.proofs.Lies.{lie}
 use Rattle.md_base.specs.declared.event.Name.TheVariants as name_variants
-use name_variants.{Other, BlockQuotePrefix, SpaceOrTab, HeadingSetextText, GfmFootnoteDefinition}
+use name_variants.{GfmFootnoteDefinition}
 use Rattle.md_base.specs.Is.{is as named}
 use Rattle.md_base.specs.NameTests.{is_transparent}
 use Rattle.md_meaning.specs.Meaning.At.{Footnote, At, Before, identifier_of}
 use Rattle.md_meaning.specs.Meaning.Nodes.{Outcome, found_at, node, before_next, outcome}
 use Rattle.md_safe.proofs.Findings.{AreTexts, AreFound, texts-append}
-use Rattle.md_safe.specs.Placed.{Block, sort_of, may_stand as may_place, IsPlaced}
+use Rattle.md_safe.specs.Placed.{sort_of, may_stand as may_place, IsPlaced}
 use Rattle.md_safe.proofs.Cases.{OnSome, on-later, on-either, cases}
 use Rattle.std.proofs.lemmas.Bool.{cond_both}
 use Rattle.md_base.specs.Tree.{Forest, Empty, Node}
@@ -104,31 +103,19 @@ IsHeading nested found = OnSome (Stands nested Phrasing) found
 abbrev pub AreFlow : (nested : Bool) → List Footnote → Type 0
 AreFlow nested footnotes = AreTexts (Stands nested Flow) footnotes
 
--- blocks stand in flow content
-block-flow : (content : Content) → may_place (with_links content) Block ≡ true → content ≡ Flow
-block-flow Flow h = refl
-block-flow _ h = lie h
-
 -- what a node that isn't transparent adds to the spine
 pub heading-found : (nested : Bool) (d : Document) (content : Content) (name : Name) (t : At)
     (inner : Outcome) → is_transparent name ≡ false → may_place (with_links content) (sort_of name)
     ≡ true → Own nested d content name inner.pieces → IsHeading nested (found_at t
     name (layout d.context.ending inner.pieces)).heading
-heading-found nested d content HeadingSetextText t inner solid stands a =
-    adds-alone (rw (block-flow content stands) at (a refl))
-heading-found nested d content (Other number) t inner solid stands a = lie (sym solid)
-heading-found nested d content BlockQuotePrefix t inner solid stands a = lie (sym solid)
-heading-found nested d content SpaceOrTab t inner solid stands a = lie (sym solid)
-heading-found nested d content _ t inner solid stands a = tt
+heading-found nested d content name t inner solid stands a = grind arith
 
 -- the text of a footnote
 pub note-found : (nested : Bool) (d : Document) (content : Content) (name : Name)
     (inner : Outcome) → named GfmFootnoteDefinition name ≡ true →
     may_place (with_links content) (sort_of name) ≡ true → Own nested d content name inner.pieces →
     Stands nested Flow (layout d.context.ending inner.pieces)
-note-found nested d content GfmFootnoteDefinition inner is stands a =
-    adds-alone (rw (block-flow content stands) at (a refl))
-note-found nested d content _ inner is stands a = lie is
+note-found nested d content name inner is stands a = grind arith
 
 -- what nodes mean, where their content stands
 pub record Means (nested : Bool) (d : Document) (content : Content) (means : Outcome) : Type 0 where

@@ -1,6 +1,6 @@
 -- The nodes of code and math in lines print what may stand there: fences, and lines between them.
-use Rattle.std.proofs.Common.{◌≡◌, ℕ, Bool, true, false, not, List, [], ◌∷◌, ◌++◌, refl, sym}
-use Rattle.std.proofs.Common.{ap, ◌∙◌, subst, inl, append_assoc, append-nil, codes}
+use Rattle.std.proofs.Common.{◌≡◌, ℕ, Bool, true, false, not, List, [], ◌∷◌, ◌++◌, refl, sym, arith}
+use Rattle.std.proofs.Common.{ap, ◌∙◌, inl, append_assoc, append-nil, codes}
 use Rattle.std.specs.List.{list_any}
 use Rattle.md_base.proofs.Lies.{lie}
 use Rattle.md_base.specs.declared.event.Name.{Name}
@@ -64,9 +64,7 @@ pub inside-is : (s : Setting) (t : At) (content allowed_inside : Content) (name 
     content_of name content ≡ allowed_inside → Inside s t content name inner →
     Prints s (Holds s.p (inside s.context.options (is_loose t.children) name t.around).is_escaping
     (inside s.context.options (is_loose t.children) name t.around).in_image allowed_inside) inner
-inside-is s t content allowed_inside name inner e a = subst (λ c. Prints s
-    (Holds s.p (inside s.context.options (is_loose t.children) name t.around).is_escaping
-    (inside s.context.options (is_loose t.children) name t.around).in_image c) inner) e a
+inside-is s t content allowed_inside name inner e a = grind arith
 
 pub code_fence-node : (s : Setting) (t : At) (name : Name) →
     list_any fence_name t.before.spine ≡ false → is_code_fence name ≡ true →

@@ -1,8 +1,8 @@
 -- Flow content is built as it is read: blocks, lists, preformatted code, and among them
 -- spans and tables.
-use Rattle.std.proofs.Common.{◌≡◌, ◌⊎◌, inl, inr, ℕ, ◌≤◌, suc, true, false, List, [], ◌∷◌, refl}
+use Rattle.std.proofs.Common.{◌≡◌, ◌⊎◌, inl, inr, ℕ, ◌≤◌, suc, true, false, List, ◌∷◌, refl}
 use Rattle.std.proofs.Common.{sym, ap, ◌∙◌, codes, arith}
-use Rattle.std.specs.Prelude.{Some, bytes_eq}
+use Rattle.std.specs.Prelude.{Some}
 use Rattle.std.proofs.lemmas.Bool.{and_parts, or_cases}
 use Rattle.std.proofs.lemmas.Slice.Eq.{bytes_eq-Decides}
 use Rattle.md_base.proofs.Lies.{lie}
@@ -10,9 +10,9 @@ use Rattle.md_text.specs.Bytes.{is_one_of}
 use Rattle.md_text.specs.Html.{Attribute, Forest, Empty, Text, Void, Element}
 use Rattle.md_safe.specs.Token.{StartTag, TokenAttribute}
 use Rattle.md_safe.specs.Tokens.{seen, seen_attributes}
-use Rattle.md_safe.specs.Contents.{Content, Flow, Items, Preformatted, elements_in, voids_in}
+use Rattle.md_safe.specs.Contents.{Content, elements_in, voids_in}
 use Rattle.md_safe.specs.Contents.{is_contained}
-use Rattle.md_safe.specs.Node.{Nodes, Entry, Marker, Formatting, with_element, Empty as NoNode}
+use Rattle.md_safe.specs.Node.{Nodes, Entry, with_element, Empty as NoNode}
 use Rattle.md_safe.specs.Elements.{headings}
 use Rattle.md_safe.specs.Stack.{is_among}
 use Rattle.md_safe.specs.InBody.{has_item, insert_void}
@@ -65,12 +65,7 @@ there-within {x = x} {those = those} k items there = record {
 
 -- a link may stand there, or none does
 here-in : (content : Content) {x : Position} → Here x true → Here x (is_free content)
-here-in content here = record {
-  body = here.body;
-  opened = here.opened;
-  made = here.made;
-  no_link = λ free. here.no_link refl;
-}
+here-in content here = grind arith
 
 -- what children do, for all contents that an element may hold
 record Inside (inner : Forest) (held : Content) : Type 0 where
@@ -109,13 +104,7 @@ kind-passes {content} {held} {x} {name} {attributes} {inner} rule there h c insi
 -- a rule, besides a void tag of a span
 flow-void : (content : Content) (name : List ℕ) → is_flowing content ≡ true →
     is_one_of (voids_in content) name ≡ true → (name ≡ codes "hr") ⊎ IsVoid name
-flow-void Flow name is h = elim (or_cases (bytes_eq name (codes "hr")) _ h) [
-  | inl e ↦ inl ((bytes_eq-Decides name (codes "hr")).0 e)
-  | inr c ↦ inr (void-named name c)
-]
-flow-void Items name is h = lie h
-flow-void Preformatted name is h = lie h
-flow-void _ name is h = lie is
+flow-void content name is h = grind (arith, or_cases, bytes_eq-Decides, void-named)
 
 flow-void-step : {x : Position} {name : List ℕ} (attributes : List TokenAttribute) →
     (name ≡ codes "hr") ⊎ IsVoid name → Here x true → HasNoParagraph (x.node ∷ x.others) → step
@@ -162,6 +151,4 @@ flow-done (Element name attributes inner rest) content is h c x there =
 -- where no formatting element is active, none is taken away
 pub kept-none : (active left : List Entry) → has_none_active active ≡ true →
     Keeps active left → left ≡ active
-kept-none [] left h k = k
-kept-none (Marker ∷ active) left h k = k
-kept-none (Formatting identity name attributes ∷ active) left h k = lie h
+kept-none active left h k = grind arith

@@ -200,9 +200,7 @@ spans-node m t content name solid whole stands inner k a g = either _ _ (covered
 
 -- where a line ending may stand, what may be around a text may
 ending-spaced : (content : Content) → may_stand content Ending ≡ true → is_spaced content ≡ true
-ending-spaced Flow stands = refl
-ending-spaced Preformatted stands = lie stands
-ending-spaced _ stands = refl
+ending-spaced content stands = grind arith
 
 row-node : (m : Claims) (in_head : Bool) (kinds : List AlignKind) (inner : List Piece) →
     Prints m Cells inner → Prints m Rows (on_own_line (codes "<tr>") ++ (inner ++ (flat_map

@@ -1,9 +1,7 @@
 -- Blocks with tags or raw text; lines of code and HTML print escaped texts.
-use Rattle.std.proofs.Common.{◌≡◌, ℕ, ◌≤◌, Bool, true, false, cond, List, [], ◌||◌, inl, inr, arith}
-use Rattle.std.specs.Prelude.{unwrap_or}
+use Rattle.std.proofs.Common.{◌≡◌, ℕ, ◌≤◌, Bool, true, false, cond, List, ◌||◌, inl, inr, arith}
 use Rattle.std.specs.List.{list_any}
 use Rattle.std.proofs.lemmas.Bool.{or_cases}
-use Rattle.md_base.specs.Place.{serialized_between}
 use Rattle.md_base.proofs.Lies.{lie}
 use Rattle.md_base.specs.declared.event.Name.{Name}
 use Rattle.md_base.specs.declared.event.Name.TheVariants as name_variants
@@ -58,9 +56,7 @@ is_leaf name = is_line name || is_html name
 pub has-fence : (bytes : List ℕ) (name : Name) (start end : Point) (children : Forest) →
     is_raw name ≡ true → IsFit bytes name start end children →
     list_any is_fence (spine_names children) ≡ true
-has-fence bytes CodeFenced start end children is fit = fit
-has-fence bytes MathFlow start end children is fit = fit
-has-fence bytes _ start end children is fit = lie is
+has-fence bytes name start end children is fit = grind arith
 
 -- math, or else code; its printed text, and its content
 abbrev pub is_math : Name → Bool
@@ -89,9 +85,7 @@ setext-fits false = (omega arith, omega arith)
 
 -- a line of code
 chunk-escaped : (s : Setting) (t : At) → Prints s Escaped (chunk s.context t)
-chunk-escaped s t =
-    let x : List ℕ = unwrap_or (serialized_between s.context.bytes t.place.start t.place.end) [] in
-    adds-text (is_escaped-encoded x)
+chunk-escaped s t = grind (arith, adds-text, is_escaped-encoded)
 
 -- HTML, escaped
 html-escaped : (s : Setting) (t : At) → t.around.is_escaping ≡ true →

@@ -1,14 +1,14 @@
 -- Blocks and preformatted code are built as they are read, by what their children do; and what is
 -- known of each element that stands in flow content or in a list.
 use Rattle.std.proofs.Common.{◌≡◌, ℕ, true, false, cond, List, ◌∷◌, ◌++◌, refl, ap, ◌∙◌, codes, ◌⊎◌}
-use Rattle.std.proofs.Common.{inl, inr, Bool, sym, []}
+use Rattle.std.proofs.Common.{inl, inr, Bool, sym, arith}
 use Rattle.std.specs.Prelude.{Some, bytes_eq}
 use Rattle.md_base.proofs.Lies.{lie}
 use Rattle.md_text.specs.Html.{Attribute, Forest, Empty, Text, Void, Element}
 use Rattle.md_safe.specs.Token.{Token, EndTag, TokenAttribute, TokenAttribute}
 use Rattle.md_safe.specs.Tokens.{seen_attributes, tokens}
 use Rattle.md_safe.specs.Contents.{Preformatted, is_contained, Content, Flow, Phrasing, Items}
-use Rattle.md_safe.specs.Contents.{block_elements, Parts, elements_in, span_elements}
+use Rattle.md_safe.specs.Contents.{Parts, elements_in}
 use Rattle.md_safe.specs.Node.{Nodes, Open, Parser, Empty as NoNode, Nodes, Open, Parser}
 use Rattle.md_safe.specs.Elements.{button_scope, headings, headings}
 use Rattle.md_safe.specs.Stack.{is_named, is_among, has_in_scope, current, insert, popped, insert}
@@ -17,10 +17,10 @@ use Rattle.md_safe.specs.Construction.{run}
 use Rattle.md_safe.specs.Built.{put, at, is_body}
 use Rattle.md_safe.proofs.Steps.{past}
 use Rattle.md_safe.proofs.TreeSteps.{Position, parser_of, with_children, element_of, within}
-use Rattle.md_safe.proofs.PhrasingNames.{Done, Passed, IsOuter, outside, passes, Each, also}
+use Rattle.md_safe.proofs.PhrasingNames.{Done, Passed, IsOuter, outside, passes, Each}
 use Rattle.md_text.specs.Bytes.{is_one_of}
 use Rattle.md_safe.specs.InTable.{mode_for}
-use Rattle.md_safe.proofs.PhrasingRules.{Rule, span-rules, code-rule}
+use Rattle.md_safe.proofs.PhrasingRules.{Rule}
 
 -- ---- blocks
 
@@ -67,17 +67,6 @@ plain {name = name} names starts ends keeps = record {
       (insert name attributes (record (parser_of x) { stack = stack }))) (unclosed _ none);
   ends = ends;
   keeps_p = keeps;
-}
-
-pub li-block : IsBlock (codes "li")
-li-block = record {
-  names = outside refl;
-  starts = λ attributes x none calm item. ap (λ stack. Some (insert (codes "li") attributes
-      (record (parser_of x) { stack = close_p stack }))) (past _ (item refl) refl) ∙ ap (λ stack.
-      Some (insert (codes "li") attributes (record (parser_of x) { stack = stack })))
-      (unclosed _ none);
-  ends = λ i t c x. refl;
-  keeps_p = λ i t c s other none. none;
 }
 
 pub heading : {name : List ℕ} → IsOuter name →
@@ -208,36 +197,6 @@ p-rule = speaking (plain (outside refl) (λ t p. refl) (λ i t c x. refl) (λ i 
 ruleset elements_of_blocks =
     (listing, holding, speaking, plainly, heading, outside, table-rule, pre-rule, p-rule)
 
-block-rules : Each (Ruled Flow) block_elements
-block-rules = search elements_of_blocks depth 10 fits 10000
-
--- the elements of spans, and then these
-spanned : (those others : List (List ℕ × Content)) → Each (Rule Flow) those →
-    Each (Ruled Flow) others → Each (Ruled Flow) (those ++ others)
-spanned [] others rules more = more
-spanned (element ∷ those) others rules more =
-    also (record { kind = inl rules.0; item = λ e. lie (sym rules.0.no_item ∙ e) })
-    (spanned those others rules.1 more)
-
 pub flowing-rules : (content : Content) → is_flowing content ≡ true →
     Each (Ruled content) (elements_in false content)
-flowing-rules Flow is =
-    spanned (span_elements false) block_elements (span-rules Flow refl) block-rules
-flowing-rules Items is = (
-  record {
-    kind = inr (inr (inl (
-      record {
-        block = li-block;
-        other = refl;
-        calm = refl;
-        passes = λ i t c s. refl;
-      },
-      refl,
-    )));
-    item = λ e. refl;
-  },
-  tt,
-)
-flowing-rules Preformatted is =
-    (record { kind = inl (code-rule Preformatted); item = λ e. lie e }, tt)
-flowing-rules _ is = lie is
+flowing-rules content is = grind arith

@@ -7,20 +7,16 @@ use Rattle.std.proofs.Common.{List, [], ◌∷◌, ◌++◌, append_assoc, appen
 use Rattle.std.proofs.lemmas.Bool.{cond_both, cond_both, or_left, or_right}
 use Rattle.md_base.proofs.Lies.{lie}
 use Rattle.md_base.specs.declared.event.Name.{Name}
-use Rattle.md_base.specs.declared.event.Name.TheVariants.{Image, LineEnding}
-use Rattle.md_base.specs.Is.{is as named}
+use Rattle.md_base.specs.declared.event.Name.TheVariants.{LineEnding}
 use Rattle.md_base.specs.Tree.{Forest, Forest, Empty, Node, Forest}
-use Rattle.md_text.specs.declared.options.CompileOptions.{CompileOptions}
-use Rattle.md_meaning.specs.declared.surroundings.Surroundings.{Surroundings}
-use Rattle.md_meaning.specs.Meaning.Inherited.{inside}
-use Rattle.md_content.specs.Built.{Content, Blocks, is_source, may_stand, content_of, content_past}
+use Rattle.md_content.specs.Built.{Content, may_stand, content_of, content_past}
 use Rattle.md_content.specs.Built.{content_after_node, FirstFence, FirstMathFence, Chunks}
-use Rattle.md_content.specs.Built.{InfoAndMeta, MetaAlone, Nothing, is_fence, is_info}
+use Rattle.md_content.specs.Built.{is_fence}
 use Rattle.md_content.specs.Built.{content_after, content_inside, IsBuilt, IsFit}
 use Rattle.md_safe.proofs.Contents.{stays-after, Follows, spine_after_node, is_first}
-use Rattle.md_safe.proofs.Insides.{allowed_inside, is_blocks, of-blocks, is_blocks-same, Suits}
+use Rattle.md_safe.proofs.Insides.{allowed_inside, is_blocks, of-blocks, Suits}
 use Rattle.md_safe.proofs.Insides.{past_of, is_chunks, is_raw}
-use Rattle.md_safe.proofs.Cases.{either, cases, cases}
+use Rattle.md_safe.proofs.Cases.{cases, cases}
 use Rattle.std.specs.List.{list_any}
 use Rattle.md_base.specs.NameTests.{is_transparent, is_fence as fence_name, is_fence as fence_name}
 use Rattle.md_base.specs.Children.{spine_names}
@@ -45,49 +41,6 @@ suits-after-node escaping in_image content name children h =
           outside = λ is. h.outside (after.blocks is);
         }
 
--- images alone begin an image, and no blocks stand in them
-still-outside : (options : CompileOptions) (loose : Bool) (around : Surroundings) (name : Name) →
-    is_blocks (content_of name Blocks) ≡ true → around.in_image ≡ false →
-    (inside options loose name around).in_image ≡ false
-still-outside options loose around Image blocks out = lie blocks
-still-outside options loose around _ blocks out = out
-
--- if HTML is escaped, escaped text stays so, except in the targets of links
-stays-escaping : (options : CompileOptions) → options.allow_dangerous_html ≡ false →
-    (loose : Bool) (around : Surroundings) (name : Name) → around.is_escaping ≡ true →
-    is_source name ≡ false → (inside options loose name around).is_escaping ≡ true
-stays-escaping options html loose around Image e out = e
-stays-escaping options html loose around _ e out = grind (arith, html, e, out)
-
-stays-image : (options : CompileOptions) (loose : Bool) (around : Surroundings) (name : Name) →
-    around.in_image ≡ true → (inside options loose name around).in_image ≡ true
-stays-image options loose around Image e = refl
-stays-image options loose around _ e = e
-
-in-image : (options : CompileOptions) (loose : Bool) (around : Surroundings) (name : Name) →
-    named Image name ≡ true → (inside options loose name around).in_image ≡ true
-in-image options loose around Image is = refl
-in-image options loose around _ is = lie is
-
--- the surroundings of a node's children suit them
-pub suits-inside : (options : CompileOptions) → options.allow_dangerous_html ≡ false →
-    (loose : Bool) (around : Surroundings) (content : Content) (name : Name) →
-    may_stand content name ≡ true → Suits around.is_escaping around.in_image content → Suits
-    (inside options loose name around).is_escaping
-    (inside options loose name around).in_image (content_of name content)
-suits-inside options html loose around content name s h = record {
-  escaped = λ asks.
-      let needs = (allowed_inside content name s).escaping asks in
-      stays-escaping options html loose around name (h.escaped needs.0) needs.1;
-  image = λ asks. either _ _ ((allowed_inside content name s).image asks)
-      (λ within. stays-image options loose around name (h.image within))
-      (in-image options loose around name);
-  outside = λ is.
-      let blocks = of-blocks content name is in
-      still-outside options loose around name (rw (is_blocks-same content blocks) at is) (h.outside
-      blocks);
-}
-
 -- the two tests of fences are one
 pub same_fence : (name : Name) → is_fence name ≡ fence_name name
 same_fence LineEnding = refl
@@ -100,14 +53,8 @@ same_fences (name ∷ names) = (λ i. same_fence name i || same_fences names i)
 follows-past : (content : Content) (name : Name) (names : List Name) →
     may_stand content name ≡ true →
     Follows content names → Follows (content_past content name) (names ++ (name ∷ []))
-follows-past FirstFence name names h f = list_any-append fence_name names (name ∷ []) ∙ or_right _ _
-    (or_left _ _ ((allowed_inside FirstFence name h).fence refl))
-follows-past FirstMathFence name names h f = list_any-append fence_name names (name ∷ []) ∙ or_right
-    _ _ (or_left _ _ ((allowed_inside FirstMathFence name h).fence refl))
-follows-past Chunks name names h f = list_any-append fence_name names (name ∷ []) ∙ or_left _ _ f
-follows-past InfoAndMeta name names h f = cond_both (is_info name) MetaAlone Nothing
-    (λ content. Follows content (names ++ (name ∷ []))) (λ _. tt) (λ _. tt)
-follows-past _ name names h f = tt
+follows-past content name names h f =
+    grind (arith, list_any-append, or_right, or_left, allowed_inside, cond_both)
 
 -- one of two tests holds, and it isn't the first
 pub second : (a b : Bool) → a ≡ false → (a || b) ≡ true → b ≡ true
@@ -139,8 +86,7 @@ pub follows-after-node :
     Follows content names
     → Follows (content_after_node content name children) (spine_after_node name children names)
 follows-after-node bytes content name names children stands built f =
-    follows-node content name names children stands f
-    (λ e. follows-after bytes content names children (rw e at built) f)
+    grind (arith, follows-node, follows-after)
 
 -- nothing stands before a node's first child
 pub follows-inside : (content : Content) (name : Name) → may_stand content name ≡ true →
@@ -178,17 +124,14 @@ later-of content name plain s = cases (is_first (content_of name content))
 later-fenced : (content : Content) (names : List Name) → Follows content names →
     list_any fence_name names ≡ true →
     IsLater content
-later-fenced FirstFence names f h = lie (sym f ∙ h)
-later-fenced FirstMathFence names f h = lie (sym f ∙ h)
-later-fenced _ names f h = refl
+later-fenced content names f h = grind arith
 
 fenced-after : (bytes : List ℕ) (content : Content) (children : Forest) →
     IsBuilt bytes content children →
     Follows content [] → list_any is_fence (spine_names children) ≡ true →
     IsLater (content_after content children)
 fenced-after bytes content children built f h =
-    later-fenced (content_after content children) (spine_names children)
-    (follows-after bytes content [] children built f) (sym (same_fences (spine_names children)) ∙ h)
+    grind (arith, later-fenced, follows-after, same_fences)
 
 -- after a node's children no first fence is to come
 pub later-inside :

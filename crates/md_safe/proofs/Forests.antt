@@ -1,12 +1,11 @@
 -- What the nodes of a document mean: the induction over nodes of any content, for any claim that is
 -- kept where two texts meet. It goes over all that an outcome has at once.
-use Rattle.std.proofs.Common.{◌≡◌, Bool, true, false, ◌||◌, List, [], ◌∷◌, ◌++◌, sym}
+use Rattle.std.proofs.Common.{◌≡◌, Bool, true, false, ◌||◌, List, [], ◌∷◌, ◌++◌, sym, arith}
 use Rattle.std.proofs.Common.{subst, append_assoc}
 use Rattle.std.proofs.lemmas.Bool.{cond_both}
-use Rattle.md_base.proofs.Lies.{lie}
 use Rattle.md_base.specs.declared.event.Name.{Name}
 use Rattle.md_base.specs.declared.event.Name.TheVariants as name_variants
-use name_variants.{Other, BlockQuotePrefix, SpaceOrTab, Definition, GfmFootnoteDefinition}
+use name_variants.{Definition, GfmFootnoteDefinition}
 use Rattle.md_base.specs.Is.{is as named}
 use Rattle.md_base.specs.Tree.{Forest, Empty, Node}
 use Rattle.md_base.specs.NameTests.{is_transparent}
@@ -19,12 +18,12 @@ use Rattle.md_meaning.specs.Meaning.At.{Target}
 use Rattle.md_meaning.specs.Meaning.Before.{before_children}
 use Rattle.md_meaning.specs.Meaning.Layout.{Piece, layout, when}
 use Rattle.md_meaning.specs.Meaning.Nodes.{Outcome, found_at, node, before_next, outcome}
-use Rattle.md_content.specs.Built.{Content, may_stand, content_of, content_inside}
+use Rattle.md_content.specs.Built.{Content, may_stand, content_inside}
 use Rattle.md_content.specs.Built.{content_after_node, content_after, IsBuilt}
 use Rattle.md_safe.proofs.Contents.{stays-after, Holds, Follows}
 use Rattle.md_safe.proofs.Insides.{is_blocks, Suits, past_of}
 use Rattle.md_safe.proofs.Following.{inside-blocks, asked-after-node, second, follows-inside}
-use Rattle.md_safe.proofs.Following.{follows-after-node, suits-inside, suits-after-node}
+use Rattle.md_safe.proofs.Following.{follows-after-node, suits-after-node}
 use Rattle.md_safe.proofs.Spot.{IsWhole, Setting, AreTitles, IsFitAt, Prints, Inside, at_in}
 use Rattle.md_safe.proofs.FlowNodes.{Reads}
 use Rattle.md_safe.proofs.BlockNodes.{holds-none}
@@ -35,26 +34,12 @@ use Rattle.md_safe.proofs.Cases.{on-later, on-either, cases}
 use Rattle.md_safe.proofs.Texts.{Escaped}
 use Rattle.md_safe.proofs.Media.{IsEscapedTitle}
 
--- the surroundings of children suit them
-through-suits : (options : CompileOptions) (loose : Bool) (around : Surroundings)
-    (content : Content) (name : Name) →
-    is_transparent name ≡ true → Suits around.is_escaping around.in_image content
-    → Suits (inside options loose name around).is_escaping
-    (inside options loose name around).in_image content
-through-suits options loose around content (Other number) is h = h
-through-suits options loose around content BlockQuotePrefix is h = h
-through-suits options loose around content SpaceOrTab is h = h
-through-suits options loose around content _ is h = lie is
-
 children-suit : (options : CompileOptions) → options.allow_dangerous_html ≡ false →
     (loose : Bool) (around : Surroundings) (content : Content) (name : Name) →
     (is_transparent name || may_stand content name) ≡ true → Suits around.is_escaping
     around.in_image content → Suits (inside options loose name around).is_escaping
     (inside options loose name around).in_image (content_inside content name)
-children-suit options html loose around content name stands h = cond_both (is_transparent name)
-    content (content_of name content) (Suits (inside options loose name around).is_escaping (inside
-    options loose name around).in_image) (λ e. through-suits options loose around content name e h)
-    (λ e. suits-inside options html loose around content name (second _ _ e stands) h)
+children-suit options html loose around content name stands h = grind arith
 
 -- the state before a node's first child
 children-follow : (content : Content) (name : Name) (before : Before) (children : Forest) →
@@ -204,12 +189,4 @@ pub found-at : {s : Setting} {content : Content} (t : At) (name : Name) (inner :
     (content_inside content name) t.children → PrintsBefore s t (content_inside content name) name
     inner → AreFound s (content_inside content name) t.found →
     AreFound s content (found_at t name (layout s.context.ending inner))
-found-at t name inner stands fit suits built before found =
-    found-node t name (record {
-      stands = stands;
-      fit = fit;
-      suits = suits;
-      built = built;
-      before = before;
-      found = found;
-    })
+found-at t name inner stands fit suits built before found = grind (arith, found-node)

@@ -74,12 +74,7 @@ notes-differ : (options : CompileOptions) → options.gfm_footnote_number_ids �
     (all : List (List ℕ)) (x y : List ℕ) → length all + 1 < 2 ^ 64 → is_in y (distinct all) ≡ true →
     note_id options all y ≡ note_id options all x → y ≡ x
 notes-differ options on all x y few among e =
-    let tails : back_prefix options ++ note_tail (place_among (distinct all) y) ≡ back_prefix
-    options ++ note_tail (place_among (distinct all) x) = sym
-    (note-back options on y (place_among (distinct all) y)) ∙ e ∙ note-back options on x
-    (place_among (distinct all) x) in
-    same-place (distinct all) y x among (same-note options _ _
-    (omega (number-bound all y, few, arith)) (omega (number-bound all x, few, arith)) tails)
+    grind (arith, note-back, same-place, same-note, number-bound)
 
 none-other : (options : CompileOptions) → options.gfm_footnote_number_ids ≡ true →
     (all : List (List ℕ)) (x : List ℕ) (identifiers : List (List ℕ)) → length all + 1 < 2 ^ 64 →

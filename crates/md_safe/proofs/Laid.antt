@@ -1,5 +1,5 @@
 -- What a list of pieces adds to a text: the claim on texts carried over to what is laid out.
-use Rattle.std.proofs.Common.{◌≡◌, ℕ, Bool, true, false, List, [], ◌∷◌, ◌++◌, refl, sym, ap}
+use Rattle.std.proofs.Common.{◌≡◌, ℕ, Bool, true, false, List, [], ◌∷◌, ◌++◌, refl, sym, ap, arith}
 use Rattle.std.proofs.Common.{◌∙◌, subst, append_assoc, append-nil}
 use Rattle.md_meaning.specs.Meaning.Layout.{Piece, Text, Needed, Forced, laid_after, layout, when}
 use Rattle.std.specs.List.{flat_map}
@@ -21,11 +21,7 @@ pub record Adds (ending : List ℕ) (holds : List ℕ → Type 0) (pieces : List
 -- something else holds as well
 pub adds-weaker : {ending : List ℕ} {f g : List ℕ → Type 0} {pieces : List Piece} →
     ((x : List ℕ) → f x → g x) → Adds ending f pieces → Adds ending g pieces
-adds-weaker weaker a = record {
-  to = λ text.
-      let r = a.to text in
-      record { added = r.added; grown = r.grown; it_holds = weaker r.added r.it_holds };
-}
+adds-weaker weaker a = grind arith
 
 -- one list after another
 pub adds-append : {ending : List ℕ} {f g h : List ℕ → Type 0} {xs ys : List Piece} →

@@ -1,8 +1,8 @@
 -- What stands in a link, where links may stand in links and where not; and none does where a
 -- document has no link in a link.
 use Rattle.std.proofs.Common.{◌≡◌, ◌⊎◌, inl, inr, Bool, true, false, not, ◌&&◌, ◌||◌, cond, refl}
-use Rattle.std.proofs.Common.{sym, ap, ◌∙◌, arith}
-use Rattle.std.proofs.lemmas.Bool.{or_parts, or_left, or_right, cond_both}
+use Rattle.std.proofs.Common.{sym, ◌∙◌, arith}
+use Rattle.std.proofs.lemmas.Bool.{or_parts, or_left, or_right}
 use Rattle.md_base.proofs.Lies.{lie}
 use Rattle.md_base.specs.declared.event.Name.{Name}
 use Rattle.md_base.specs.declared.event.Name.TheVariants.{Image, Link}
@@ -56,20 +56,9 @@ pub place-other : (nested : Bool) (content : Content) (name : Name) → named Li
 place-other nested content Link other = lie (sym other)
 place-other nested content _ other = refl
 
-with-without : (content : Content) → with_links (without_links content) ≡ with_links content
-with-without content = grind arith
-
--- no place is without links by its name
-place-with : (name : Name) → with_links (place_of name) ≡ place_of name
-place-with Link = refl
-place-with _ = refl
-
 pub place-in-with : (nested : Bool) (content : Content) (name : Name) →
     with_links (place_in nested content name) ≡ place_of name
-place-in-with nested content Link = grind arith
-place-in-with nested content name = cond_both (is_linked content) (without_links (place_of name))
-    (place_of name) (λ c. with_links c ≡ place_of name) (λ _. with-without (place_of name) ∙
-    place-with name) (λ _. place-with name)
+place-in-with nested content name = grind arith
 
 pub inner-place-with : (nested : Bool) (content : Content) (name : Name) →
     with_links (inner_place nested content name) ≡ place_inside (with_links content) name
@@ -129,30 +118,19 @@ pub unnested-parts : (name : Name) (in_link : Bool) (start end : Point) (childre
     ≡ false) × (has_nested_link in_link rest ≡ false)
 unnested-parts name in_link start end children rest h = or_parts _ _ h
 
-no_image : (name : Name) → is_blocks (content_inside Blocks name) ≡ true →
-    not (named Image name) ≡ true
-no_image Image h = lie h
-no_image _ h = refl
-
 pub unnested-inside :
     (options : CompileOptions) (loose : Bool) (name : Name) (around : Surroundings)
     (start end : Point)
     (children rest : Forest) → is_blocks (content_inside Blocks name) ≡ true →
     has_nested_link around.in_link (Node name start end children rest) ≡ false →
     has_nested_link (inside options loose name around).in_link children ≡ false
-unnested-inside options loose name around start end children rest blocks h =
-    ap (λ b. has_nested_link b children) (inside-link options loose name around)
-    ∙ (parts around.in_link (prints_link name) (not (named Image name))
-    (has_nested_link (named Link name || around.in_link) children)
-    (unnested-parts name around.in_link start end children rest h).0).0 (no_image name blocks)
+unnested-inside options loose name around start end children rest blocks h = grind arith
 
 -- spans that aren't without links
 pub unlinked-spans : (content : Content) → is_spans content ≡ true →
     (is_linked content ≡ true → content ≡ Phrasing) →
     content ≡ Phrasing
-unlinked-spans Phrasing is h = refl
-unlinked-spans Linked is h = h refl
-unlinked-spans _ is h = lie is
+unlinked-spans content is h = grind arith
 
 -- no link is printed where they are
 pub unlinked-here :
@@ -162,7 +140,4 @@ pub unlinked-here :
     (nested ≡ false → has_nested_link around.in_link (Node name start end children rest) ≡ false) →
     content ≡ Phrasing
 unlinked-here nested content name around start end children rest is prints linked unnested =
-    unlinked-spans content is (λ e.
-    lie (sym ((parts around.in_link (prints_link name) (not (named Image name))
-    (has_nested_link (named Link name || around.in_link) children) (unnested-parts name
-    around.in_link start end children rest (unnested (linked e).0)).0).1 (linked e).1) ∙ prints))
+    grind arith

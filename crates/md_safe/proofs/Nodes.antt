@@ -1,11 +1,11 @@
 -- A node of any content, before what is printed after it: the step of the induction
 -- in `Forests.antt`.
-use Rattle.std.proofs.Common.{◌≡◌, ℕ, Bool, true, false, not, ◌||◌, cond, List, [], ◌++◌}
+use Rattle.std.proofs.Common.{◌≡◌, ℕ, Bool, true, false, not, ◌||◌, cond, List, [], ◌++◌, arith}
 use Rattle.std.proofs.Common.{refl, ap, inl, inr, append-nil, codes}
 use Rattle.md_base.proofs.Lies.{lie}
 use Rattle.md_base.specs.declared.event.Name.{Name}
 use Rattle.md_base.specs.declared.event.Name.TheVariants as name_variants
-use name_variants.{Other, BlockQuotePrefix, SpaceOrTab, CodeFencedFenceInfo, CodeFencedFenceMeta}
+use name_variants.{SpaceOrTab, CodeFencedFenceInfo, CodeFencedFenceMeta}
 use name_variants.{MathFlowFenceMeta, GfmTaskListItemValueChecked}
 use Rattle.md_text.proofs.EscapedLemmas.{escaped-append}
 use Rattle.md_base.specs.NameTests.{is_transparent}
@@ -93,9 +93,7 @@ info_or_meta-node s t _ e is inner rest a b = lie is
 meta-node : (s : Setting) (t : At) (name : Name) → may_stand MetaAlone name ≡ true →
     (inner rest : List Piece) →
     Prints s IsNil rest → Prints s IsNil (prints s.context t name inner ++ rest)
-meta-node s t CodeFencedFenceMeta is inner rest b = b
-meta-node s t MathFlowFenceMeta is inner rest b = b
-meta-node s t _ is inner rest b = lie is
+meta-node s t name is inner rest b = grind arith
 
 -- the mark of a task that is done
 checked : (s : Setting) (in_image : Bool) {rest : List Piece} → Prints s IsNil rest →
@@ -179,10 +177,7 @@ through-node : (s : Setting) (t : At) (content : Content) (name : Name) →
     (inner rest : List Piece) → Before s t content name inner →
     Prints s (Here s t (content_after content t.children)) rest →
     Prints s (Here s t content) (prints s.context t name inner ++ rest)
-through-node s t content (Other number) is inner rest a b = a rest b
-through-node s t content BlockQuotePrefix is inner rest a b = a rest b
-through-node s t content SpaceOrTab is inner rest a b = a rest b
-through-node s t content _ is inner rest a b = lie is
+through-node s t content name is inner rest a b = grind arith
 
 -- what a node that isn't transparent holds
 pub inside-alone : (s : Setting) (t : At) (content : Content) (name : Name) →

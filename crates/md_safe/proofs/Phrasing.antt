@@ -90,10 +90,7 @@ element-done {rest = rest} passed later =
 -- the parts of a text in a forest
 pub text-escaped : (bytes : List ℕ) (rest : Forest) → has_whole_texts (Text bytes rest) ≡ true →
     (is_escaped bytes ≡ true) × (has_whole_texts rest ≡ true)
-text-escaped bytes rest h =
-    let all = and_parts _ _ h in
-    let own = and_parts _ _ all.0 in
-    ((and_parts _ _ own.0).1, all.1)
+text-escaped bytes rest h = grind arith
 
 -- and those of an element
 pub element-parts : (name : List ℕ) (attributes : List Attribute) (inner rest : Forest) →

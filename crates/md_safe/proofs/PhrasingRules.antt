@@ -18,11 +18,11 @@ use Rattle.md_safe.proofs.Lists.{keeps-open, later-created, open-under, keeps-no
 use Rattle.md_safe.proofs.Steps.{here, past}
 use Rattle.md_safe.proofs.TreeSteps.{Position, parser_of, element_of, within, reconstructs}
 use Rattle.md_safe.proofs.PhrasingNames.{Done, Passed, IsOrdinary, IsFormatting, full, passes}
-use Rattle.md_safe.proofs.PhrasingNames.{is_free, Each, a-formats, outside, IsOuter, also, IsVoid}
+use Rattle.md_safe.proofs.PhrasingNames.{is_free, Each, outside, IsOuter, IsVoid}
 use Rattle.md_safe.proofs.PhrasingNames.{void-named, Here}
 use Rattle.std.proofs.lemmas.Bool.{or_left}
 use Rattle.md_base.proofs.Lies.{lie}
-use Rattle.md_safe.specs.Contents.{Content, Phrasing, Linked, Characters, span_elements, spans_of}
+use Rattle.md_safe.specs.Contents.{Content, Phrasing, Linked, Characters, spans_of}
 use Rattle.md_safe.specs.Contents.{elements_in, voids_in}
 
 -- an ordinary element
@@ -104,18 +104,6 @@ pub record Rule (content : Content) (name : List ℕ) (held : Content) : Type 0 
   pub links : bytes_eq name (codes "a") ≡ true → is_free content ≡ true
   pub no_item : bytes_eq name (codes "li") ≡ false
 
--- of one that is no link
-spanning : {content held : Content} {name : List ℕ} → IsFormatting name ⊎ IsOrdinary name →
-    is_inline held ≡ true → (is_free held ≡ true → is_free content ≡ true) →
-    bytes_eq name (codes "a") ≡ false → bytes_eq name (codes "li") ≡ false → Rule content name held
-spanning kind inline free no_link no_item = record {
-  kind = kind;
-  inline = inline;
-  frees = λ e. (free e, no_link);
-  links = λ e. lie (sym no_link ∙ e);
-  no_item = no_item;
-}
-
 formatting : {content held : Content} {name : List ℕ} → IsOuter name →
     is_one_of special name ≡ false →
     ((attributes : List TokenAttribute) (p : Parser) →
@@ -123,13 +111,7 @@ formatting : {content held : Content} {name : List ℕ} → IsOuter name →
     ((p : Parser) → end_in_body name p ≡ end_formatting name p) → is_inline held ≡ true →
     (is_free held ≡ true → is_free content ≡ true) →
     bytes_eq name (codes "a") ≡ false → bytes_eq name (codes "li") ≡ false → Rule content name held
-formatting names plain starts ends inline free no_link no_item =
-    spanning (inl (record {
-      names = names;
-      plain = plain;
-      starts = λ t p f. starts t p;
-      ends = ends;
-    })) inline free no_link no_item
+formatting names plain starts ends inline free no_link no_item = grind arith
 
 ordinary : {content held : Content} {name : List ℕ} → IsOuter name →
     ((attributes : List TokenAttribute) (p : Parser) →
@@ -137,9 +119,7 @@ ordinary : {content held : Content} {name : List ℕ} → IsOuter name →
     ((p : Parser) → end_in_body name p ≡ end_other name p) → is_inline held ≡ true →
     (is_free held ≡ true → is_free content ≡ true) →
     bytes_eq name (codes "a") ≡ false → bytes_eq name (codes "li") ≡ false → Rule content name held
-ordinary names starts ends inline free no_link no_item =
-    spanning (inr (record { names = names; starts = starts; ends = ends }))
-    inline free no_link no_item
+ordinary names starts ends inline free no_link no_item = grind arith
 
 pub code-rule : (content : Content) → Rule content (codes "code") Characters
 code-rule content = formatting (outside refl) refl (λ t p. refl) (λ p. refl) refl (λ e. lie e) refl
@@ -150,31 +130,13 @@ spans : (content held : Content) → is_inline held ≡ true →
     (is_free held ≡ true → is_free content ≡ true) → Each (Rule content) (spans_of held)
 spans content held i f = search (code-rule, formatting, ordinary, outside) depth 8 fits 4000
 
-pub span-rules : (content : Content) → is_free content ≡ true →
-    Each (Rule content) (span_elements false)
-span-rules content free =
-    also (record {
-      kind = inl a-formats;
-      inline = refl;
-      frees = λ e. lie e;
-      links = λ e. free;
-      no_item = refl;
-    })
-    (spans content Phrasing refl (λ e. free))
-
 pub rules : (content : Content) → is_inline content ≡ true →
     Each (Rule content) (elements_in false content)
-rules Phrasing is = span-rules Phrasing refl
-rules Linked is = spans Linked Linked refl (λ e. lie e)
-rules Characters is = tt
-rules _ is = lie is
+rules content is = grind arith
 
 pub void-in : (content : Content) (name : List ℕ) → is_inline content ≡ true →
     is_one_of (voids_in content) name ≡ true → IsVoid name
-void-in Phrasing name is h = void-named name h
-void-in Linked name is h = void-named name h
-void-in Characters name is h = lie h
-void-in _ name is h = lie is
+void-in content name is h = grind (arith, void-named)
 
 -- where the children of a formatting element are inserted
 pub here-formatting : {x : Position} {name : List ℕ} {those : List TokenAttribute}

@@ -4,7 +4,7 @@ use Rattle.std.specs.Prelude.{None}
 use Rattle.md_base.proofs.Lies.{lie}
 use Rattle.md_base.specs.declared.event.Name.{Name}
 use Rattle.md_base.specs.declared.event.Name.TheVariants as name_variants
-use name_variants.{Other, BlockQuotePrefix, SpaceOrTab, LineEnding, HeadingSetextText}
+use name_variants.{HeadingSetextText}
 use name_variants.{HeadingSetextUnderlineSequence, GfmFootnoteDefinition}
 use Rattle.md_base.specs.Is.{is as named}
 use Rattle.md_base.specs.Tree.{Forest, Empty, Node}
@@ -55,26 +55,18 @@ is_special name = is_setext name || (is_call name || named GfmFootnoteDefinition
 no_wait : (name : Name) → is_setext name ≡ false → is_blocks (content_of name Blocks) ≡ true →
     (waits : Bool) →
     waits_past waits name ≡ false
-no_wait HeadingSetextText other blocks waits = lie (sym other)
-no_wait LineEnding other blocks waits = lie blocks
-no_wait _ other blocks waits = refl
+no_wait name other blocks waits = grind arith
 
 keeps_wait : (w : List ℕ) (m : ℕ) (name : Name) → is_setext name ≡ false →
     (waits : Bool) (x : List ℕ) →
     Waiting w waits m x → Waiting w (waits_past waits name) m x
-keeps_wait w m HeadingSetextText other waits x h = lie (sym other)
-keeps_wait w m LineEnding other waits x h = h
-keeps_wait w m _ other waits x h = tt
+keeps_wait w m name other waits x h = grind arith
 
 -- nor is a heading found at it
 no_heading : (t : At) (name : Name) (x : List ℕ) → is_transparent name ≡ false →
     is_setext name ≡ false →
     (found_at t name x).heading ≡ None
-no_heading t HeadingSetextText x solid other = lie (sym other)
-no_heading t (Other number) x solid other = lie (sym solid)
-no_heading t BlockQuotePrefix x solid other = lie (sym solid)
-no_heading t SpaceOrTab x solid other = lie (sym solid)
-no_heading t _ x solid other = refl
+no_heading t name x solid other = grind arith
 
 no_underline : (name : Name) → is_setext name ≡ false → is_underline name ≡ true → false ≡ true
 no_underline HeadingSetextUnderlineSequence other is = sym other

@@ -1,9 +1,8 @@
 -- What the inductions need is known at the beginning of a document.
-use Rattle.std.proofs.Common.{◌≡◌, ℕ, Bool, true, cond, List, [], refl}
+use Rattle.std.proofs.Common.{◌≡◌, ℕ, Bool, true, cond, List, [], refl, arith}
 use Rattle.std.specs.Prelude.{Option, Some, None}
 use Rattle.std.specs.Option.{option_map_or}
 use Rattle.md_base.specs.declared.event.Name.{Name}
-use Rattle.md_base.specs.declared.event.Name.TheVariants.{LineEnding, BlankLineEnding}
 use Rattle.md_base.specs.declared.event.Point.{Point}
 use Rattle.md_base.specs.declared.event.Position.{Position}
 use Rattle.md_text.specs.declared.line_ending.LineEnding.{LineEnding as Ending}
@@ -32,9 +31,7 @@ use Rattle.md_safe.specs.Options.{KeepsGrammar}
 use Rattle.md_safe.proofs.Texts.{Escaped}
 use Rattle.md_safe.proofs.Tags.{reading}
 use Rattle.md_safe.proofs.Spot.{PassesIds, IsWhole, Setting}
-use Rattle.md_safe.proofs.BlockNodes.{holds-none}
 use Rattle.md_safe.proofs.Forests.{Ready, means}
-use Rattle.md_safe.proofs.Insides.{blocks-suit}
 
 -- a place, where there is one, has the text of line endings
 abbrev pub IsEnding : List ℕ → Option Position → Type 0
@@ -49,9 +46,7 @@ first_of_two bytes (Some place) second f g = f
 own-ending : (bytes : List ℕ) (name : Name) (start end : Point) (children : Forest) →
     IsFit bytes name start end children → IsEnding bytes
     (cond (is_line_ending name) (Some (position start end)) None)
-own-ending bytes LineEnding start end children fit = fit
-own-ending bytes BlankLineEnding start end children fit = fit
-own-ending bytes _ start end children fit = refl
+own-ending bytes name start end children fit = grind arith
 
 -- the first line ending of a document is one
 pub first-is_ending : (bytes : List ℕ) (content : Content) (forest : Forest) →
@@ -77,12 +72,7 @@ ending-white options bytes (Some place) h = line_ends-white (text_in bytes place
 
 -- what is known at the document's beginning
 pub outermost-ready : (s : Setting) → IsWhole s.p → Ready s outermost nothing_before Blocks
-outermost-ready s whole = record {
-  suits = blocks-suit;
-  follows = tt;
-  whole = λ _. whole;
-  heading = λ _. holds-none s;
-}
+outermost-ready s whole = grind arith
 
 -- a reading is claimed as a whole
 pub reads-whole : (p : Attribute → Bool) → PassesIds p → IsWhole (reading p)

@@ -57,10 +57,7 @@ say-append content x y a b = grind (arith, list_all-append is_space x y)
 contained-text_before : (nested : Bool) (content : Content) (bytes : List ℕ) (g : Forest) →
     may_say content bytes ≡ true → is_contained nested content g ≡ true →
     is_contained nested content (text_before bytes g) ≡ true
-contained-text_before nested content bytes Empty s h = and_from _ _ s refl
-contained-text_before nested content bytes (Text more rest) s h =
-    grind (arith, say-append content bytes more)
-contained-text_before nested content bytes g s h = and_from _ _ s h
+contained-text_before nested content bytes g s h = grind (arith, and_from, say-append)
 
 -- what an element holds stands where it may
 abbrev pub is_held : (nested : Bool) → Content → List ℕ → Forest → Bool
@@ -95,11 +92,7 @@ stands-join {nested} {content} x y a b =
     }
 
 pub stands-nothing : {nested : Bool} {content : Content} → Stands nested content []
-stands-nothing = record {
-  forest = Empty;
-  reading = record { in_grammar = refl; written_so = refl };
-  contained = refl;
-}
+stands-nothing = grind arith
 
 pub stands-text : {nested : Bool} {content : Content} {x : List ℕ} → Escaped x →
     may_say content x ≡ true → Stands nested content x
@@ -189,20 +182,12 @@ pub line_ends-white : (x : List ℕ) → is_line_ends x ≡ true → IsWhite x
 line_ends-white x h = (line_ends-escaped x h, line_ends-space x h)
 
 pub white_beside : IsBeside IsWhite
-white_beside = record {
-  none = (refl, refl);
-  both = λ x y a b. (
-    escaped-append x y a.0 b.0,
-    list_all-append is_space x y ∙ and_from (list_all is_space x) (list_all is_space y) a.1 b.1,
-  );
-}
+white_beside = grind (arith, escaped-append, list_all-append, and_from)
 
 -- white space may be beside it
 pub takes-white : {nested : Bool} {content : Content} → is_spaced content ≡ true →
     Takes IsWhite (Stands nested content)
-takes-white is = record {
-  take = λ w x v h r g. stands-join _ _ (stands-white is h) (stands-join _ _ r (stands-white is g));
-}
+takes-white is = grind (arith, stands-join, stands-white)
 
 -- ---- the tag of an element, which changes the content to another
 

@@ -1,9 +1,10 @@
 -- A start tag switches to the mode "text" if it is `title`, and otherwise not.
+use Rattle.std.proofs.Common.{arith}
 use Rattle.std.proofs.Common.{◌≡◌, ℕ, Bool, true, false, cond, List, refl, sym, ap, subst, codes}
 use Rattle.std.specs.Prelude.{Option, Some, None, option_and_then, bytes_eq}
 use Rattle.std.proofs.lemmas.Slice.Eq.{bytes_eq-Decides}
 use Rattle.md_safe.specs.Token.{StartTag, TokenAttribute}
-use Rattle.md_safe.specs.Node.{Mode, Initial, BeforeHtml, BeforeHead, InHead, InText, InTableText}
+use Rattle.md_safe.specs.Node.{Mode, InText, InTableText}
 use Rattle.md_safe.specs.Node.{is_text, Parser}
 use Rattle.md_safe.specs.AroundBody.{start_before_html, start_before_head, start_in_head}
 use Rattle.md_safe.specs.AroundBody.{start_after_head, with_root, with_head, with_body}
@@ -79,11 +80,7 @@ starts _ name attributes parser e none = search (entering, ap is_text e)
 
 titles : (mode : Mode) (attributes : List TokenAttribute) (parser : Parser) →
     Tokenizes true (start mode (codes "title") attributes parser)
-titles Initial attributes parser = to true _ refl
-titles BeforeHtml attributes parser = to true _ refl
-titles BeforeHead attributes parser = to true _ refl
-titles InHead attributes parser = to true _ refl
-titles _ attributes parser = nowhere true
+titles mode attributes parser = grind arith
 
 -- ---- after the characters of a table that were pending
 

@@ -84,9 +84,7 @@ pub note-once : (n : ℕ) → has_fn (45 ∷ decimal n) ≡ false
 note-once n = fn-digits (decimal n) (decimal-digits n)
 
 pub call-once : (n k : ℕ) → has_fn (codes "ref-" ++ (decimal n ++ (45 ∷ decimal k))) ≡ false
-call-once n k =
-    fn-past (decimal n) (45 ∷ decimal k) (decimal-digits n)
-    ∙ fn-digits (decimal k) (decimal-digits k)
+call-once n k = grind (arith, fn-past, decimal-digits, fn-digits)
 
 -- what is found among some texts stands there once or more
 pub any-occurs : (x : List ℕ) (ys : List (List ℕ)) → list_any (λ y. bytes_eq y x) ys ≡ true →
@@ -175,9 +173,7 @@ known-id bytes names options document built underlined keeps f reading w some =
 -- what follows the prefix in the id of a footnote or of a call
 tail_of : (options : CompileOptions) (w : List ℕ) → IsNote options w ⊎ IsCall options w →
     (tail : List ℕ) × (has_fn tail ≡ false) × (w ≡ prefix_of options ++ (102 ∷ 110 ∷ tail))
-tail_of options w (inl n) = (45 ∷ decimal n.0, note-once n.0, n.1)
-tail_of options w (inr n) =
-    (codes "ref-" ++ (decimal n.0 ++ (45 ∷ decimal n.1)), call-once n.0 n.1, n.2)
+tail_of options w h = grind (arith, note-once, call-once)
 
 -- what follows two prefixes of one id proves that they are equal
 one-prefix : (options other : CompileOptions) (w : List ℕ) → IsNote options w ⊎ IsCall options w →

@@ -1,6 +1,6 @@
 -- A text that is contained without a link in a link is built as it is read.
 use Rattle.std.proofs.Common.{◌≡◌, ℕ, true, false, not, ◌&&◌, List, [], ◌∷◌, ◌++◌, codes, refl, ap}
-use Rattle.std.proofs.Common.{◌∙◌, subst}
+use Rattle.std.proofs.Common.{◌∙◌, subst, arith}
 use Rattle.std.specs.Prelude.{Some, None}
 use Rattle.md_text.specs.Html.{Forest, Empty, Text, Void, Element, is_forest, any_attribute}
 use Rattle.md_text.specs.Html.{begins_with_text}
@@ -14,7 +14,7 @@ use Rattle.md_safe.specs.Tokenizer.{IsTokenized}
 use Rattle.md_safe.specs.Tokens.{tokens}
 use Rattle.md_safe.proofs.Tokenized.{read-tokenized}
 use Rattle.md_safe.specs.Contents.{Flow, is_contained, IsUnnested}
-use Rattle.md_safe.specs.Node.{Open, Entry, Marker, Formatting, Mode}
+use Rattle.md_safe.specs.Node.{Open, Entry, Mode}
 use Rattle.md_safe.specs.Formatting.{last_active}
 use Rattle.md_safe.specs.Built.{has_whole_texts, put, at, IsPlace, Builds, IsBuiltAsRead, AreOpen}
 use Rattle.md_safe.specs.Built.{has_none_active}
@@ -23,15 +23,11 @@ use Rattle.md_safe.proofs.Flow.{flow-done, kept-none}
 
 none-open : (node : Open) (others : List Open) (active : List Entry) →
     has_none_active active ≡ true → AreOpen (node ∷ others) active
-none-open node others [] h = tt
-none-open node others (Marker ∷ active) h = tt
-none-open node others (Formatting identity name attributes ∷ active) h = lie h
+none-open node others active h = grind arith
 
 none-linked : (active : List Entry) → has_none_active active ≡ true →
     last_active (codes "a") active ≡ None
-none-linked [] h = refl
-none-linked (Marker ∷ active) h = refl
-none-linked (Formatting identity name attributes ∷ active) h = lie h
+none-linked active h = grind arith
 
 -- the texts of a reading
 pub reading-texts : (forest : Forest) → is_forest forest ≡ true → has_whole_texts forest ≡ true
