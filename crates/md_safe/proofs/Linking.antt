@@ -107,11 +107,6 @@ linked-inside nested options loose content name around linked h = cases (is_tran
     kept : around.in_link ≡ true → (inside options loose name around).in_link ≡ true
     kept e = inside-link options loose name around ∙ or_right (named Link name) around.in_link e
 
--- the parts of a node without a link in a link
-parts : (a b c d : Bool) → (a && b || c && d) ≡ false →
-    (c ≡ true → d ≡ false) × (a ≡ true → b ≡ false)
-parts a b c d h = (λ e. grind (arith, h, e), λ e. grind (arith, h, e))
-
 pub unnested-parts : (name : Name) (in_link : Bool) (start end : Point) (children rest : Forest) →
     has_nested_link in_link (Node name start end children rest) ≡ false → ((in_link && prints_link
     name || not (named Image name) && has_nested_link (named Link name || in_link) children)

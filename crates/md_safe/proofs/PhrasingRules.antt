@@ -7,22 +7,21 @@ use Rattle.md_text.specs.Bytes.{is_one_of}
 use Rattle.md_text.specs.Html.{Attribute, Forest}
 use Rattle.md_safe.specs.Token.{TokenAttribute}
 use Rattle.md_safe.specs.Tokens.{seen_attributes}
-use Rattle.md_safe.specs.Node.{Nodes, Open, Entry, Formatting, Mode, Empty as NoNode, Entry, Parser}
+use Rattle.md_safe.specs.Node.{Nodes, Open, Entry, Formatting, Mode, Empty as NoNode, Entry}
 use Rattle.md_safe.specs.Elements.{special}
 use Rattle.md_safe.specs.Stack.{insert, popped, insert}
-use Rattle.md_safe.specs.Formatting.{push, last_active, adopt, end_formatting, end_other}
-use Rattle.md_safe.specs.InBody.{insert_formatting, reconstructed, start_in_body, end_in_body}
+use Rattle.md_safe.specs.Formatting.{push, last_active, adopt, end_formatting}
+use Rattle.md_safe.specs.InBody.{insert_formatting}
 use Rattle.md_safe.specs.Built.{put, at, is_body, AreCreated, AreOpen}
 use Rattle.md_safe.proofs.Lists.{Keeps, keeps-twice, room, keeps-room, keeps-created, not-active}
 use Rattle.md_safe.proofs.Lists.{keeps-open, later-created, open-under, keeps-none}
 use Rattle.md_safe.proofs.Steps.{here, past}
 use Rattle.md_safe.proofs.TreeSteps.{Position, parser_of, element_of, within, reconstructs}
 use Rattle.md_safe.proofs.PhrasingNames.{Done, Passed, IsOrdinary, IsFormatting, full, passes}
-use Rattle.md_safe.proofs.PhrasingNames.{is_free, Each, outside, IsOuter, IsVoid}
+use Rattle.md_safe.proofs.PhrasingNames.{is_free, Each, IsVoid}
 use Rattle.md_safe.proofs.PhrasingNames.{void-named, Here}
 use Rattle.std.proofs.lemmas.Bool.{or_left}
-use Rattle.md_base.proofs.Lies.{lie}
-use Rattle.md_safe.specs.Contents.{Content, Phrasing, Linked, Characters, spans_of}
+use Rattle.md_safe.specs.Contents.{Content, Phrasing, Linked, Characters}
 use Rattle.md_safe.specs.Contents.{elements_in, voids_in}
 
 -- an ordinary element
@@ -103,32 +102,6 @@ pub record Rule (content : Content) (name : List ℕ) (held : Content) : Type 0 
   pub frees : is_free held ≡ true → (is_free content ≡ true) × (bytes_eq name (codes "a") ≡ false)
   pub links : bytes_eq name (codes "a") ≡ true → is_free content ≡ true
   pub no_item : bytes_eq name (codes "li") ≡ false
-
-formatting : {content held : Content} {name : List ℕ} → IsOuter name →
-    is_one_of special name ≡ false →
-    ((attributes : List TokenAttribute) (p : Parser) →
-    start_in_body name attributes p ≡ reconstructed p (insert_formatting name attributes)) →
-    ((p : Parser) → end_in_body name p ≡ end_formatting name p) → is_inline held ≡ true →
-    (is_free held ≡ true → is_free content ≡ true) →
-    bytes_eq name (codes "a") ≡ false → bytes_eq name (codes "li") ≡ false → Rule content name held
-formatting names plain starts ends inline free no_link no_item = grind arith
-
-ordinary : {content held : Content} {name : List ℕ} → IsOuter name →
-    ((attributes : List TokenAttribute) (p : Parser) →
-    start_in_body name attributes p ≡ reconstructed p (insert name attributes)) →
-    ((p : Parser) → end_in_body name p ≡ end_other name p) → is_inline held ≡ true →
-    (is_free held ≡ true → is_free content ≡ true) →
-    bytes_eq name (codes "a") ≡ false → bytes_eq name (codes "li") ≡ false → Rule content name held
-ordinary names starts ends inline free no_link no_item = grind arith
-
-pub code-rule : (content : Content) → Rule content (codes "code") Characters
-code-rule content = formatting (outside refl) refl (λ t p. refl) (λ p. refl) refl (λ e. lie e) refl
-    refl
-
--- the elements that aren't links and hold this content
-spans : (content held : Content) → is_inline held ≡ true →
-    (is_free held ≡ true → is_free content ≡ true) → Each (Rule content) (spans_of held)
-spans content held i f = search (code-rule, formatting, ordinary, outside) depth 8 fits 4000
 
 pub rules : (content : Content) → is_inline content ≡ true →
     Each (Rule content) (elements_in false content)

@@ -18,8 +18,8 @@ use Rattle.md_safe.specs.Contents.{is_space, Content, Parts, Rows, Cells, voids_
 use Rattle.md_safe.specs.Contents.{is_contained, elements_in, Phrasing}
 use Rattle.md_safe.specs.Node.{Open, Entry, Mode, InTable, InTableBody, InRow, InTableText, Parser}
 use Rattle.md_safe.specs.Node.{with_character, Nodes, with_element, Empty as NoNode, Marker, InCell}
-use Rattle.md_safe.specs.InTable.{is_tabular, say_all, end_table_text, character_in_table, mode_for}
-use Rattle.md_safe.specs.Construction.{character, start, end, step, run, after_table_text}
+use Rattle.md_safe.specs.InTable.{is_tabular, say_all, end_table_text, mode_for}
+use Rattle.md_safe.specs.Construction.{start, end, step, run, after_table_text}
 use Rattle.md_safe.specs.Built.{with_characters, at, has_whole_texts, put, AreCreated, is_body}
 use Rattle.md_safe.proofs.Steps.{past, here}
 use Rattle.md_safe.proofs.TreeSteps.{after-one, is_character, Position, parser_of, with_children}
@@ -81,10 +81,6 @@ is_tables mode = elim mode [ InTable ↦ true | InTableBody ↦ true | InRow ↦
 tagged : (mode : Mode) → is_tables mode ≡ true → (p : Parser) (tag : Parser → Option Parser) →
     after_table_text (record p { mode = mode }) tag ≡ tag (record p { mode = mode })
 tagged mode is p tag = grind (arith, is)
-
-said : (mode : Mode) → is_tables mode ≡ true → (byte : ℕ) (p : Parser) →
-    character mode byte p ≡ character_in_table byte p
-said mode is byte p = grind (arith, is)
 
 pub settled : (mode : Mode) → is_tables mode ≡ true →
     (node : Open) (others : List Open) (active : List Entry)
