@@ -33,9 +33,7 @@ line_feeds-apart (b ∷ []) r h = by (b == 13) (begins_with_line_feed r) h
     by true true h = cc
     by true false h = refl
     by false feed h = refl
-line_feeds-apart (b ∷ c ∷ x) r h =
-    ap (one b (c == 10)) (line_feeds-apart (c ∷ x) r h)
-    ∙ one-append b (c == 10) (with_line_feeds (c ∷ x)) (with_line_feeds r)
+line_feeds-apart (b ∷ c ∷ x) r h = grind (arith, one-append, line_feeds-apart (c ∷ x) r h)
 
 -- of CR LF one line feed is the first text's
 pub line_feeds-split : (x r : List ℕ) → splits_newline x (10 ∷ r) ≡ true →
@@ -48,9 +46,7 @@ line_feeds-split (b ∷ []) r h = by (b == 13) h
         ≡ cond return (10 ∷ []) (b ∷ []) ++ with_line_feeds r
     by true h = refl
     by false h = cc
-line_feeds-split (b ∷ c ∷ x) r h =
-    ap (one b (c == 10)) (line_feeds-split (c ∷ x) r h)
-    ∙ one-append b (c == 10) (with_line_feeds (c ∷ x)) (with_line_feeds r)
+line_feeds-split (b ∷ c ∷ x) r h = grind (arith, one-append, line_feeds-split (c ∷ x) r h)
 
 pub alone : (text after : List ℕ) (emits : List Token) → EndsInDataState text emits →
     splits_newline text after ≡ false →

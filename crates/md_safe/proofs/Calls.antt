@@ -152,13 +152,14 @@ pub backreferences-read : {test : Attribute → Bool} {Q R : List ℕ → Type 0
     Tagged test Q R (codes "a") → Tagged test Q Q (codes "sup") →
     (identifier : List ℕ) (number count : ℕ) → R (backreferences options identifier number count)
 backreferences-read known inside around a sup identifier number zero = around.text [] refl
-backreferences-read {options = options} known inside around a sup identifier number (suc count) =
-    around.both (backreferences options identifier number count) ((cond (count == 0) [] (32 ∷ []))
-    ++ backreference options identifier number (suc count)) (backreferences-read known inside around
-    a sup identifier number count) (around.both (cond (count == 0) [] (32 ∷ []))
-    (backreference options identifier number (suc count)) (around.text
-    (cond (count == 0) [] (32 ∷ [])) (cond_both (count == 0) [] (32 ∷ []) Escaped (λ _. refl)
-    (λ _. refl))) (backreference-read known inside a sup identifier number (suc count)))
+backreferences-read known inside around a sup identifier number (suc count) =
+    grind (
+      arith,
+      cond_both,
+      backreference-read,
+      backreferences-read known
+          inside around a sup identifier number count,
+    )
 
 -- of what has a reading
 pub reads-text : (test : Attribute → Bool) → IsText (HasReadingWith test)

@@ -15,7 +15,7 @@ use Rattle.md_safe.specs.Contents.{is_contained}
 use Rattle.md_safe.specs.Node.{Nodes, Entry, with_element, Empty as NoNode}
 use Rattle.md_safe.specs.Elements.{headings}
 use Rattle.md_safe.specs.Stack.{is_among}
-use Rattle.md_safe.specs.InBody.{has_item, insert_void}
+use Rattle.md_safe.specs.InBody.{has_item}
 use Rattle.md_safe.specs.InTable.{mode_for}
 use Rattle.md_safe.specs.Construction.{step}
 use Rattle.md_safe.specs.Built.{has_whole_texts, with_characters, put, has_none_active}
@@ -27,7 +27,7 @@ use Rattle.md_safe.proofs.PhrasingRules.{is_inline, here-within}
 use Rattle.md_safe.proofs.Phrasing.{span-passes, phrasing-done, here-after, none-done, text-done}
 use Rattle.md_safe.proofs.Phrasing.{void-done, element-done, text-escaped, element-parts}
 use Rattle.md_safe.proofs.Tables.{table-passes}
-use Rattle.md_safe.proofs.FlowRules.{IsBlock, HasNoParagraph, block-passes, pre-passes, unclosed}
+use Rattle.md_safe.proofs.FlowRules.{IsBlock, HasNoParagraph, block-passes, pre-passes}
 use Rattle.md_safe.proofs.FlowRules.{is_items, Holder, EndsItems, is_flowing, Ruled, flowing-rules}
 
 -- ---- all flow content
@@ -111,10 +111,7 @@ flow-void-step : {x : Position} {name : List ℕ} (attributes : List TokenAttrib
     (parser_of x) (StartTag name attributes true) ≡ Some (parser_of (with_children x
     (with_element x.node.children name attributes NoNode) x.active (suc x.created)))
 flow-void-step {x = x} attributes (inr v) here none = void-step x attributes here.body here.opened v
-flow-void-step {x = x} attributes (inl e) here none = rw e
-    (start-in-body x here.body (codes "hr") attributes true refl ∙ ap (λ stack. Some (insert_void
-    (codes "hr") attributes (record (parser_of x) { stack = stack })))
-    (unclosed (x.node ∷ x.others) none))
+flow-void-step attributes (inl e) here none = grind (arith, start-in-body)
 
 pub flow-done : (f : Forest) (content : Content) → is_flowing content ≡ true →
     has_whole_texts f ≡ true → is_contained false content f ≡ true → (x : Position) →

@@ -1,5 +1,5 @@
 -- Blocks with tags or raw text; lines of code and HTML print escaped texts.
-use Rattle.std.proofs.Common.{◌≡◌, ℕ, ◌≤◌, Bool, true, false, cond, List, ◌||◌, inl, inr, arith}
+use Rattle.std.proofs.Common.{◌≡◌, ℕ, ◌≤◌, Bool, true, false, cond, List, ◌||◌, arith}
 use Rattle.std.specs.List.{list_any}
 use Rattle.std.proofs.lemmas.Bool.{or_cases}
 use Rattle.md_base.proofs.Lies.{lie}
@@ -105,12 +105,4 @@ line-escaped s t _ is fit inner = lie is
 pub leaf-escaped : (s : Setting) (t : At) (name : Name) → t.around.is_escaping ≡ true →
     is_leaf name ≡ true → IsFitAt s t name → (inner : List Piece) →
     Prints s Escaped (prints s.context t name inner)
-leaf-escaped s t name e is fit inner = elim (or_cases (is_line name) (is_html name) is) [
-  | inl is ↦ line-escaped s t name is fit inner
-  | inr is ↦ by name is
-]
-  where
-    by : (name : Name) → is_html name ≡ true → Prints s Escaped (prints s.context t name inner)
-    by HtmlFlowData is = html-escaped s t e
-    by HtmlTextData is = html-escaped s t e
-    by _ is = lie is
+leaf-escaped s t name e is fit inner = grind (arith, or_cases, line-escaped, html-escaped)

@@ -1,5 +1,5 @@
 -- A forest, node by node: to the data state, before whatever follows.
-use Rattle.std.proofs.Common.{◌≡◌, ℕ, true, false, not, List, [], ◌∷◌, ◌++◌, refl, sym, ap, arith}
+use Rattle.std.proofs.Common.{◌≡◌, ℕ, true, false, not, List, [], ◌∷◌, ◌++◌, refl, sym, arith}
 use Rattle.std.proofs.Common.{◌∙◌, subst, append-nil, append_assoc}
 use Rattle.std.proofs.lemmas.Bool.{and_parts}
 use Rattle.md_text.specs.Html.{Attribute, Forest, Empty, Text, Void, Element, is_forest}
@@ -30,10 +30,7 @@ good-line_feeds name r g = grind (arith, and_parts, line_feeds-name, good-no_ret
 attributes-append : (x : List Attribute) (r left : List ℕ) →
     attributes_before x r ++ left ≡ attributes_before x (r ++ left)
 attributes-append [] r left = refl
-attributes-append (a ∷ x) r left =
-    ap (λ y. 32 ∷ y) (append_assoc a.name (61 ∷ 34 ∷ (a.value ++ (34 ∷ attributes_before x r))) left
-    ∙ ap (λ y. a.name ++ (61 ∷ 34 ∷ y)) (append_assoc a.value (34 ∷ attributes_before x r) left
-    ∙ ap (λ y. a.value ++ (34 ∷ y)) (attributes-append x r left)))
+attributes-append (a ∷ x) r left = grind (arith, append_assoc, attributes-append x r left)
 
 -- a tag's name and its attributes, and what follows them
 tag-lined : (name : List ℕ) (x : List Attribute) (r left : List ℕ) →

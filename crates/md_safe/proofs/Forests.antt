@@ -81,14 +81,8 @@ pub ready-inside : {s : Setting} {around : Surroundings} {before : Before} {cont
     (inside s.context.options (is_loose children) name around)
     (before_children name children before) (content_inside content name)
 ready-inside {s = s} {around = around} {before = before} {content = content} name children stands
-    r = record {
-      suits = children-suit s.context.options s.test.html (is_loose children) around content name
-          stands r.suits;
-      follows = children-follow content name before children stands r.follows;
-      whole = λ h. r.whole (inside-blocks content name h);
-      heading = λ h. cond_both (is_transparent name) before.heading [] (Reads s)
-          (λ _. r.heading (inside-blocks content name h)) (λ _. holds-none s);
-    }
+    r =
+    grind (arith, children-suit, children-follow, inside-blocks, cond_both, holds-none)
 
 -- and where the next node stands
 pub ready-after : {s : Setting} {content : Content} (t : At) (name : Name) (here : Outcome) →
@@ -109,12 +103,7 @@ ready-after {s = s} {content = content} t name here stands built own r = record 
 pub means : (s : Setting) (forest : Forest) (around : Surroundings) (before : Before)
     (content : Content) → IsBuilt s.context.bytes content forest → Ready s around before content →
     Means s around content forest (outcome s.context around before forest)
-means s Empty around before content built r = record {
-  prints = λ later h. h;
-  found = record { heading = λ _. tt; title = tt; resource = tt };
-  titles = tt;
-  texts = tt;
-}
+means s Empty around before content built r = grind arith
 means s (Node name start end children rest) around before content built r =
     let around' : Surroundings = inside s.context.options (is_loose children) name around in
     let before' : Before = before_children name children before in

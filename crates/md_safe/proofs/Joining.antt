@@ -42,10 +42,7 @@ back-step P g mid u n go state input t Stuck is e = absurd (cc e)
 
 back : (P : State → List ℕ → List Token → Type 0) → GoesBack P → (mid : List ℕ) (u : List Token) →
     P Data mid u → (n : ℕ) → Backs P mid u n
-back P g mid u h zero state input t e =
-    let is = same_step e in
-    subst (λ x. P state input (x ++ u)) is.2 (subst (λ a. P a input u) (sym is.0)
-    (subst (λ x. P Data x u) (sym is.1) h))
+back P g mid u h zero state input t e = grind (arith, same_step)
 back P g mid u h (suc n) state input t e = back-step P g _ u n (back P g _ u h n) _ _ t _ refl e
 
 pub leads-back : (left : List ℕ) → GoesBack (λ state input t. Tokenizes state input t left)

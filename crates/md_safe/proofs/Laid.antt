@@ -62,13 +62,7 @@ adds-forced {ending = ending} h =
 
 pub adds-needed : {W : List ℕ → Type 0} {ending : List ℕ} → IsBeside W → W ending →
     Adds ending W (Needed ∷ [])
-adds-needed {W} {ending} beside h = record {
-  to = λ text. cond_both _ _ _ (Grows W text) (λ _. nothing_added W text beside.none) (λ _. record {
-    added = ending;
-    grown = refl;
-    it_holds = h;
-  });
-}
+adds-needed beside h = grind (arith, cond_both, nothing_added)
 
 -- pieces, where a test holds
 pub adds-when : {W : List ℕ → Type 0} {ending : List ℕ} {pieces : List Piece} → IsBeside W →

@@ -1,6 +1,6 @@
 -- What stands in a link, where links may stand in links and where not; and none does where a
 -- document has no link in a link.
-use Rattle.std.proofs.Common.{◌≡◌, ◌⊎◌, inl, inr, Bool, true, false, not, ◌&&◌, ◌||◌, cond, refl}
+use Rattle.std.proofs.Common.{◌≡◌, ◌⊎◌, inl, Bool, true, false, not, ◌&&◌, ◌||◌, cond, refl}
 use Rattle.std.proofs.Common.{sym, ◌∙◌, arith}
 use Rattle.std.proofs.lemmas.Bool.{or_parts, or_left, or_right}
 use Rattle.md_base.proofs.Lies.{lie}
@@ -83,29 +83,15 @@ never-linked _ = refl
 linked-place : (nested : Bool) (content : Content) (name : Name) →
     is_linked (place_in nested content name) ≡ true →
     (is_linked content ≡ true) ⊎ ((named Link name ≡ true) × (nested ≡ false))
-linked-place nested content Link h = cases (is_linked content) (λ e. inl e)
-    (λ e. inr (refl, by nested (rw e at h)))
-  where
-    by : (nested : Bool) → is_linked (in_link nested) ≡ true → nested ≡ false
-    by nested h = grind (arith, h)
+linked-place nested content Link h = grind arith
 linked-place nested content name h = cases (is_linked content) (λ e. inl e)
     (λ e. lie (sym (never-linked name) ∙ (rw e at h)))
 
 pub linked-inside : (nested : Bool) (options : CompileOptions) (loose : Bool) (content : Content)
     (name : Name) (around : Surroundings) → IsLinked nested content around →
     IsLinked nested (inner_place nested content name) (inside options loose name around)
-linked-inside nested options loose content name around linked h = cases (is_transparent name) (λ e.
-    let l = linked (rw e at h) in (l.0, kept l.1)) (λ e. elim (linked-place nested content name (rw
-    e at h)) [
-      | inl e ↦ ((linked e).0, kept (linked e).1)
-      | inr e ↦ (
-        e.1,
-        inside-link options loose name around ∙ or_left (named Link name) around.in_link e.0,
-      )
-    ])
-  where
-    kept : around.in_link ≡ true → (inside options loose name around).in_link ≡ true
-    kept e = inside-link options loose name around ∙ or_right (named Link name) around.in_link e
+linked-inside nested options loose content name around linked h =
+    grind (arith, linked-place, inside-link, or_left, or_right)
 
 pub unnested-parts : (name : Name) (in_link : Bool) (start end : Point) (children rest : Forest) →
     has_nested_link in_link (Node name start end children rest) ≡ false → ((in_link && prints_link

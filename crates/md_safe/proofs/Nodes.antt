@@ -98,13 +98,7 @@ meta-node s t name is inner rest b = grind arith
 -- the mark of a task that is done
 checked : (s : Setting) (in_image : Bool) {rest : List Piece} → Prints s IsNil rest →
     Prints s (IsDone in_image) (when (not in_image) (said (codes "checked=\"\" ")) ++ rest)
-checked s in_image b =
-    adds-append {f = IsDone in_image} {g = IsNil} (λ x y f g. rw (g, append-nil) f) (by in_image) b
-  where
-    by : (in_image : Bool) → Prints s
-        (IsDone in_image) (when (not in_image) (said (codes "checked=\"\" ")))
-    by true = adds-nothing (inl refl)
-    by false = adds-text (inr (refl, refl))
+checked s in_image b = grind (arith, adds-append, append-nil, adds-nothing, adds-text)
 
 done-node : (s : Setting) (t : At) (name : Name) → may_stand Done name ≡ true →
     (inner rest : List Piece) → Prints s IsNil rest → Prints s

@@ -1,13 +1,13 @@
 -- Ids by number: which number each has is read back of it. The numbers of calls and their
 -- occurrences determine them, and so do their ids.
-use Rattle.std.proofs.Common.{◌≡◌, ℕ, ◌<◌, ◌^◌, ◌==◌, ◌/◌, ◌%◌, zero, suc, true, false, not}
-use Rattle.std.proofs.Common.{List, [], ◌∷◌, ◌++◌, refl, sym, ap, ◌∙◌, arith, append_assoc}
+use Rattle.std.proofs.Common.{◌≡◌, ℕ, ◌<◌, ◌^◌, ◌==◌, ◌/◌, ◌%◌, zero, suc, true, false}
+use Rattle.std.proofs.Common.{List, [], ◌∷◌, ◌++◌, refl, sym, ap, arith, append_assoc}
 use Rattle.std.proofs.Common.{codes, ◌+◌, ◌≤◌, Bool, ◌||◌, length, append-nil, bytes_eq}
 use Rattle.std.specs.Prelude.{Option, Some, None, filter}
 use Rattle.std.specs.Option.{option_map_or}
 use Rattle.std.specs.List.{list_all}
 use Rattle.std.specs.Fmt.{decimal, digits, digits_onto, digit_glyph}
-use Rattle.std.proofs.lemmas.Bool.{and_parts, and_from, cond_both, cond_both, or_right}
+use Rattle.std.proofs.lemmas.Bool.{and_parts, cond_both, cond_both, or_right}
 use Rattle.std.proofs.lemmas.Fmt.{decimal_injective}
 use Rattle.std.proofs.lemmas.List.{append_cancel_left, length-append}
 use Rattle.std.proofs.lemmas.List.Folds.{list_all-append}
@@ -101,16 +101,8 @@ pub call-back : (options : CompileOptions) → options.gfm_footnote_number_ids �
     (number occurrence : ℕ) → read_back (call_id options identifier number occurrence)
     ≡ back_prefix options ++ call_tail number occurrence
 call-back options on identifier number occurrence =
-    grind (
-      arith,
-      append_assoc,
-      prefix-back,
-      plain-back,
-      list_all-append,
-      and_from,
-      digits-no_and,
-      decimal-digits,
-    )
+    let whole = prefix-back options (call_tail number occurrence) in
+    grind (arith, append_assoc, whole, plain-back, list_all-append, digits-no_and, decimal-digits)
 
 -- equal ids have equal numbers
 pub same-note : (options : CompileOptions) (n m : ℕ) → n < 2 ^ 64 → m < 2 ^ 64 →
@@ -196,9 +188,7 @@ filter-fewer p (x ∷ xs) = grind (arith, filter-fewer p xs)
 
 pub distinct-fewer : (calls : List (List ℕ)) → length (distinct calls) ≤ length calls
 distinct-fewer [] = omega arith
-distinct-fewer (call ∷ calls) =
-    let fewer = filter-fewer (λ other. not (bytes_eq other call)) (distinct calls) in
-    omega (fewer, distinct-fewer calls, arith)
+distinct-fewer (call ∷ calls) = grind (arith, filter-fewer, distinct-fewer calls)
 
 pub number-bound : (all : List (List ℕ)) (x : List ℕ) →
     place_among (distinct all) x ≤ suc (length all)
@@ -222,10 +212,7 @@ pub ids-append : (options : CompileOptions) (all before xs ys : List (List ℕ))
     ≡ ids_after options all before xs ++ ids_after options all (before ++ xs) ys
 ids-append options all before [] ys = ap (λ b. ids_after options all b ys) (sym (append-nil before))
 ids-append options all before (x ∷ xs) ys =
-    ap (λ ids. id_after options all before x ∷ ids)
-    (ids-append options all (before ++ (x ∷ [])) xs ys
-    ∙ ap (λ b. ids_after options all (before ++ (x ∷ [])) xs ++ ids_after options all b ys)
-    (append_assoc before (x ∷ []) xs))
+    grind (arith, append_assoc, ids-append options all (before ++ (x ∷ [])) xs ys)
 
 -- a later call has another id
 pub ids-differ : (options : CompileOptions) → options.gfm_footnote_number_ids ≡ true →

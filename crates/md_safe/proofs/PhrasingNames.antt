@@ -1,7 +1,7 @@
 -- Where phrasing content may be inserted, what builds an element there, and which elements there
 -- are.
 use Rattle.std.proofs.Common.{◌≡◌, ℕ, ◌≤◌, suc, Bool, true, false, List, [], ◌∷◌, ◌++◌}
-use Rattle.std.proofs.Common.{◌∙◌, subst, codes, arith, not, ◌&&◌}
+use Rattle.std.proofs.Common.{◌∙◌, codes, arith, not, ◌&&◌}
 use Rattle.std.specs.Prelude.{Some, None, find, option_map, bytes_eq}
 use Rattle.std.specs.Option.{option_map_or}
 use Rattle.std.proofs.lemmas.Slice.Eq.{bytes_eq-Decides}
@@ -73,16 +73,8 @@ pub found : (P : List ℕ → Content → Type 0) (those : List (List ℕ × Con
     ≡ true →
     (held : Content) × P name held × (is_contained false held inner ≡ true)
 found P [] name inner each h = lie h
-found P (element ∷ others) name inner each h = cond_both (bytes_eq element.0 name) (Some element)
-    (find (λ element. bytes_eq element.0 name) others) (λ o. option_map_or (λ held. is_contained
-    false held inner) (option_map (λ element. element.1) o) false ≡ true → (held : Content) × P name
-    held × (is_contained false held inner ≡ true)) (λ e h. (
-      element.1,
-      subst (λ name. P name
-          element.1) ((bytes_eq-Decides element.0 name).0 e) each.0,
-      h,
-    )) (λ _ h. found P others name inner
-    each.1 h) h
+found P (element ∷ others) name inner each h =
+    grind (arith, cond_both, bytes_eq-Decides, found P others name inner)
 
 -- ---- names
 

@@ -1,6 +1,6 @@
 -- Ordinary and formatting elements are built as they are read, by what their children do; what is
 -- known of each element of phrasing content, and where its children are inserted.
-use Rattle.std.proofs.Common.{◌≡◌, inl, inr, ℕ, ◌==◌, true, false, List, ◌∷◌, refl, sym, ◌∙◌, subst}
+use Rattle.std.proofs.Common.{◌≡◌, inl, inr, ℕ, ◌==◌, true, false, List, ◌∷◌, refl, ◌∙◌}
 use Rattle.std.proofs.Common.{codes, eq-eqb, ◌⊎◌, suc, Bool, arith}
 use Rattle.std.specs.Prelude.{Some, None, bytes_eq, bytes_eq}
 use Rattle.md_text.specs.Bytes.{is_one_of}
@@ -63,13 +63,8 @@ formatting-ends mode node others active left more identity name attributes child
       k,
     )
 formatting-ends mode node others active left more identity name attributes children plain self made
-    (inr k) = (
-      k.0,
-      subst (λ left. end_formatting name (at mode (element_of identity name attributes children
-          ∷ node ∷ others) left more) ≡ Some (at mode (popped (element_of identity name attributes
-          children ∷ node ∷ others)) k.0 more)) (sym k.1) (adopted _ _ _ _ _ _ _ _ _ self plain),
-      k.2,
-    )
+    (inr k) =
+    grind (arith, adopted)
 
 -- a formatting element, with what it holds
 pub formatting-passes : {x : Position} {name : List ℕ} {attributes : List Attribute}
@@ -137,9 +132,4 @@ here-formatting {x = x} {name = name} {those = those} rule here =
 -- and of an ordinary one, or of a block
 pub here-within : {x : Position} {name : List ℕ} {those : List TokenAttribute} {free free' : Bool} →
     (free' ≡ true → free ≡ true) → Here x free → Here (within x name those x.active) free'
-here-within {x = x} {name = name} {those = those} frees here = record {
-  body = here.body;
-  opened = open-under (within x name those x.active).node (x.node ∷ x.others) x.active here.opened;
-  made = later-created x.created (suc x.created) x.active (omega arith) here.made;
-  no_link = λ e. here.no_link (frees e);
-}
+here-within frees here = grind (arith, open-under, later-created)

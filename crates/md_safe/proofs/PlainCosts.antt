@@ -11,7 +11,6 @@ use Rattle.md_base.specs.Tree.{Forest, Empty, Node}
 use Rattle.md_base.specs.NameTests.{is_transparent, is_call}
 use Rattle.md_meaning.specs.declared.surroundings.Surroundings.{Surroundings}
 use Rattle.md_meaning.specs.Meaning.At.{Before, At}
-use Rattle.md_meaning.specs.Meaning.Layout.{layout}
 use Rattle.md_meaning.specs.Meaning.Nodes.{found_at, before_next, outcome}
 use Rattle.md_content.specs.Underlined.{is_underline, waits_past}
 use Rattle.md_content.specs.Built.{Content, Blocks, is_part, is_source, may_stand, content_of}
@@ -152,9 +151,7 @@ around-others {d} {w} {p} {name} {m} waits k plain blocks h =
       notes = 0;
       prints = plain-prints k plain (inside-means (at_of d p name) Blocks name k.solid k.stands
           k.fit k.built counted);
-      heading = rw (no_heading (at_of d p name) name (layout d.context.ending (inner_of d p
-          name).pieces) k.solid plain.setext) (keeps_wait w m name plain.setext waits
-          p.before.heading h);
+      heading = grind (arith, no_heading, keeps_wait);
       texts = no-footnote d w 0 p name plain.footnote (rw (no_footnotes d (content_inside Blocks
           name) p.children (inner_around d p name) (inner_before p name) blocks k.built) tt);
       few = omega arith;

@@ -54,11 +54,9 @@ pub first-is_ending : (bytes : List ℕ) (content : Content) (forest : Forest) �
     IsEnding bytes (first_ending forest)
 first-is_ending bytes content Empty built = refl
 first-is_ending bytes content (Node name start end children rest) built =
-    let own : Option Position = cond (is_line_ending name) (Some (position start end)) None in
-    first_of_two bytes (first_ending children) (or_else own (first_ending rest))
-    (first-is_ending bytes (content_inside content name) children built.2)
-    (first_of_two bytes own (first_ending rest) (own-ending bytes name start end children built.1)
-    (first-is_ending bytes (content_after_node content name children) rest built.3))
+    let inner = first-is_ending bytes (content_inside content name) children built.2 in
+    let later = first-is_ending bytes (content_after_node content name children) rest built.3 in
+    grind (arith, first_of_two, own-ending, inner, later)
 
 default-white : (ending : Ending) → IsWhite (ending_text ending)
 default-white CarriageReturnLineFeed = (refl, refl)

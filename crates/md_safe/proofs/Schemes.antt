@@ -51,9 +51,7 @@ leading-none (b ∷ rest) h =
 
 trailing-none : (x : List ℕ) → HasNone x → HasNone (without_trailing x)
 trailing-none [] h = refl
-trailing-none (b ∷ rest) h = cond_both (list_all is_control_or_space (b ∷ rest)) [] (b ∷
-    without_trailing rest) HasNone (λ _. refl) (λ _. none-keep b rest (without_trailing rest)
-    (trailing-none rest) h)
+trailing-none (b ∷ rest) h = grind (arith, cond_both, none-keep, trailing-none rest)
 
 newlines-none : (x : List ℕ) → HasNone x → HasNone (without_newlines x)
 newlines-none [] h = refl
@@ -152,16 +150,8 @@ in_scheme_start-word q r h = grind (arith, and_parts, in_scheme-word)
 scheme_of-word : (q r : List ℕ) → is_word q ≡ true → scheme_of (with_line_feeds (q ++ (58 ∷ r)))
     ≡ Some (lowered q)
 scheme_of-word q r h =
-    grind (
-      arith,
-      and_parts,
-      line_feeds-name,
-      letters-no_return,
-      leading-word,
-      trailing-word,
-      newlines-word,
-      in_scheme_start-word,
-    )
+    let start = in_scheme_start-word q (without_newlines (without_trailing (with_line_feeds r))) in
+    grind (arith, line_feeds-name, letters-no_return, leading-word, trailing-word, newlines-word)
 
 lowered-word : (q : List ℕ) → is_word (lowered q) ≡ true → is_word q ≡ true
 lowered-word [] h = h

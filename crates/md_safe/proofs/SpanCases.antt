@@ -1,7 +1,7 @@
 -- What stands in a line of text: strings, spans, links and what prints nothing print phrasing
 -- content.
 use Rattle.std.proofs.Common.{Bool, List, ap, codes, false, refl, suc, sym, true, ℕ, ◌&&◌, ◌++◌}
-use Rattle.std.proofs.Common.{◌||◌, ◌∙◌, ◌∷◌, ◌≡◌, subst, [], not, cond}
+use Rattle.std.proofs.Common.{◌||◌, ◌∙◌, ◌∷◌, ◌≡◌, subst, [], not, cond, arith}
 use Rattle.std.proofs.lemmas.Bool.{and_parts, cond_both, not-true, or_parts}
 use Rattle.std.specs.Prelude.{None}
 use Rattle.md_base.specs.declared.event.Name.TheVariants as name_variants
@@ -17,7 +17,7 @@ use Rattle.md_meaning.specs.Meaning.At.{At, Target, identifier_of, text_in}
 use Rattle.md_meaning.specs.Meaning.Footnotes.{call_id, count_of, distinct, place_among}
 use Rattle.md_meaning.specs.Meaning.Layout.{Piece, Text, layout, said, when}
 use Rattle.md_meaning.specs.Meaning.Means.{prints}
-use Rattle.md_meaning.specs.Meaning.Media.{anchor, autolink, leads_to, literal}
+use Rattle.md_meaning.specs.Meaning.Media.{anchor, autolink, literal}
 use Rattle.md_meaning.specs.Meaning.Spans.{task_start}
 use Rattle.md_text.proofs.EncodeLaws.{is_escaped-encoded}
 use Rattle.md_text.specs.Encode.{encoded}
@@ -31,7 +31,6 @@ use Rattle.md_safe.proofs.Elements.{adds-task, class-passes}
 use Rattle.md_safe.proofs.FlowNodes.{is_leaf, leaf-escaped}
 use Rattle.md_safe.proofs.Laid.{Adds, adds-alone, adds-text, adds-weaker}
 use Rattle.md_safe.proofs.Linking.{in_link, is_linked, is_spans, place-other, place_in}
-use Rattle.md_safe.proofs.Linking.{without_links}
 use Rattle.md_safe.proofs.Media.{IsEscapedTitle, adds-image, adds-link}
 use Rattle.md_safe.proofs.SpanNodes.{is_shown, is_single}
 use Rattle.md_safe.proofs.SpanSorts.{by_pair, code-prints, code-text, code_opening, is_code}
@@ -143,12 +142,8 @@ break m t {content} f out =
 
 single-node : (m : Claims) (t : At) (content : Content) (name : Name) → is_single name ≡ true →
     SpanPrints m t content name
-single-node m t content Link is inner k a = rw (k.outside, a.free refl) (link m (leads_to
-    m.s.context t) (layout m.s.context.ending inner) (target-title m.s t k.resource) (adds-alone
-    (a.label refl)))
-single-node m t content Image is inner k a = rw k.outside (adds-image m.s.test (m.void content
-    (codes "img") a.spans.img) (leads_to m.s.context t) (layout m.s.context.ending inner)
-    (target-title m.s t k.resource) (adds-alone k.within))
+single-node m t content Link is inner k a = grind (arith, link, target-title, adds-alone)
+single-node m t content Image is inner k a = grind (arith, adds-image, target-title, adds-alone)
 single-node m t content HardBreakEscape is inner k a = break m t a.spans k.outside
 single-node m t content HardBreakTrailing is inner k a = break m t a.spans k.outside
 single-node m t content GfmTaskListItemCheck is inner k a = subst (λ b. Prints m content (cond b
@@ -181,14 +176,7 @@ spans-place _ h is = cc
 spans-in : (nested : Bool) (content : Content) (name : Name) → is_spans content ≡ true →
     is_hidden name ≡ false → is_inline name ≡ true → named Link name ≡ false →
     place_in nested content name ≡ content
-spans-in nested content name spans shown is other = place-other _ _ _ other ∙ (ap
-    (λ c. cond (is_linked content) (without_links c) c) (spans-place _ shown is) ∙ by content spans)
-  where
-    by : (content : Content) → is_spans content ≡ true → cond (is_linked content) Linked
-        Phrasing ≡ content
-    by Phrasing h = refl
-    by Linked h = refl
-    by _ h = lie h
+spans-in nested content name spans shown is other = grind (arith, place-other, spans-place)
 
 link-in : (nested : Bool) (content : Content) (name : Name) → content ≡ Phrasing →
     named Link name ≡ true →

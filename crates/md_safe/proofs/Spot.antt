@@ -1,7 +1,7 @@
 -- A node in its context: the facts about the document, and the node's meaning. The lemmas on nodes
 -- use this record.
 use Rattle.std.proofs.Common.{◌≡◌, ℕ, Bool, true, List, [], ◌∷◌, ◌++◌, codes, ◌&&◌, arith}
-use Rattle.std.specs.Prelude.{Option, Some, find, bytes_eq}
+use Rattle.std.specs.Prelude.{Option, find, bytes_eq}
 use Rattle.std.specs.Option.{option_map_or}
 use Rattle.md_base.specs.declared.event.Name.{Name}
 use Rattle.md_text.specs.Html.{Attribute}
@@ -96,10 +96,8 @@ defined-title : (definitions : List Defined) (identifier : List ℕ) → AreTitl
     (find (λ defined. bytes_eq defined.identifier identifier) definitions)
     (target_in nothing_found)).title
 defined-title [] identifier h = tt
-defined-title (defined ∷ others) identifier h = cond_both (bytes_eq defined.identifier identifier)
-    (Some defined) (find (λ one. bytes_eq one.identifier identifier) others) (λ found.
-    IsEscapedTitle (option_map_or (λ (defined : Defined). defined.target) found (target_in
-    nothing_found)).title) (λ _. h.0) (λ _. defined-title others identifier h.1)
+defined-title (defined ∷ others) identifier h =
+    grind (arith, cond_both, defined-title others identifier h.1)
 
 pub target-title : (s : Setting) (t : At) → IsGoodTarget t.found.resource →
     IsEscapedTitle (leads_to s.context t).title

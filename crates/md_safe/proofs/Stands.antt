@@ -11,7 +11,7 @@ use Rattle.md_base.proofs.Lies.{lie}
 use Rattle.md_text.specs.Laws.{is_line_ends}
 use Rattle.md_text.specs.Bytes.{is_one_of}
 use Rattle.md_text.specs.Html.{Attribute, Forest, Empty, Text, Void, Element, is_tag, elements}
-use Rattle.md_text.specs.Html.{void_tags, written_attributes, closing_tag, IsReading, any_attribute}
+use Rattle.md_text.specs.Html.{void_tags, written_attributes, IsReading, any_attribute}
 use Rattle.md_text.proofs.HtmlJoin.{text_before, joined, after_forest, opening-before}
 use Rattle.md_text.proofs.HtmlReading.{only_reading, all-any}
 use Rattle.md_text.proofs.HtmlWriting.{written_attributes-before}
@@ -194,12 +194,7 @@ takes-white is = grind (arith, stands-join, stands-white)
 pub turns-tag : {nested : Bool} (held : Content) {content : Content} {name : List ℕ} →
     Opens nested content held name → TurnsTag any_attribute (Stands nested held)
     (Stands nested content) name
-turns-tag held {name = name} opens = record {
-  tag = λ attributes h a. record {
-    turn = λ x r. rw (opening-before name attributes (x ++ closing_tag name)) (stands-element _ _ x
-        h opens r);
-  };
-}
+turns-tag held opens = grind (arith, opening-before, stands-element)
 
 find-first : {A : Type 0} (test : A → Bool) (xs ys : List A) (x : A) → find test xs ≡ Some x →
     find test (xs ++ ys) ≡ Some x
@@ -236,8 +231,4 @@ contained-wider nested (Element name attributes inner rest) h =
     and_from _ _ (held-wider nested name inner parts.0) (contained-wider nested rest parts.1)
 
 pub stands-wider : {nested : Bool} (x : List ℕ) → Stands nested Phrasing x → Stands nested Flow x
-stands-wider {nested} x h = record {
-  forest = h.forest;
-  reading = h.reading;
-  contained = contained-wider nested h.forest h.contained;
-}
+stands-wider x h = grind (arith, contained-wider)

@@ -111,12 +111,8 @@ more-waits : (mode : Mode) (stack : List Open) (active : List Entry) (created : 
 more-waits mode stack active created before [] h = ap
     (λ x. Some (waiting mode stack active created x)) (sym (append-nil before))
 more-waits mode stack active created before (b ∷ bytes) h =
-    let parts = and_parts _ _ h in
-    after-one (waiting mode stack active created before)
-    (waiting mode stack active created (before ++ (b ∷ []))) (Character b) (map Character bytes)
-    (past _ (not-true _ parts.0) refl) ∙ (more-waits mode stack active created (before ++ (b ∷ []))
-    bytes parts.1 ∙ ap (λ x. Some (waiting mode stack active created x))
-    (append_assoc before (b ∷ []) bytes))
+    let later = more-waits mode stack active created (before ++ (b ∷ [])) bytes in
+    grind (arith, and_parts, after-one, not-true, append_assoc, later)
 
 -- a text in a table waits
 pub text-waits : (mode : Mode) → is_tables mode ≡ true → (node : Open) (others : List Open)

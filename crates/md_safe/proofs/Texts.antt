@@ -76,13 +76,9 @@ decimal-escaped n = digits-escaped (decimal n) (decimal-digits n)
 -- the pipes' backslashes go
 pipes : (text front : List ℕ) → Escaped (front ++ text) → Escaped (front ++ without_escapes text)
 pipes [] front h = h
-pipes (b ∷ text) front h = cond_both (b == 92 && is_at 124 text 0) [] (b ∷ [])
-    (λ own. Escaped (front ++ (own ++ without_escapes text))) (λ escapes.
-    let is : b ≡ 92 = eqb-true _ _ (and_parts _ _ escapes).0 in
-    pipes text front (escaped-without 92 front text refl
-    (subst (λ b. Escaped (front ++ (b ∷ text))) is h))) (λ _. subst Escaped
-    (append_assoc front (b ∷ []) (without_escapes text)) (pipes text (front ++ (b ∷ []))
-    (subst Escaped (sym (append_assoc front (b ∷ []) text)) h)))
+pipes (b ∷ text) front h =
+    let more = pipes text (front ++ (b ∷ [])) in
+    grind (arith, cond_both, eqb-true, escaped-without, append_assoc, pipes text front, more)
 
 pub pipes-escaped : (text : List ℕ) → Escaped text → Escaped (without_escapes text)
 pipes-escaped text h = pipes text [] h
@@ -95,9 +91,7 @@ record Trim (b : ℕ) (text : List ℕ) : Type 0 where
 
 trim_last : (b : ℕ) (text : List ℕ) → is_at 32 (b ∷ text) (length text) ≡ true → Trim b text
 trim_last b [] h = record { front = []; whole = ap (λ b. b ∷ []) (eqb-true b 32 h); cut = refl }
-trim_last b (c ∷ text) h =
-    let r = trim_last c text h in
-    record { front = b ∷ r.front; whole = ap (λ x. b ∷ x) r.whole; cut = ap (λ x. b ∷ x) r.cut }
+trim_last b (c ∷ text) h = grind (arith, trim_last c text h)
 
 cut_last : (c : ℕ) (text : List ℕ) → is_at 32 (c ∷ text) (length text) ≡ true → Escaped (c ∷ text) →
     Escaped (take (length text) (c ∷ text))

@@ -18,7 +18,7 @@ use Rattle.md_text.proofs.HtmlReading.{one_reading}
 use Rattle.md_meaning.proofs.Identifiers.{itself}
 use Rattle.std.proofs.lemmas.List.{length-append}
 use Rattle.md_base.specs.Is.{is as named}
-use Rattle.md_base.specs.Tree.{Forest, Empty, Node, flatten, exiting}
+use Rattle.md_base.specs.Tree.{Forest, Empty, Node, flatten}
 use Rattle.md_pattern.specs.Looseness.{is_loose}
 use Rattle.md_text.specs.Ids.{ids, HasDistinctIds}
 use Rattle.md_content.specs.Underlined.{IsUnderlined}
@@ -121,19 +121,7 @@ calls-fewer : (bytes : List ℕ) (forest : Forest) →
     length (calls_in bytes forest) + length (calls_in bytes forest) ≤ length (flatten forest)
 calls-fewer bytes Empty = omega arith
 calls-fewer bytes (Node name start end children rest) =
-    let below : List (List ℕ) = calls_in bytes children in
-    let own : List (List ℕ) =
-    when (named GfmFootnoteCall name) (identifier_of bytes children ∷ []) in
-    let one : length own ≤ 1 = grind arith in
-    omega (
-      length-append (below ++ own) (calls_in bytes rest),
-      length-append below own,
-      one,
-      length-append (flatten children) (exiting name end ∷ flatten rest),
-      calls-fewer bytes children,
-      calls-fewer bytes rest,
-      arith,
-    )
+    grind (arith, length-append, calls-fewer bytes children, calls-fewer bytes rest)
 
 pub distinct-ids : (bytes : List ℕ) (names : List (List ℕ × List ℕ)) (options : CompileOptions)
     (document : Forest) →

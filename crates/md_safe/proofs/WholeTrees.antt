@@ -1,6 +1,6 @@
 -- A text that is contained without a link in a link is built as it is read.
-use Rattle.std.proofs.Common.{◌≡◌, ℕ, true, false, not, ◌&&◌, List, [], ◌∷◌, ◌++◌, codes, refl, ap}
-use Rattle.std.proofs.Common.{◌∙◌, subst, arith}
+use Rattle.std.proofs.Common.{◌≡◌, ℕ, true, false, not, ◌&&◌, List, ◌∷◌, codes, refl, ap}
+use Rattle.std.proofs.Common.{◌∙◌, arith}
 use Rattle.std.specs.Prelude.{Some, None}
 use Rattle.md_text.specs.Html.{Forest, Empty, Text, Void, Element, is_forest, any_attribute}
 use Rattle.md_text.specs.Html.{begins_with_text}
@@ -9,9 +9,6 @@ use Rattle.md_base.specs.Identifier.{is_nonempty}
 use Rattle.std.proofs.lemmas.Bool.{and_parts, and_from}
 use Rattle.md_text.proofs.HtmlReading.{all-any}
 use Rattle.md_base.proofs.Lies.{lie}
-use Rattle.md_safe.specs.Token.{EndOfFile}
-use Rattle.md_safe.specs.Tokenizer.{IsTokenized}
-use Rattle.md_safe.specs.Tokens.{tokens}
 use Rattle.md_safe.proofs.Tokenized.{read-tokenized}
 use Rattle.md_safe.specs.Contents.{Flow, is_contained, IsUnnested}
 use Rattle.md_safe.specs.Node.{Open, Entry, Mode}
@@ -84,10 +81,6 @@ text-built text h =
       reading = h.reading;
       only = h.only;
       contained = h.contained;
-      tokenized = subst (λ forest. IsTokenized text (tokens forest ++ (EndOfFile ∷ [])))
-          (h.only read.forest read.reading)
-          read.tokenized;
-      builds = λ mode node others active created place.
-          forest-built h.forest (reading-texts h.forest h.reading.in_grammar) h.contained mode node
-          others active created place;
+      tokenized = grind arith;
+      builds = grind (arith, forest-built, reading-texts);
     }
