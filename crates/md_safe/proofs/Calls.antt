@@ -153,13 +153,8 @@ pub backreferences-read : {test : Attribute → Bool} {Q R : List ℕ → Type 0
     (identifier : List ℕ) (number count : ℕ) → R (backreferences options identifier number count)
 backreferences-read known inside around a sup identifier number zero = around.text [] refl
 backreferences-read known inside around a sup identifier number (suc count) =
-    grind (
-      arith,
-      cond_both,
-      backreference-read,
-      backreferences-read known
-          inside around a sup identifier number count,
-    )
+    let earlier = backreferences-read known inside around a sup identifier number count in
+    grind (arith, cond_both, backreference-read, earlier)
 
 -- of what has a reading
 pub reads-text : (test : Attribute → Bool) → IsText (HasReadingWith test)

@@ -1,12 +1,12 @@
 -- Ids by number: which number each has is read back of it. The numbers of calls and their
 -- occurrences determine them, and so do their ids.
-use Rattle.std.proofs.Common.{◌≡◌, ℕ, ◌<◌, ◌^◌, ◌==◌, ◌/◌, ◌%◌, zero, suc, true, false}
+use Rattle.std.proofs.Common.{◌≡◌, ℕ, ◌<◌, ◌^◌, zero, suc, true, false}
 use Rattle.std.proofs.Common.{List, [], ◌∷◌, ◌++◌, refl, sym, ap, arith, append_assoc}
 use Rattle.std.proofs.Common.{codes, ◌+◌, ◌≤◌, Bool, ◌||◌, length, append-nil, bytes_eq}
 use Rattle.std.specs.Prelude.{Option, Some, None, filter}
 use Rattle.std.specs.Option.{option_map_or}
 use Rattle.std.specs.List.{list_all}
-use Rattle.std.specs.Fmt.{decimal, digits, digits_onto, digit_glyph}
+use Rattle.std.specs.Fmt.{decimal, digits, digits_onto}
 use Rattle.std.proofs.lemmas.Bool.{and_parts, cond_both, cond_both, or_right}
 use Rattle.std.proofs.lemmas.Fmt.{decimal_injective}
 use Rattle.std.proofs.lemmas.List.{append_cancel_left, length-append}
@@ -40,9 +40,7 @@ EndsInDigit x = is_digit (last_byte x) ≡ true
 onto-ends : (k n c : ℕ) (acc : List ℕ) → EndsInDigit (c ∷ acc) →
     EndsInDigit (digits_onto k 10 false n (c ∷ acc))
 onto-ends zero n c acc h = h
-onto-ends (suc k) n c acc h = cond_both (n / 10 == 0) (digit_glyph false (n % 10) ∷ c ∷ acc)
-    (digits_onto k 10 false (n / 10) (digit_glyph false (n % 10) ∷ c ∷ acc)) EndsInDigit (λ _. h)
-    (λ _. onto-ends k _ _ _ h)
+onto-ends (suc k) n c acc h = grind (arith, cond_both, onto-ends k)
 
 onto-first : (k n : ℕ) → EndsInDigit (digits_onto (suc k) 10 false n [])
 onto-first k n = grind (arith, cond_both, glyph-digit, onto-ends)

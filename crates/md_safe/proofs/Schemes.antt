@@ -55,9 +55,7 @@ trailing-none (b ∷ rest) h = grind (arith, cond_both, none-keep, trailing-none
 
 newlines-none : (x : List ℕ) → HasNone x → HasNone (without_newlines x)
 newlines-none [] h = refl
-newlines-none (b ∷ rest) h = cond_both _ _ _ HasNone (λ e. newlines-none rest (none-drop
-    is_tab_or_newline b rest refl h e)) (λ _. none-keep b rest (without_newlines rest)
-    (newlines-none rest) h)
+newlines-none (b ∷ rest) h = grind (arith, cond_both, none-drop, none-keep, newlines-none rest)
 
 in_scheme-none : (buffer x : List ℕ) → HasNone x → in_scheme buffer x ≡ None
 in_scheme-none buffer [] h = refl

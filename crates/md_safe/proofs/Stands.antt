@@ -69,9 +69,7 @@ contained-joined : (nested : Bool) (content : Content) (f g : Forest) →
     is_contained nested content (joined f g) ≡ true
 contained-joined nested content Empty g a b = b
 contained-joined nested content (Text bytes rest) g a b =
-    let parts = and_parts _ _ a in
-    contained-text_before nested content bytes (joined rest g) parts.0
-    (contained-joined nested content rest g parts.1 b)
+    grind (arith, and_parts, contained-text_before, contained-joined nested content rest g)
 contained-joined nested content (Void name attributes rest) g a b =
     grind (arith, contained-joined nested content rest g)
 contained-joined nested content (Element name attributes children rest) g a b =

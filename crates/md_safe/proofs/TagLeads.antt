@@ -101,12 +101,8 @@ pub line_feeds-attributes : (x : List Attribute) (r : List ℕ) → are_good x �
     with_line_feeds (attributes_before x r) ≡ attributes_before (lined x) (with_line_feeds r)
 line_feeds-attributes [] r g = refl
 line_feeds-attributes (a ∷ x) r g =
-    let p = good_attribute a x g in
-    let n = and_parts _ _ p.0 in
-    ap (λ y. 32 ∷ y) (line_feeds-name a.name (61 ∷ 34 ∷ (a.value ++ (34 ∷ attributes_before x r)))
-    (good-no_return a.name n.1) ∙ ap (λ y. a.name ++ (61 ∷ 34 ∷ y)) (line_feeds-append a.value
-    (34 ∷ attributes_before x r) refl ∙ ap (λ y. with_line_feeds a.value ++ (34 ∷ y))
-    (line_feeds-attributes x r p.3)))
+    let later = line_feeds-attributes x r in
+    grind (arith, good_attribute, line_feeds-name, good-no_return, line_feeds-append, later)
 
 -- more attributes, the last one first
 abbrev pub onto : List TokenAttribute → List Attribute → List TokenAttribute

@@ -1,11 +1,8 @@
 -- A text that is contained without a link in a link is built as it is read.
-use Rattle.std.proofs.Common.{◌≡◌, ℕ, true, false, not, ◌&&◌, List, ◌∷◌, codes, refl, ap}
+use Rattle.std.proofs.Common.{◌≡◌, ℕ, true, false, List, ◌∷◌, codes, refl, ap}
 use Rattle.std.proofs.Common.{◌∙◌, arith}
 use Rattle.std.specs.Prelude.{Some, None}
 use Rattle.md_text.specs.Html.{Forest, Empty, Text, Void, Element, is_forest, any_attribute}
-use Rattle.md_text.specs.Html.{begins_with_text}
-use Rattle.md_text.specs.References.{is_escaped}
-use Rattle.md_base.specs.Identifier.{is_nonempty}
 use Rattle.std.proofs.lemmas.Bool.{and_parts, and_from}
 use Rattle.md_text.proofs.HtmlReading.{all-any}
 use Rattle.md_base.proofs.Lies.{lie}
@@ -29,10 +26,7 @@ none-linked active h = grind arith
 -- the texts of a reading
 pub reading-texts : (forest : Forest) → is_forest forest ≡ true → has_whole_texts forest ≡ true
 reading-texts Empty h = refl
-reading-texts (Text bytes rest) h =
-    let own = is_nonempty bytes && is_escaped bytes && not (begins_with_text rest) in
-    let parts = and_parts _ _ h in
-    and_from _ _ parts.0 (reading-texts rest parts.1)
+reading-texts (Text bytes rest) h = grind (arith, and_parts, and_from, reading-texts rest)
 reading-texts (Void name attributes rest) h = reading-texts rest (and_parts _ _ h).1
 reading-texts (Element name attributes inner rest) h =
     let all = and_parts _ _ h in
