@@ -4,7 +4,6 @@ use Rattle.std.proofs.Common.{◌≡◌, ℕ, ◌==◌, Bool, true, false, ◌&&
 use Rattle.std.proofs.Common.{refl, ap, ◌∙◌, append-nil, append_assoc, codes, sym, arith}
 use Rattle.md_safe.specs.Input.{begins_with_line_feed, with_line_feeds}
 use Rattle.md_safe.specs.Embedded.{splits_newline, EndsInDataState, HasTokensAfter}
-use Rattle.md_safe.specs.Embedded.{ends_with_return}
 use Rattle.md_safe.proofs.LineFeeds.{one, one-append}
 use Rattle.md_text.specs.Html.{Attribute, Forest, is_forest, written, IsReading, HasOneReadingWith}
 use Rattle.md_safe.specs.Token.{Token, EndOfFile, Character, StartTag}
@@ -83,8 +82,7 @@ own-tokens text emits h = rw (append-nil (with_line_feeds text)) at
 pub in_place : (f : Forest) (r : List ℕ) (t : List Token) → is_forest f ≡ true →
     begins_with_line_feed r ≡ false →
     IsTokenized r t → IsTokenized (written f ++ r) (tokens f ++ t)
-in_place f r t h n k = tokenized (written f) r (tokens f) t (forest-ends f h) (and_right
-    (ends_with_return (written f)) _ n) k
+in_place f r t h n k = grind (arith, tokenized, forest-ends, and_right)
 
 pub whole : (f : Forest) → is_forest f ≡ true →
     IsTokenized (written f) (tokens f ++ (EndOfFile ∷ []))
@@ -92,8 +90,7 @@ whole f h = own-tokens (written f) (tokens f) (forest-ends f h)
 
 pub reading-runs : (p : Attribute → Bool) (text : List ℕ) (one : HasOneReadingWith p text) →
     IsTokenized text (tokens one.forest ++ (EndOfFile ∷ []))
-reading-runs p text one =
-    own-tokens text (tokens one.forest) (reading-ends text one.forest one.reading)
+reading-runs p text one = grind (arith, own-tokens, reading-ends)
 
 -- ---- several texts
 
@@ -107,8 +104,7 @@ joined : (before text : List ℕ) (earlier : List Token) (f : Forest) →
     EndsInDataState before earlier →
     IsReading text f → splits_newline before text ≡ false →
     EndsInDataState (before ++ text) (earlier ++ tokens f)
-joined before text earlier f h reading n =
-    join before text earlier (tokens f) h (reading-ends text f reading) n
+joined before text earlier f h reading n = grind (arith, join, reading-ends)
 
 pub between : (before text after : List ℕ) (earlier : List Token) (f : Forest) →
     EndsInDataState before earlier →

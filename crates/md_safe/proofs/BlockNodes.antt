@@ -2,7 +2,7 @@
 use Rattle.std.proofs.Common.{◌≡◌, Bool, true, false, not, ◌&&◌, ◌||◌, List, [], arith}
 use Rattle.md_base.specs.declared.event.Name.{Name}
 use Rattle.md_base.specs.declared.event.Name.TheVariants as name_variants
-use name_variants.{LineEnding, GfmFootnoteDefinition, GfmFootnoteDefinitionPrefix, Definition}
+use name_variants.{GfmFootnoteDefinition, GfmFootnoteDefinitionPrefix, Definition}
 use name_variants.{CodeFencedFenceMeta, MathFlowFenceMeta, HeadingSetextText, GfmTable}
 use name_variants.{GfmTableHead, GfmTableBody, GfmTableRow, GfmTableCell, Frontmatter, Link}
 use name_variants.{Resource, ReferenceString}
@@ -18,7 +18,6 @@ use Rattle.md_safe.proofs.Insides.{is_blocks}
 use Rattle.md_safe.proofs.StringNodes.{is_text}
 use Rattle.md_safe.proofs.SpanNodes.{is_shown}
 use Rattle.md_safe.proofs.FlowNodes.{Reads, is_flow, is_leaf}
-use Rattle.md_base.proofs.Lies.{lie}
 
 -- what prints nothing of its children
 abbrev pub is_hidden : Name → Bool
@@ -64,14 +63,12 @@ holds-none s = s.p.plain [] (nothing s.p.test)
 -- these print nothing
 pub hidden-prints : (context : Context) (t : At) (name : Name) → is_hidden name ≡ true →
     (inner : List Piece) → prints context t name inner ≡ []
-hidden-prints context t LineEnding is inner = lie is
-hidden-prints context t _ is inner = cc
+hidden-prints context t name is inner = grind arith
 
 -- these print their children
 pub silent-prints : (context : Context) (t : At) (name : Name) → is_silent name ≡ true →
     (inner : List Piece) → prints context t name inner ≡ inner
-silent-prints context t LineEnding is inner = lie is
-silent-prints context t _ is inner = cc
+silent-prints context t name is inner = grind arith
 
 -- a name that isn't silent, or in which blocks stand, and that is no link
 abbrev is_silent_block : Name → Bool

@@ -1,7 +1,7 @@
 -- Calls and the ways back to them have readings, as they are printed.
 use Rattle.std.proofs.Common.{◌≡◌, ℕ, ◌==◌, zero, suc, Bool, true, not, ◌&&◌, cond, List, [], ◌∷◌}
 use Rattle.std.proofs.Common.{◌++◌, refl, subst, append_assoc, codes, arith}
-use Rattle.std.specs.Prelude.{Option, Some, None, option_map, string_bytes}
+use Rattle.std.specs.Prelude.{Option, option_map, string_bytes}
 use Rattle.std.specs.Fmt.{decimal}
 use Rattle.std.proofs.lemmas.Bool.{cond_both}
 use Rattle.md_text.specs.Html.{Attribute, HasReadingWith, is_tag, elements}
@@ -19,13 +19,11 @@ use Rattle.md_safe.proofs.Tags.{IsTest, attribute, Tagged, adds-flat}
 -- a text of the options, escaped
 option-escaped : (text : Option (List ℕ)) (unset : List ℕ) → Escaped unset →
     Escaped (option_or text unset)
-option-escaped None unset h = h
-option-escaped (Some x) unset h = is_escaped-encoded x
+option-escaped text unset h = grind (arith, is_escaped-encoded)
 
 pub label-escaped : (options : CompileOptions) →
     Escaped (option_or (option_map string_bytes options.gfm_footnote_label) (codes "Footnotes"))
-label-escaped options =
-    option-escaped (option_map string_bytes options.gfm_footnote_label) (codes "Footnotes") refl
+label-escaped options = grind (arith, option-escaped)
 
 -- the required prefix of ids, and their prefix
 abbrev pub prefix_given : CompileOptions → Option (List ℕ)

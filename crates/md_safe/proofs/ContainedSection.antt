@@ -1,6 +1,6 @@
 -- The section of footnotes is flow content: its heading, its items and their ways back, which the
 -- last paragraph of flow content takes before its end.
-use Rattle.std.proofs.Common.{◌≡◌, ℕ, Bool, ◌==◌, true, false, List, [], ◌∷◌, ◌++◌, refl, sym, ap}
+use Rattle.std.proofs.Common.{◌≡◌, ℕ, Bool, ◌==◌, true, List, [], ◌∷◌, ◌++◌, refl, sym, ap}
 use Rattle.std.proofs.Common.{◌∙◌, subst, append_assoc, append-nil, codes, arith}
 use Rattle.std.proofs.lemmas.Bool.{and_parts, and_from}
 use Rattle.md_base.proofs.Lies.{lie}
@@ -174,13 +174,11 @@ paragraph-takes nested before endings x h s r =
     (stands-forest nested Flow cut.rest cut.rest_forest cut.rest_contained)))
 
 sup-opens : (nested : Bool) → Opens nested (in_link nested) (in_link nested) (codes "sup")
-sup-opens true = refl
-sup-opens false = refl
+sup-opens nested = grind arith
 
 -- an escaped text in a link
 linked-text : (nested : Bool) (x : List ℕ) → Escaped x → Stands nested (in_link nested) x
-linked-text true x h = stands-text h refl
-linked-text false x h = stands-text h refl
+linked-text nested x h = grind (arith, stands-text)
 
 pub backreferences-stand : (nested : Bool) (d : Document) (identifier : List ℕ) (number count : ℕ) →
     Stands nested Phrasing (backreferences d.context.options identifier number count)

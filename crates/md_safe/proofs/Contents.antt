@@ -68,5 +68,4 @@ blocks-stay forest = stays-after (λ content. content ≡ Blocks)
 -- after each node in blocks the content is still blocks
 pub after-blocks : (name : Name) (children : Forest) → content_after_node Blocks name
     children ≡ Blocks
-after-blocks name children =
-    cond_both _ _ _ (λ c. c ≡ Blocks) (λ _. blocks-stay children) (λ _. refl)
+after-blocks name children = grind (arith, cond_both, blocks-stay)

@@ -86,8 +86,7 @@ adds-ordered {W} {Q} {R} beside takes stays context h known turns at {inner} fit
 -- the end of an item, on a line of its own or not
 pub item-end : {W : List ℕ → Type 0} {ending : List ℕ} → IsBeside W → W ending → (ends : Bool) →
     Adds ending (IsFramed W (codes "</li>")) ((cond ends [] (Needed ∷ [])) ++ said (codes "</li>"))
-item-end beside h true = framed-text beside
-item-end beside h false = framed-needed beside h
+item-end beside h ends = grind (arith, framed-text, framed-needed)
 
 pub class-passes : {test : Attribute → Bool} {options : CompileOptions} → IsTest test options →
     (value : List ℕ) → list_all test (attribute (codes "class") value ∷ []) ≡ true

@@ -67,21 +67,18 @@ raw_tag math = cond math math_tag code_tag
 
 pub raw-prints : (context : Context) (t : At) (name : Name) → is_raw name ≡ true →
     (inner : List Piece) → prints context t name inner ≡ fenced t (raw_tag (is_math name)) inner
-raw-prints context t Paragraph is inner = lie is
-raw-prints context t _ is inner = cc
+raw-prints context t name is inner = grind arith
 
 pub in-raw : (name : Name) → is_raw name ≡ true →
     content_of name Blocks ≡ cond (is_math name) FirstMathFence FirstFence
-in-raw Paragraph is = lie is
-in-raw _ is = cc
+in-raw name is = grind arith
 
 -- what is claimed of a text
 abbrev pub Reads : Setting → List ℕ → Type 0
 Reads s x = s.p.holds x
 
 pub setext-fits : (dash : Bool) → (1 ≤ cond dash 2 1) × (cond dash 2 1 ≤ 6)
-setext-fits true = (omega arith, omega arith)
-setext-fits false = (omega arith, omega arith)
+setext-fits dash = grind arith
 
 -- a line of code
 chunk-escaped : (s : Setting) (t : At) → Prints s Escaped (chunk s.context t)

@@ -2,20 +2,18 @@
 -- node's children, and before what follows it; blocks occur only in blocks, and a condition on
 -- blocks alone covers no more after nodes. After a node's children, and after it, no first fence is
 -- to come.
-use Rattle.std.proofs.Common.{◌≡◌, Bool, true, false, ◌||◌, refl, sym, ◌∙◌, subst, ℕ, cond}
+use Rattle.std.proofs.Common.{◌≡◌, Bool, true, false, ◌||◌, refl, subst, ℕ, cond}
 use Rattle.std.proofs.Common.{List, [], ◌∷◌, ◌++◌, append_assoc, append-nil, arith}
 use Rattle.std.proofs.lemmas.Bool.{cond_both, cond_both, or_left, or_right}
-use Rattle.md_base.proofs.Lies.{lie}
 use Rattle.md_base.specs.declared.event.Name.{Name}
-use Rattle.md_base.specs.declared.event.Name.TheVariants.{LineEnding}
 use Rattle.md_base.specs.Tree.{Forest, Forest, Empty, Node, Forest}
 use Rattle.md_content.specs.Built.{Content, may_stand, content_of, content_past}
-use Rattle.md_content.specs.Built.{content_after_node, FirstFence, FirstMathFence, Chunks}
+use Rattle.md_content.specs.Built.{content_after_node}
 use Rattle.md_content.specs.Built.{is_fence}
 use Rattle.md_content.specs.Built.{content_after, content_inside, IsBuilt, IsFit}
 use Rattle.md_safe.proofs.Contents.{stays-after, Follows, spine_after_node, is_first}
 use Rattle.md_safe.proofs.Insides.{allowed_inside, is_blocks, of-blocks, Suits}
-use Rattle.md_safe.proofs.Insides.{past_of, is_chunks, is_raw}
+use Rattle.md_safe.proofs.Insides.{past_of, is_raw}
 use Rattle.md_safe.proofs.Cases.{cases, cases}
 use Rattle.std.specs.List.{list_any}
 use Rattle.md_base.specs.NameTests.{is_transparent, is_fence as fence_name, is_fence as fence_name}
@@ -43,8 +41,7 @@ suits-after-node escaping in_image content name children h =
 
 -- the two tests of fences are one
 pub same_fence : (name : Name) → is_fence name ≡ fence_name name
-same_fence LineEnding = refl
-same_fence _ = refl
+same_fence name = grind arith
 
 pub same_fences : (names : List Name) → list_any is_fence names ≡ list_any fence_name names
 same_fences [] = refl
@@ -58,15 +55,13 @@ follows-past content name names h f =
 
 -- one of two tests holds, and it isn't the first
 pub second : (a b : Bool) → a ≡ false → (a || b) ≡ true → b ≡ true
-second true b e h = lie (sym e)
-second false b e h = h
+second a b e h = grind arith
 
 follows-node : (content : Content) (name : Name) (names : List Name) (children : Forest) →
     (is_transparent name || may_stand content name) ≡ true → Follows content names → (is_transparent
     name ≡ true → Follows (content_after content children) (names ++ spine_names children)) →
     Follows (content_after_node content name children) (spine_after_node name children names)
-follows-node content name names children stands f inner = cases (is_transparent name)
-    (λ e. rw e (inner e)) (λ e. rw e (follows-past content name names (second _ _ e stands) f))
+follows-node content name names children stands f inner = grind (arith, follows-past)
 
 pub follows-after : (bytes : List ℕ) (content : Content) (names : List Name) (forest : Forest) →
     IsBuilt bytes content forest → Follows content names →
@@ -91,18 +86,11 @@ follows-after-node bytes content name names children stands built f =
 -- nothing stands before a node's first child
 pub follows-inside : (content : Content) (name : Name) → may_stand content name ≡ true →
     Follows (content_of name content) []
-follows-inside content name s = by (content_of name content) (allowed_inside content name s).chunks
-  where
-    by : (content : Content) → is_chunks content ≡ false → Follows content []
-    by FirstFence h = refl
-    by FirstMathFence h = refl
-    by Chunks h = lie (sym h)
-    by _ h = tt
+follows-inside content name s = grind (arith, allowed_inside)
 
 pub inside-blocks : (content : Content) (name : Name) → is_blocks (content_inside content name)
     ≡ true → is_blocks content ≡ true
-inside-blocks content name = cond_both _ _ _ (λ c. is_blocks c ≡ true → is_blocks content ≡ true)
-    (λ _ h. h) (λ _ h. of-blocks content name h)
+inside-blocks content name = grind (arith, cond_both, of-blocks)
 
 -- a condition on blocks alone covers no more after nodes
 pub asked-after-node : (A : Type 0) (content : Content) (name : Name) (children : Forest) →
@@ -117,8 +105,7 @@ IsLater content = is_first content ≡ false
 -- in a node without a fence of its own no first one is to come
 later-of : (content : Content) (name : Name) → is_raw name ≡ false →
     may_stand content name ≡ true → IsLater (content_of name content)
-later-of content name plain s = cases (is_first (content_of name content))
-    (λ e. lie (sym plain ∙ (allowed_inside content name s).first e)) (λ e. e)
+later-of content name plain s = grind (arith, allowed_inside)
 
 -- after a fence no first one is to come
 later-fenced : (content : Content) (names : List Name) → Follows content names →

@@ -1,6 +1,6 @@
 -- A forest, node by node: to the data state, before whatever follows.
 use Rattle.std.proofs.Common.{◌≡◌, ℕ, true, false, not, List, [], ◌∷◌, ◌++◌, refl, sym, arith}
-use Rattle.std.proofs.Common.{◌∙◌, subst, append-nil, append_assoc}
+use Rattle.std.proofs.Common.{◌∙◌, append-nil, append_assoc}
 use Rattle.std.proofs.lemmas.Bool.{and_parts}
 use Rattle.md_text.specs.Html.{Attribute, Forest, Empty, Text, Void, Element, is_forest}
 use Rattle.md_text.specs.Html.{begins_with_text, written, IsReading}
@@ -80,5 +80,4 @@ forest-ends f h left =
     rw (append-nil (tokens f)) at (rw (sym (written-before f []) ∙ append-nil (written f)) at ends)
 
 pub reading-ends : (text : List ℕ) (f : Forest) → IsReading text f → EndsInDataState text (tokens f)
-reading-ends text f reading =
-    subst (λ x. EndsInDataState x (tokens f)) reading.written_so (forest-ends f reading.in_grammar)
+reading-ends text f reading = grind (arith, forest-ends)

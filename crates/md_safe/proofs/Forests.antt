@@ -30,7 +30,7 @@ use Rattle.md_safe.proofs.BlockNodes.{holds-none}
 use Rattle.md_safe.proofs.Nodes.{Knows, any-node, inside-alone, Before as PrintsBefore}
 use Rattle.md_safe.proofs.Findings.{AreFound, AreRead, titles-append, texts-append}
 use Rattle.md_safe.proofs.Findings.{Inner, found-node, note-node}
-use Rattle.md_safe.proofs.Cases.{on-later, on-either, cases}
+use Rattle.md_safe.proofs.Cases.{on-later, on-either}
 use Rattle.md_safe.proofs.Texts.{Escaped}
 use Rattle.md_safe.proofs.Media.{IsEscapedTitle}
 
@@ -45,8 +45,7 @@ children-suit options html loose around content name stands h = grind arith
 children-follow : (content : Content) (name : Name) (before : Before) (children : Forest) →
     (is_transparent name || may_stand content name) ≡ true → Follows content before.spine →
     Follows (content_inside content name) (before_children name children before).spine
-children-follow content name before children stands f = cases (is_transparent name)
-    (λ e. rw e f) (λ e. rw e (follows-inside content name (second _ _ e stands)))
+children-follow content name before children stands f = grind (arith, follows-inside)
 
 blocks-after-node : (content : Content) (name : Name) (children : Forest) →
     is_blocks content ≡ true → is_blocks (content_after_node content name children) ≡ true

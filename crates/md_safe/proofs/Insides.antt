@@ -17,8 +17,7 @@ abbrev pub is_blocks : Content → Bool
 is_blocks content = elim content [ Blocks ↦ true | _ ↦ false ]
 
 pub is_blocks-same : (content : Content) → is_blocks content ≡ true → content ≡ Blocks
-is_blocks-same Blocks h = refl
-is_blocks-same _ h = lie h
+is_blocks-same content h = grind arith
 
 -- what follows a first fence
 abbrev pub is_chunks : Content → Bool

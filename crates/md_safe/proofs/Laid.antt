@@ -1,5 +1,5 @@
 -- What a list of pieces adds to a text: the claim on texts carried over to what is laid out.
-use Rattle.std.proofs.Common.{◌≡◌, ℕ, Bool, true, false, List, [], ◌∷◌, ◌++◌, refl, sym, ap, arith}
+use Rattle.std.proofs.Common.{◌≡◌, ℕ, Bool, List, [], ◌∷◌, ◌++◌, refl, sym, ap, arith}
 use Rattle.std.proofs.Common.{◌∙◌, subst, append_assoc, append-nil}
 use Rattle.md_meaning.specs.Meaning.Layout.{Piece, Text, Needed, Forced, laid_after, layout, when}
 use Rattle.std.specs.List.{flat_map}
@@ -67,8 +67,7 @@ adds-needed beside h = grind (arith, cond_both, nothing_added)
 -- pieces, where a test holds
 pub adds-when : {W : List ℕ → Type 0} {ending : List ℕ} {pieces : List Piece} → IsBeside W →
     (holds : Bool) → Adds ending W pieces → Adds ending W (when holds pieces)
-adds-when beside true a = a
-adds-when beside false a = adds-nothing beside.none
+adds-when beside holds a = grind (arith, adds-nothing)
 
 -- one list after another for each of some things
 pub adds-all : {A : Type 0} {ending : List ℕ} {R : List ℕ → Type 0} {f : A → List Piece} →

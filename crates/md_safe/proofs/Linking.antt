@@ -1,6 +1,6 @@
 -- What stands in a link, where links may stand in links and where not; and none does where a
 -- document has no link in a link.
-use Rattle.std.proofs.Common.{◌≡◌, ◌⊎◌, inl, Bool, true, false, not, ◌&&◌, ◌||◌, cond, refl}
+use Rattle.std.proofs.Common.{◌≡◌, ◌⊎◌, inl, Bool, true, false, not, ◌&&◌, ◌||◌, cond}
 use Rattle.std.proofs.Common.{sym, ◌∙◌, arith}
 use Rattle.std.proofs.lemmas.Bool.{or_parts, or_left, or_right}
 use Rattle.md_base.proofs.Lies.{lie}
@@ -53,8 +53,7 @@ inner_place nested content name = cond (is_transparent name) content (place_in n
 pub place-other : (nested : Bool) (content : Content) (name : Name) → named Link name ≡ false →
     place_in nested content name
     ≡ cond (is_linked content) (without_links (place_of name)) (place_of name)
-place-other nested content Link other = lie (sym other)
-place-other nested content _ other = refl
+place-other nested content name other = grind arith
 
 pub place-in-with : (nested : Bool) (content : Content) (name : Name) →
     with_links (place_in nested content name) ≡ place_of name
@@ -62,8 +61,7 @@ place-in-with nested content name = grind arith
 
 pub inner-place-with : (nested : Bool) (content : Content) (name : Name) →
     with_links (inner_place nested content name) ≡ place_inside (with_links content) name
-inner-place-with nested content name = cases (is_transparent name) (λ e. rw e refl)
-    (λ e. rw e (place-in-with nested content name))
+inner-place-with nested content name = grind (arith, place-in-with)
 
 -- spans without links stand only in a link, where links don't nest
 abbrev pub IsLinked : Bool → Content → Surroundings → Type 0
@@ -73,12 +71,10 @@ IsLinked nested content around =
 -- a link contains the content of a link
 inside-link : (options : CompileOptions) (loose : Bool) (name : Name) (around : Surroundings) →
     (inside options loose name around).in_link ≡ (named Link name || around.in_link)
-inside-link options loose Link around = refl
-inside-link options loose _ around = refl
+inside-link options loose name around = grind arith
 
 never-linked : (name : Name) → is_linked (place_of name) ≡ false
-never-linked Link = refl
-never-linked _ = refl
+never-linked name = grind arith
 
 linked-place : (nested : Bool) (content : Content) (name : Name) →
     is_linked (place_in nested content name) ≡ true →
