@@ -48,8 +48,7 @@ room name attributes xs =
 
 pub keeps-room : (name : List ℕ) (attributes : List TokenAttribute) (xs : List Entry) →
     Keeps xs (room name attributes xs)
-keeps-room name attributes xs =
-    cond_both _ _ _ (Keeps xs) (λ _. keeps-earliest name attributes xs) (λ _. keeps-all xs)
+keeps-room name attributes xs = grind (arith, cond_both, keeps-earliest, keeps-all)
 
 -- what holds of a list and of what follows its first entry, and of that entry before any list of
 -- which it holds, holds when entries are taken away

@@ -5,8 +5,8 @@ use Rattle.std.proofs.Common.{refl, ap, inl, inr, append-nil, codes}
 use Rattle.md_base.proofs.Lies.{lie}
 use Rattle.md_base.specs.declared.event.Name.{Name}
 use Rattle.md_base.specs.declared.event.Name.TheVariants as name_variants
-use name_variants.{SpaceOrTab, CodeFencedFenceInfo, CodeFencedFenceMeta}
-use name_variants.{MathFlowFenceMeta, GfmTaskListItemValueChecked}
+use name_variants.{CodeFencedFenceInfo, CodeFencedFenceMeta}
+use name_variants.{MathFlowFenceMeta}
 use Rattle.md_text.proofs.EscapedLemmas.{escaped-append}
 use Rattle.md_base.specs.NameTests.{is_transparent}
 use Rattle.md_pattern.specs.Looseness.{is_loose}
@@ -37,14 +37,12 @@ use Rattle.md_safe.proofs.RawElements.{IsInfo, code_tag}
 -- spans print nothing, or only their children, or one of these
 span-sorts : (name : Name) → not (may_stand Spans name) || (is_hidden name || (is_silent name
     || (is_text name || (is_shown name || (is_leaf name || is_autolink name))))) ≡ true
-span-sorts SpaceOrTab = refl
-span-sorts _ = refl
+span-sorts name = grind arith
 
 -- in the latter spans stand
 silent-spans : (name : Name) → is_silent name ≡ true → may_stand Spans name ≡ true →
     content_of name Spans ≡ Spans
-silent-spans SpaceOrTab is stands = lie stands
-silent-spans _ is stands = cc
+silent-spans name is stands = grind arith
 
 span-any : (s : Setting) (t : At) (name : Name) → Suits t.around.is_escaping t.around.in_image
     Spans → may_stand Spans name ≡ true → IsFitAt s t name → (inner : List Piece) →
@@ -103,13 +101,11 @@ checked s in_image b = grind (arith, adds-append, append-nil, adds-nothing, adds
 done-node : (s : Setting) (t : At) (name : Name) → may_stand Done name ≡ true →
     (inner rest : List Piece) → Prints s IsNil rest → Prints s
     (IsDone t.around.in_image) (prints s.context t name inner ++ rest)
-done-node s t GfmTaskListItemValueChecked is inner rest b = checked s t.around.in_image b
-done-node s t _ is inner rest b = lie is
+done-node s t name is inner rest b = grind (arith, checked)
 
 -- a node among blocks is no part of another node
 pub not_part : (part : Bool) → cond part false true ≡ true → part ≡ false
-not_part true h = lie h
-not_part false h = refl
+not_part part h = grind arith
 
 -- the facts about a node besides the pieces of its children: its place, the text of a heading
 -- before it, and the target of a resource in it

@@ -3,8 +3,7 @@
 use Rattle.std.proofs.Common.{◌≡◌, ℕ, ◌<◌, ◌^◌, zero, suc, true, false}
 use Rattle.std.proofs.Common.{List, [], ◌∷◌, ◌++◌, refl, sym, ap, arith, append_assoc}
 use Rattle.std.proofs.Common.{codes, ◌+◌, ◌≤◌, Bool, ◌||◌, length, append-nil, bytes_eq}
-use Rattle.std.specs.Prelude.{Option, Some, None, filter}
-use Rattle.std.specs.Option.{option_map_or}
+use Rattle.std.specs.Prelude.{filter}
 use Rattle.std.specs.List.{list_all}
 use Rattle.std.specs.Fmt.{decimal, digits, digits_onto}
 use Rattle.std.proofs.lemmas.Bool.{and_parts, cond_both, cond_both, or_right}
@@ -12,7 +11,6 @@ use Rattle.std.proofs.lemmas.Fmt.{decimal_injective}
 use Rattle.std.proofs.lemmas.List.{append_cancel_left, length-append}
 use Rattle.std.proofs.lemmas.List.Folds.{list_all-append}
 use Rattle.md_base.proofs.Lies.{lie}
-use Rattle.md_text.specs.Encode.{encoded}
 use Rattle.md_text.specs.References.{read_back}
 use Rattle.md_text.proofs.EncodeLaws.{read_back-before, read_back-other}
 use Rattle.md_text.proofs.HtmlSplit.{split}
@@ -21,7 +19,7 @@ use Rattle.md_meaning.specs.Meaning.Footnotes.{id_of, call_id, distinct, place_a
 use Rattle.md_content.specs.Built.{is_digit}
 use Rattle.md_safe.proofs.Cases.{all-weaker}
 use Rattle.md_safe.specs.Apart.{prefix_of}
-use Rattle.md_safe.proofs.Calls.{prefix_given, id_prefix}
+use Rattle.md_safe.proofs.Calls.{id_prefix}
 use Rattle.md_safe.proofs.Texts.{digit-plain, glyph-digit, decimal-digits}
 use Rattle.md_text.proofs.ProtocolLemmas.{no_and}
 use Rattle.md_meaning.proofs.Identifiers.{is_in, same, itself, is_in-distinct}
@@ -70,13 +68,7 @@ back_prefix options = prefix_of options
 
 prefix-back : (options : CompileOptions) (x : List ℕ) →
     read_back (id_prefix options ++ x) ≡ back_prefix options ++ read_back x
-prefix-back options x = by (prefix_given options)
-  where
-    by : (given : Option (List ℕ)) →
-        read_back (option_map_or (encoded true) given (codes "user-content-") ++ x)
-        ≡ option_map_or (encoded false) given (codes "user-content-") ++ read_back x
-    by None = refl
-    by (Some text) = read_back-before text x
+prefix-back options x = grind (arith, read_back-before)
 
 -- ---- ids by number
 

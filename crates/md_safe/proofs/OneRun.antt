@@ -1,5 +1,5 @@
 -- However many steps are allowed, the tokens are the same.
-use Rattle.std.proofs.Common.{◌≡◌, ℕ, List, ◌++◌, refl, Option, Some, None, arith}
+use Rattle.std.proofs.Common.{◌≡◌, ℕ, List, ◌++◌, Option, Some, arith}
 use Rattle.std.proofs.Common.{option_map, zero, suc}
 use Rattle.md_safe.specs.Token.{Token}
 use Rattle.md_safe.specs.TokenizerStates.{State, Step}
@@ -7,8 +7,7 @@ use Rattle.md_safe.specs.Tokenizer.{run, after_step, IsRun}
 
 pub map_some : (out : List Token) (o : Option (List Token)) (x : List Token) →
     option_map (λ later. out ++ later) o ≡ Some x → (y : List Token) × (o ≡ Some y) × (x ≡ out ++ y)
-map_some out None x e = absurd (cc e)
-map_some out (Some y) x e = (y, refl, cc)
+map_some out o x e = grind arith
 
 same_after : (n m : ℕ) → ((state : State) (input : List ℕ) (x y : List Token) → run n state input
     ≡ Some x → run m state input ≡ Some y → x ≡ y) → (s : Step) (x y : List Token) →

@@ -94,8 +94,7 @@ tail-shows content first tail h is = grind (arith, tail-all, phrasing-shows, alo
 -- ---- what matches a role's pattern may stand in its place
 
 letters-show : (usual : Role) → letters (may_show (place_for usual)) (pattern_of usual) ≡ true
-letters-show role.Flow = refl
-letters-show _ = refl
+letters-show usual = grind arith
 
 all-show : (usual : Role) (symbols : List Symbol) → Matches usual symbols →
     list_all (may_show (place_for usual)) symbols ≡ true

@@ -68,8 +68,7 @@ no_heading : (t : At) (name : Name) (x : List ℕ) → is_transparent name ≡ f
 no_heading t name x solid other = grind arith
 
 no_underline : (name : Name) → is_setext name ≡ false → is_underline name ≡ true → false ≡ true
-no_underline HeadingSetextUnderlineSequence other is = sym other
-no_underline _ other is = is
+no_underline name other is = grind arith
 
 -- what a name of no rule of its own is
 pub record IsPlain (name : Name) : Type 0 where
@@ -108,13 +107,11 @@ around-blocks {d} {w} {p} {name} waits k plain blocks b = record {
 
 no_definition : (content : Content) → may_stand content GfmFootnoteDefinition ≡ true →
     is_blocks content ≡ true
-no_definition Blocks h = refl
-no_definition _ h = lie h
+no_definition content h = grind arith
 
 none_here : (content : Content) (name : Name) → (is_transparent name || may_stand content name)
     ≡ true → is_blocks content ≡ false → named GfmFootnoteDefinition name ≡ false
-none_here content GfmFootnoteDefinition stands other = lie (sym other ∙ no_definition _ stands)
-none_here content _ stands other = refl
+none_here content name stands other = grind (arith, no_definition)
 
 -- no footnote is defined but among blocks
 pub no_footnotes : (d : Document) (content : Content) (forest : Forest) (around : Surroundings)

@@ -6,7 +6,6 @@ use Rattle.md_base.specs.declared.event.Name.{Name}
 use Rattle.md_base.specs.declared.event.Point.{Point}
 use Rattle.md_base.specs.declared.event.Position.{Position}
 use Rattle.md_text.specs.declared.line_ending.LineEnding.{LineEnding as Ending}
-use Rattle.md_text.specs.declared.line_ending.LineEnding.TheVariants.{CarriageReturnLineFeed}
 use Rattle.md_text.specs.Laws.{is_line_ends}
 use Rattle.md_text.specs.LineEnding.{ending_text}
 use Rattle.md_text.specs.Html.{Attribute, any_attribute}
@@ -40,8 +39,7 @@ IsEnding bytes place = option_map_or (λ found. is_line_ends (text_in bytes foun
 first_of_two : (bytes : List ℕ) (first second : Option Position) → IsEnding bytes first →
     IsEnding bytes second →
     IsEnding bytes (or_else first second)
-first_of_two bytes None second f g = g
-first_of_two bytes (Some place) second f g = f
+first_of_two bytes first second f g = grind arith
 
 own-ending : (bytes : List ℕ) (name : Name) (start end : Point) (children : Forest) →
     IsFit bytes name start end children → IsEnding bytes
@@ -59,8 +57,7 @@ first-is_ending bytes content (Node name start end children rest) built =
     grind (arith, first_of_two, own-ending, inner, later)
 
 default-white : (ending : Ending) → IsWhite (ending_text ending)
-default-white CarriageReturnLineFeed = (refl, refl)
-default-white _ = (refl, refl)
+default-white ending = grind arith
 
 -- the line ending that is used is white space, and escaped
 pub ending-white : (options : CompileOptions) (bytes : List ℕ) (place : Option Position) →

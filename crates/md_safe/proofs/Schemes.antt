@@ -15,7 +15,6 @@ use Rattle.md_safe.specs.Scheme.{is_control_or_space, without_leading, without_t
 use Rattle.md_safe.specs.Scheme.{is_tab_or_newline, without_newlines, is_scheme_byte, in_scheme}
 use Rattle.md_safe.specs.Scheme.{in_scheme_start, scheme_of, has_permitted_scheme}
 use Rattle.std.specs.Option.{option_map_or}
-use Rattle.md_base.proofs.Lies.{lie}
 use Rattle.md_base.specs.Identifier.{is_nonempty}
 use Rattle.md_text.specs.References.{is_escaped, read_back}
 use Rattle.md_text.specs.Safe.{is_safe_value}
@@ -120,8 +119,7 @@ letter-scheme : (b : ℕ) → is_letter b ≡ true → is_scheme_byte b ≡ true
 letter-scheme b h = or_left _ _ (or_left _ _ (or_left _ _ (or_left _ _ h)))
 
 leading-word : (q y : List ℕ) → is_word q ≡ true → without_leading (q ++ y) ≡ q ++ y
-leading-word [] y h = lie h
-leading-word (b ∷ q) y h = grind (arith, letter-control b)
+leading-word q y h = grind (arith, letter-control)
 
 trailing-word : (q r : List ℕ) → list_all is_letter q ≡ true →
     without_trailing (q ++ (58 ∷ r)) ≡ q ++ (58 ∷ without_trailing r)
@@ -152,8 +150,7 @@ scheme_of-word q r h =
     grind (arith, line_feeds-name, letters-no_return, leading-word, trailing-word, newlines-word)
 
 lowered-word : (q : List ℕ) → is_word (lowered q) ≡ true → is_word q ≡ true
-lowered-word [] h = h
-lowered-word (b ∷ q) h = lowered-letters (b ∷ q) h
+lowered-word q h = grind (arith, lowered-letters)
 
 -- ---- both
 permitted_by : (schemes : List (List ℕ)) (x : List ℕ) (o : Option (List ℕ)) →

@@ -83,8 +83,7 @@ body-prints s x back r rb = adds-body (Reads s) (HasReadingWith s.p.test)
 -- an element before the content of brackets
 pub turn-after : {Q R S : List ℕ → Type 0} {o c : List ℕ} (h : List ℕ) → Turns R S o c →
     ((x : List ℕ) → Q x → R (h ++ x)) → Turns Q S (o ++ h) c
-turn-after h bracket grows =
-    record { turn = λ x r. simp append_assoc (simp append_assoc at (bracket.turn _ (grows x r))) }
+turn-after h bracket grows = grind (arith, append_assoc)
 
 abbrev pub heading_label_of : CompileOptions → List ℕ
 heading_label_of options =

@@ -9,7 +9,7 @@ use name_variants.{GfmFootnoteCall, AutolinkEmail, AutolinkProtocol, GfmAutolink
 use name_variants.{GfmAutolinkLiteralMailto, GfmAutolinkLiteralProtocol, GfmAutolinkLiteralWww}
 use name_variants.{GfmAutolinkLiteralXmpp}
 use Rattle.md_text.proofs.EncodeLaws.{is_escaped-encoded}
-use Rattle.md_meaning.specs.Meaning.At.{At, text_in}
+use Rattle.md_meaning.specs.Meaning.At.{At}
 use Rattle.md_meaning.specs.Meaning.Layout.{Piece, layout}
 use Rattle.md_meaning.specs.Meaning.Means.{prints}
 use Rattle.md_meaning.specs.Meaning.Media.{autolink}
@@ -59,8 +59,7 @@ shown-in_image s t name e image is inner a = either (is_pair name) _ is
 -- an autolink, which is plain there
 plain-in_image : (s : Setting) (t : At) (plain : Bool) (prefix : List ℕ) → plain ≡ true →
     Prints s Escaped (autolink s.context t plain prefix)
-plain-in_image s t plain prefix is =
-    rw is (adds-text (is_escaped-encoded (text_in s.context.bytes t.place)))
+plain-in_image s t plain prefix is = grind (arith, adds-text, is_escaped-encoded)
 
 pub autolink-in_image : (s : Setting) (t : At) (name : Name) → t.around.in_image ≡ true →
     is_autolink name ≡ true → (inner : List Piece) → Prints s

@@ -1,6 +1,6 @@
 -- Spans with tags around their children, and code: what is printed of each.
 use Rattle.std.proofs.Common.{arith}
-use Rattle.std.proofs.Common.{◌≡◌, ℕ, Bool, true, false, cond, List, [], ◌∷◌, ◌++◌, refl, codes}
+use Rattle.std.proofs.Common.{◌≡◌, ℕ, Bool, true, false, cond, List, [], ◌∷◌, ◌++◌, codes}
 use Rattle.md_base.specs.declared.event.Name.{Name}
 use Rattle.md_base.specs.declared.event.Name.TheVariants as name_variants
 use name_variants.{Emphasis, Strong, GfmStrikethrough, CodeText, MathText}
@@ -43,8 +43,7 @@ code_opening math =
 pub pair-prints : (context : Context) (t : At) (name : Name) → is_pair name ≡ true →
     (inner : List Piece) → prints context t name inner ≡ span t
     (said (60 ∷ (pair_tag name ++ (62 ∷ [])))) inner (said (60 ∷ 47 ∷ (pair_tag name ++ (62 ∷ []))))
-pair-prints context t Emphasis is inner = refl
-pair-prints context t _ is inner = cc
+pair-prints context t name is inner = grind arith
 
 -- a content that is allowed in a pair of tags is allowed around it too
 pub pair-inside : (s : Setting) (t : At) (content : Content) (name : Name) → is_pair name ≡ true →
@@ -54,16 +53,14 @@ pair-inside s t content name is inner a = grind arith
 pub code-prints : (context : Context) (t : At) (name : Name) → is_code name ≡ true →
     (inner : List Piece) → prints context t name inner ≡ code t
     (code_opening (is_math name)) (layout context.ending inner)
-code-prints context t CodeText is inner = refl
-code-prints context t _ is inner = cc
+code-prints context t name is inner = grind arith
 
 -- the text of code as it is shown
 abbrev pub shown_in : At → List ℕ → List ℕ
 shown_in t x = trimmed (cond t.around.in_table (without_escapes x) x)
 
 pub shown-escaped : (t : At) (x : List ℕ) → Escaped x → Escaped (shown_in t x)
-shown-escaped t x h = trimmed-escaped (cond t.around.in_table (without_escapes x) x) (cond_both
-    t.around.in_table (without_escapes x) x Escaped (λ _. pipes-escaped x h) (λ _. h))
+shown-escaped t x h = grind (arith, trimmed-escaped, cond_both, pipes-escaped)
 
 -- the text in code
 pub code-text : (s : Setting) (t : At) (content : Content) (name : Name) →

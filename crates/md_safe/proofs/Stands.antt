@@ -51,8 +51,7 @@ contained-once nested x h =
 -- two texts that may stand somewhere may stand there as one
 say-append : (content : Content) (x y : List ℕ) → may_say content x ≡ true →
     may_say content y ≡ true → may_say content (x ++ y) ≡ true
-say-append Preformatted x y a b = a
-say-append content x y a b = grind (arith, list_all-append is_space x y)
+say-append content x y a b = grind (arith, list_all-append)
 
 contained-text_before : (nested : Bool) (content : Content) (bytes : List ℕ) (g : Forest) →
     may_say content bytes ≡ true → is_contained nested content g ≡ true →

@@ -52,8 +52,7 @@ line_ending-escaped s t h =
 
 data-prints : (context : Context) (t : At) (name : Name) → is_data name ≡ true →
     (inner : List Piece) → prints context t name inner ≡ escaped t (text_in context.bytes t.place)
-data-prints context t LineEnding is inner = lie is
-data-prints context t _ is inner = cc
+data-prints context t name is inner = grind arith
 
 other-node : (s : Setting) (t : At) (holds : List ℕ → Type 0) (name : Name) →
     IsNarrow t.around.is_escaping holds → is_text name && not (is_data name) ≡ true →

@@ -173,12 +173,10 @@ fed : (x : List ℕ) → begins_with_line_feed x ≡ true → is_nonempty (with_
 fed x h = grind (arith, eqb-true)
 
 lines-filled : (x : List ℕ) → is_nonempty x ≡ true → is_nonempty (with_line_feeds x) ≡ true
-lines-filled [] h = lie h
-lines-filled (b ∷ x) h = grind (arith, fed x)
+lines-filled x h = grind (arith, fed)
 
 read-filled : (x : List ℕ) → is_nonempty x ≡ true → is_nonempty (read_back x) ≡ true
-read-filled [] h = lie h
-read-filled (b ∷ x) h = grind arith
+read-filled x h = grind arith
 
 filled : (bytes : List ℕ) (rest : Forest) → has_whole_texts (Text bytes rest) ≡ true →
     is_nonempty (seen bytes) ≡ true

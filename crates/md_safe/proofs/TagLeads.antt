@@ -41,8 +41,7 @@ good_parts b h = grind arith
 
 pub good-no_return : (name : List ℕ) → list_all is_good_byte name ≡ true →
     list_all no_return name ≡ true
-good-no_return name h =
-    all-weaker is_good_byte no_return (λ b good. ap not (good_parts b good).no_return) name h
+good-no_return name h = grind (arith, all-weaker, good_parts)
 
 pub tag_name_step : (tag : Tag) (b : ℕ) (rest : List ℕ) → IsGoodByte b →
     step (TagName tag) (b ∷ rest) ≡ Goes [] (TagName (with_tag_name tag (b ∷ []))) rest
@@ -177,13 +176,11 @@ tag-begins is_end name r t g h =
 
 pub opens : (name r : List ℕ) → begins_tag name ≡ true →
     step TagOpen (name ++ r) ≡ Goes [] (TagName (tag_with false [] [])) (name ++ r)
-opens [] r g = lie g
-opens (b ∷ name) r g = grind arith
+opens name r g = grind arith
 
 pub closes : (name r : List ℕ) → begins_tag name ≡ true →
     step EndTagOpen (name ++ r) ≡ Goes [] (TagName (tag_with true [] [])) (name ++ r)
-closes [] r g = lie g
-closes (b ∷ name) r g = grind arith
+closes name r g = grind arith
 
 start-leads : {left : List ℕ} (name : List ℕ) (x : List Attribute) (r : List ℕ) (t : List Token) →
     is_good_name name ≡ true → are_good x ≡ true →

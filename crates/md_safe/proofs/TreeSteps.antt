@@ -16,7 +16,6 @@ use Rattle.md_safe.specs.Node.{Nodes, Open, Entry, Marker, Formatting, Mode, InB
 use Rattle.md_safe.specs.Node.{with_character, Empty as NoNode}
 use Rattle.md_safe.specs.Stack.{say}
 use Rattle.md_safe.specs.Elements.{parts, cells, sections}
-use Rattle.md_safe.specs.Formatting.{needs_reconstruction}
 use Rattle.md_safe.specs.InBody.{start_in_body, end_in_body, reconstructed, character_in_body}
 use Rattle.md_safe.specs.Construction.{character, step, run}
 use Rattle.md_safe.specs.Built.{at, is_body, AreOpen, with_characters}
@@ -92,13 +91,7 @@ end-in-body x is name uncelled none = grind arith
 -- nothing is to be reconstructed where all is open
 pub reconstructs : (x : Position) (change : Parser → Parser) → AreOpen (x.node ∷ x.others)
     x.active → reconstructed (parser_of x) change ≡ Some (change (parser_of x))
-reconstructs x change opened = past _ (by x.active opened) refl
-  where
-    by : (active : List Entry) → AreOpen (x.node ∷ x.others) active →
-        needs_reconstruction (parser_of (record x { active = active })) ≡ false
-    by [] o = refl
-    by (Marker ∷ active) o = refl
-    by (Formatting identity name attributes ∷ active) o = ap not o.0
+reconstructs x change opened = grind arith
 
 -- ---- characters
 
