@@ -1,5 +1,5 @@
 -- Names that print nothing, or only their children.
-use Rattle.std.proofs.Common.{◌≡◌, Bool, true, false, not, ◌&&◌, ◌||◌, List, [], arith}
+use Rattle.std.proofs.Common.{◌≡◌, Bool, true, false, not, ◌||◌, List, [], arith}
 use Rattle.md_base.specs.declared.event.Name.{Name}
 use Rattle.md_base.specs.declared.event.Name.TheVariants as name_variants
 use name_variants.{GfmFootnoteDefinition, GfmFootnoteDefinitionPrefix, Definition}
@@ -69,11 +69,6 @@ hidden-prints context t name is inner = grind arith
 pub silent-prints : (context : Context) (t : At) (name : Name) → is_silent name ≡ true →
     (inner : List Piece) → prints context t name inner ≡ inner
 silent-prints context t name is inner = grind arith
-
--- a name that isn't silent, or in which blocks stand, and that is no link
-abbrev is_silent_block : Name → Bool
-is_silent_block name =
-    not (is_silent name) || (is_blocks (content_of name Blocks) && not (named Link name))
 
 pub silent-block : (name : Name) → is_silent name ≡ true →
     (is_blocks (content_of name Blocks) ≡ true) × (named Link name ≡ false)
