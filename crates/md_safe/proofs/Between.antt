@@ -1,10 +1,9 @@
 -- Texts in a row, and the line endings of two of them; single texts that end in the data state, and
 -- ones that don't.
 use Rattle.std.proofs.Common.{◌≡◌, ℕ, ◌==◌, Bool, true, false, ◌&&◌, cond, List, [], ◌∷◌, ◌++◌}
-use Rattle.std.proofs.Common.{refl, ap, ◌∙◌, append-nil, append_assoc, codes, sym}
+use Rattle.std.proofs.Common.{refl, ap, ◌∙◌, append-nil, append_assoc, codes, sym, arith}
 use Rattle.md_safe.specs.Input.{begins_with_line_feed, with_line_feeds}
 use Rattle.md_safe.specs.Embedded.{splits_newline, EndsInDataState, HasTokensAfter}
-use Rattle.md_safe.specs.Embedded.{ends_with_return}
 use Rattle.md_safe.proofs.LineFeeds.{one, one-append}
 use Rattle.md_text.specs.Html.{Attribute, Forest, is_forest, written, IsReading, HasOneReadingWith}
 use Rattle.md_safe.specs.Token.{Token, EndOfFile, Character, StartTag}
@@ -33,9 +32,7 @@ line_feeds-apart (b ∷ []) r h = by (b == 13) (begins_with_line_feed r) h
     by true true h = cc
     by true false h = refl
     by false feed h = refl
-line_feeds-apart (b ∷ c ∷ x) r h =
-    ap (one b (c == 10)) (line_feeds-apart (c ∷ x) r h)
-    ∙ one-append b (c == 10) (with_line_feeds (c ∷ x)) (with_line_feeds r)
+line_feeds-apart (b ∷ c ∷ x) r h = grind (arith, one-append, line_feeds-apart (c ∷ x) r h)
 
 -- of CR LF one line feed is the first text's
 pub line_feeds-split : (x r : List ℕ) → splits_newline x (10 ∷ r) ≡ true →
@@ -48,9 +45,7 @@ line_feeds-split (b ∷ []) r h = by (b == 13) h
         ≡ cond return (10 ∷ []) (b ∷ []) ++ with_line_feeds r
     by true h = refl
     by false h = cc
-line_feeds-split (b ∷ c ∷ x) r h =
-    ap (one b (c == 10)) (line_feeds-split (c ∷ x) r h)
-    ∙ one-append b (c == 10) (with_line_feeds (c ∷ x)) (with_line_feeds r)
+line_feeds-split (b ∷ c ∷ x) r h = grind (arith, one-append, line_feeds-split (c ∷ x) r h)
 
 pub alone : (text after : List ℕ) (emits : List Token) → EndsInDataState text emits →
     splits_newline text after ≡ false →
@@ -87,8 +82,7 @@ own-tokens text emits h = rw (append-nil (with_line_feeds text)) at
 pub in_place : (f : Forest) (r : List ℕ) (t : List Token) → is_forest f ≡ true →
     begins_with_line_feed r ≡ false →
     IsTokenized r t → IsTokenized (written f ++ r) (tokens f ++ t)
-in_place f r t h n k = tokenized (written f) r (tokens f) t (forest-ends f h) (and_right
-    (ends_with_return (written f)) _ n) k
+in_place f r t h n k = grind (arith, tokenized, forest-ends, and_right)
 
 pub whole : (f : Forest) → is_forest f ≡ true →
     IsTokenized (written f) (tokens f ++ (EndOfFile ∷ []))
@@ -96,25 +90,21 @@ whole f h = own-tokens (written f) (tokens f) (forest-ends f h)
 
 pub reading-runs : (p : Attribute → Bool) (text : List ℕ) (one : HasOneReadingWith p text) →
     IsTokenized text (tokens one.forest ++ (EndOfFile ∷ []))
-reading-runs p text one =
-    own-tokens text (tokens one.forest) (reading-ends text one.forest one.reading)
+reading-runs p text one = grind (arith, own-tokens, reading-ends)
 
 -- ---- several texts
 
 pub join : (before text : List ℕ) (earlier emits : List Token) → EndsInDataState before earlier →
     EndsInDataState text emits → splits_newline before text ≡ false →
     EndsInDataState (before ++ text) (earlier ++ emits)
-join before text earlier emits h k n after = rw (line_feeds-apart before text n, append_assoc)
-    (leads-on Data _ (with_line_feeds text ++ after) after earlier emits (h (with_line_feeds text ++
-    after)) (k after))
+join before text earlier emits h k n after = grind (arith, line_feeds-apart, append_assoc, leads-on)
 
 -- a text that ends so, and one with a reading
 joined : (before text : List ℕ) (earlier : List Token) (f : Forest) →
     EndsInDataState before earlier →
     IsReading text f → splits_newline before text ≡ false →
     EndsInDataState (before ++ text) (earlier ++ tokens f)
-joined before text earlier f h reading n =
-    join before text earlier (tokens f) h (reading-ends text f reading) n
+joined before text earlier f h reading n = grind (arith, join, reading-ends)
 
 pub between : (before text after : List ℕ) (earlier : List Token) (f : Forest) →
     EndsInDataState before earlier →

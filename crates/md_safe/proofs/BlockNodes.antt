@@ -1,9 +1,8 @@
 -- Names that print nothing, or only their children.
-use Rattle.std.proofs.Common.{◌≡◌, Bool, true, false, not, ◌&&◌, ◌||◌, List, [], refl}
-use Rattle.std.proofs.lemmas.Bool.{and_parts, not-true}
+use Rattle.std.proofs.Common.{◌≡◌, Bool, true, false, not, ◌||◌, List, [], arith}
 use Rattle.md_base.specs.declared.event.Name.{Name}
 use Rattle.md_base.specs.declared.event.Name.TheVariants as name_variants
-use name_variants.{LineEnding, GfmFootnoteDefinition, GfmFootnoteDefinitionPrefix, Definition}
+use name_variants.{GfmFootnoteDefinition, GfmFootnoteDefinitionPrefix, Definition}
 use name_variants.{CodeFencedFenceMeta, MathFlowFenceMeta, HeadingSetextText, GfmTable}
 use name_variants.{GfmTableHead, GfmTableBody, GfmTableRow, GfmTableCell, Frontmatter, Link}
 use name_variants.{Resource, ReferenceString}
@@ -19,7 +18,6 @@ use Rattle.md_safe.proofs.Insides.{is_blocks}
 use Rattle.md_safe.proofs.StringNodes.{is_text}
 use Rattle.md_safe.proofs.SpanNodes.{is_shown}
 use Rattle.md_safe.proofs.FlowNodes.{Reads, is_flow, is_leaf}
-use Rattle.md_base.proofs.Lies.{lie}
 
 -- what prints nothing of its children
 abbrev pub is_hidden : Name → Bool
@@ -65,26 +63,13 @@ holds-none s = s.p.plain [] (nothing s.p.test)
 -- these print nothing
 pub hidden-prints : (context : Context) (t : At) (name : Name) → is_hidden name ≡ true →
     (inner : List Piece) → prints context t name inner ≡ []
-hidden-prints context t LineEnding is inner = lie is
-hidden-prints context t _ is inner = cc
+hidden-prints context t name is inner = grind arith
 
 -- these print their children
 pub silent-prints : (context : Context) (t : At) (name : Name) → is_silent name ≡ true →
     (inner : List Piece) → prints context t name inner ≡ inner
-silent-prints context t LineEnding is inner = lie is
-silent-prints context t _ is inner = cc
-
--- a name that isn't silent, or in which blocks stand, and that is no link
-abbrev is_silent_block : Name → Bool
-is_silent_block name =
-    not (is_silent name) || (is_blocks (content_of name Blocks) && not (named Link name))
-
-silent-blocks : (name : Name) → is_silent_block name ≡ true
-silent-blocks Link = refl
-silent-blocks _ = refl
+silent-prints context t name is inner = grind arith
 
 pub silent-block : (name : Name) → is_silent name ≡ true →
     (is_blocks (content_of name Blocks) ≡ true) × (named Link name ≡ false)
-silent-block name is =
-    let parts = and_parts _ _ (rw is at (silent-blocks name)) in
-    (parts.0, not-true _ parts.1)
+silent-block name is = grind arith

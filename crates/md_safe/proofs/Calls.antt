@@ -1,10 +1,9 @@
 -- Calls and the ways back to them have readings, as they are printed.
 use Rattle.std.proofs.Common.{◌≡◌, ℕ, ◌==◌, zero, suc, Bool, true, not, ◌&&◌, cond, List, [], ◌∷◌}
 use Rattle.std.proofs.Common.{◌++◌, refl, subst, append_assoc, codes, arith}
-use Rattle.std.specs.Prelude.{Option, Some, None, option_map, string_bytes}
+use Rattle.std.specs.Prelude.{Option, option_map, string_bytes}
 use Rattle.std.specs.Fmt.{decimal}
 use Rattle.std.proofs.lemmas.Bool.{cond_both}
-use Rattle.md_text.specs.Url.{sanitized}
 use Rattle.md_text.specs.Html.{Attribute, HasReadingWith, is_tag, elements}
 use Rattle.md_text.proofs.EncodeLaws.{is_escaped-encoded}
 use Rattle.md_text.proofs.EscapedLemmas.{escaped-append, sanitized-escaped}
@@ -20,13 +19,11 @@ use Rattle.md_safe.proofs.Tags.{IsTest, attribute, Tagged, adds-flat}
 -- a text of the options, escaped
 option-escaped : (text : Option (List ℕ)) (unset : List ℕ) → Escaped unset →
     Escaped (option_or text unset)
-option-escaped None unset h = h
-option-escaped (Some x) unset h = is_escaped-encoded x
+option-escaped text unset h = grind (arith, is_escaped-encoded)
 
 pub label-escaped : (options : CompileOptions) →
     Escaped (option_or (option_map string_bytes options.gfm_footnote_label) (codes "Footnotes"))
-label-escaped options =
-    option-escaped (option_map string_bytes options.gfm_footnote_label) (codes "Footnotes") refl
+label-escaped options = grind (arith, option-escaped)
 
 -- the required prefix of ids, and their prefix
 abbrev pub prefix_given : CompileOptions → Option (List ℕ)
@@ -38,11 +35,7 @@ id_prefix options = option_or (prefix_given options) (codes "user-content-")
 pub id-escaped : (options : CompileOptions) (kind identifier : List ℕ) (number : ℕ) → Escaped kind →
     Escaped (id_of options kind identifier number)
 id-escaped options kind identifier number h =
-    let own : List ℕ =
-    cond options.gfm_footnote_number_ids (decimal number) (sanitized identifier) in
-    let e : Escaped own = grind (arith, decimal-escaped number, sanitized-escaped identifier) in
-    escaped-append (id_prefix options) (kind ++ own) (option-escaped (prefix_given options) (codes
-    "user-content-") refl) (escaped-append kind own h e)
+    grind (arith, decimal-escaped, sanitized-escaped, escaped-append, option-escaped)
 
 pub call_id-escaped : (options : CompileOptions) (identifier : List ℕ) (number occurrence : ℕ) →
     Escaped (call_id options identifier number occurrence)
@@ -157,13 +150,9 @@ pub backreferences-read : {test : Attribute → Bool} {Q R : List ℕ → Type 0
     Tagged test Q R (codes "a") → Tagged test Q Q (codes "sup") →
     (identifier : List ℕ) (number count : ℕ) → R (backreferences options identifier number count)
 backreferences-read known inside around a sup identifier number zero = around.text [] refl
-backreferences-read {options = options} known inside around a sup identifier number (suc count) =
-    around.both (backreferences options identifier number count) ((cond (count == 0) [] (32 ∷ []))
-    ++ backreference options identifier number (suc count)) (backreferences-read known inside around
-    a sup identifier number count) (around.both (cond (count == 0) [] (32 ∷ []))
-    (backreference options identifier number (suc count)) (around.text
-    (cond (count == 0) [] (32 ∷ [])) (cond_both (count == 0) [] (32 ∷ []) Escaped (λ _. refl)
-    (λ _. refl))) (backreference-read known inside a sup identifier number (suc count)))
+backreferences-read known inside around a sup identifier number (suc count) =
+    let earlier = backreferences-read known inside around a sup identifier number count in
+    grind (arith, cond_both, backreference-read, earlier)
 
 -- of what has a reading
 pub reads-text : (test : Attribute → Bool) → IsText (HasReadingWith test)

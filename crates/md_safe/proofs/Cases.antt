@@ -23,13 +23,11 @@ OnSome P (Some x) = P x
 
 pub on-later : {A : Type 0} (P : A → Type 0) (first later : Option A) → OnSome P first →
     OnSome P later → OnSome P (or_else later first)
-on-later P first None f g = f
-on-later P first (Some x) f g = g
+on-later P first later f g = grind arith
 
 pub on-either : {A : Type 0} (P : A → Type 0) (found : Option A) (before : A) → OnSome P found →
     P before → P (unwrap_or found before)
-on-either P None before f g = g
-on-either P (Some x) before f g = f
+on-either P found before f g = grind arith
 
 pub one_of-passes : (p : List ℕ → Bool) (listed : List (List ℕ)) (name : List ℕ) →
     list_all p listed ≡ true → is_one_of listed name ≡ true → p name ≡ true

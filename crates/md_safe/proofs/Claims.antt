@@ -1,10 +1,9 @@
 -- Claims about texts, one for each content: the lemmas on nodes take them as a parameter. And what
 -- is known where a node stands, and of what its children print.
-use Rattle.std.proofs.Common.{◌≡◌, ℕ, Bool, true, false, cond, List, [], ◌∷◌, ◌++◌, refl}
+use Rattle.std.proofs.Common.{◌≡◌, ℕ, Bool, true, false, cond, List, [], ◌∷◌, ◌++◌, refl, arith}
 use Rattle.std.proofs.Common.{subst, append-nil, codes}
 use Rattle.std.proofs.lemmas.Bool.{cond_both}
 use Rattle.std.specs.List.{flat_map}
-use Rattle.md_base.proofs.Lies.{lie}
 use Rattle.md_base.specs.declared.event.Name.{Name}
 use Rattle.md_base.specs.declared.event.Name.TheVariants as name_variants
 use name_variants.{Link}
@@ -21,7 +20,7 @@ use Rattle.md_meaning.specs.Meaning.Means.{prints}
 use Rattle.md_meaning.specs.Meaning.Tables.{cell_of}
 use Rattle.md_content.specs.Built.{Blocks, content_of}
 use Rattle.md_content.specs.Underlined.{is_underline}
-use Rattle.md_safe.specs.Contents.{Content, Phrasing, Linked, Flow, Characters, Cells, may_say}
+use Rattle.md_safe.specs.Contents.{Content, Phrasing, Flow, Characters, Cells, may_say}
 use Rattle.md_safe.specs.Contents.{voids_in}
 use Rattle.md_safe.specs.Links.{prints_link}
 use Rattle.md_safe.proofs.Insides.{is_blocks}
@@ -151,9 +150,7 @@ pub record AreSpans (nested : Bool) (content : Content) : Type 0 where
 
 pub are-spans : (nested : Bool) (content : Content) → is_spans content ≡ true →
     AreSpans nested content
-are-spans nested Phrasing is = search
-are-spans nested Linked is = search
-are-spans nested _ is = lie is
+are-spans nested content is = grind arith
 
 -- where spans stand: what is known of them, what children print, that of a link too, and of a node
 -- that prints a link that it may

@@ -1,11 +1,10 @@
 -- The content model allows the meaning of a document's nodes: what pieces add to a text stands as
 -- some content; one induction over blocks, in addition to that of `Forests`, which covers strings,
 -- code and images.
-use Rattle.std.proofs.Common.{◌≡◌, ℕ, Bool, true, List, [], ◌++◌, refl, false, sym, ◌||◌, cond, ◌∷◌}
-use Rattle.std.proofs.Common.{ap, ◌∙◌, subst, append-nil}
-use Rattle.md_meaning.specs.Meaning.Layout.{Piece, layout, when}
+use Rattle.std.proofs.Common.{◌≡◌, ℕ, Bool, true, List, [], ◌++◌, refl, false, sym, ◌||◌, cond}
+use Rattle.std.proofs.Common.{ap, ◌∙◌, subst, append-nil, arith}
+use Rattle.md_meaning.specs.Meaning.Layout.{Piece, layout}
 use Rattle.md_safe.proofs.Laid.{Adds, adds-append, adds-weaker, adds-nothing, adds-needed}
-use Rattle.md_safe.proofs.Laid.{adds-alone}
 use Rattle.md_safe.specs.Contents.{Content, Phrasing, Flow}
 use Rattle.md_safe.proofs.Stands.{Stands, stands-join, stands-nothing, stands-white, takes-white}
 use Rattle.md_safe.proofs.Stands.{IsWhite, is_spaced, white_beside, line_ends-white, stands-text}
@@ -23,13 +22,13 @@ use Rattle.md_safe.proofs.Elements.{adds-empty_cells}
 use Rattle.std.specs.Prelude.{Option}
 use Rattle.md_base.proofs.Lies.{lie}
 use Rattle.md_base.specs.declared.event.Name.TheVariants as name_variants
-use name_variants.{Other, BlockQuotePrefix, SpaceOrTab, HeadingSetextText, GfmFootnoteDefinition}
+use name_variants.{GfmFootnoteDefinition}
 use Rattle.md_base.specs.Is.{is as named}
 use Rattle.md_base.specs.NameTests.{is_transparent}
 use Rattle.md_meaning.specs.Meaning.At.{Footnote, At, Before, identifier_of}
 use Rattle.md_meaning.specs.Meaning.Nodes.{Outcome, found_at, node, before_next, outcome}
 use Rattle.md_safe.proofs.Findings.{AreTexts, AreFound, texts-append}
-use Rattle.md_safe.specs.Placed.{Block, sort_of, may_stand as may_place, IsPlaced}
+use Rattle.md_safe.specs.Placed.{sort_of, may_stand as may_place, IsPlaced}
 use Rattle.md_safe.proofs.Cases.{OnSome, on-later, on-either, cases}
 use Rattle.std.proofs.lemmas.Bool.{cond_both}
 use Rattle.md_base.specs.Tree.{Forest, Empty, Node}
@@ -104,31 +103,19 @@ IsHeading nested found = OnSome (Stands nested Phrasing) found
 abbrev pub AreFlow : (nested : Bool) → List Footnote → Type 0
 AreFlow nested footnotes = AreTexts (Stands nested Flow) footnotes
 
--- blocks stand in flow content
-block-flow : (content : Content) → may_place (with_links content) Block ≡ true → content ≡ Flow
-block-flow Flow h = refl
-block-flow _ h = lie h
-
 -- what a node that isn't transparent adds to the spine
 pub heading-found : (nested : Bool) (d : Document) (content : Content) (name : Name) (t : At)
     (inner : Outcome) → is_transparent name ≡ false → may_place (with_links content) (sort_of name)
     ≡ true → Own nested d content name inner.pieces → IsHeading nested (found_at t
     name (layout d.context.ending inner.pieces)).heading
-heading-found nested d content HeadingSetextText t inner solid stands a =
-    adds-alone (rw (block-flow content stands) at (a refl))
-heading-found nested d content (Other number) t inner solid stands a = lie (sym solid)
-heading-found nested d content BlockQuotePrefix t inner solid stands a = lie (sym solid)
-heading-found nested d content SpaceOrTab t inner solid stands a = lie (sym solid)
-heading-found nested d content _ t inner solid stands a = tt
+heading-found nested d content name t inner solid stands a = grind arith
 
 -- the text of a footnote
 pub note-found : (nested : Bool) (d : Document) (content : Content) (name : Name)
     (inner : Outcome) → named GfmFootnoteDefinition name ≡ true →
     may_place (with_links content) (sort_of name) ≡ true → Own nested d content name inner.pieces →
     Stands nested Flow (layout d.context.ending inner.pieces)
-note-found nested d content GfmFootnoteDefinition inner is stands a =
-    adds-alone (rw (block-flow content stands) at (a refl))
-note-found nested d content _ inner is stands a = lie is
+note-found nested d content name inner is stands a = grind arith
 
 -- what nodes mean, where their content stands
 pub record Means (nested : Bool) (d : Document) (content : Content) (means : Outcome) : Type 0 where
@@ -140,12 +127,7 @@ pub record Means (nested : Bool) (d : Document) (content : Content) (means : Out
 through : {nested : Bool} {d : Document} {content : Content} {inner : Outcome} (name : Name)
     (t : At) → is_transparent name ≡ true → t.found ≡ inner.found → Means nested d content inner →
     Means nested d content (node d.context t name inner)
-through {d =
-    d} {inner = inner} name t is same m = rw (through-node d.context t name inner is same) (record {
-      prints = m.prints;
-      heading = m.heading;
-      texts = rw append-nil m.texts;
-    })
+through name t is same m = grind (arith, through-node, append-nil)
 
 -- what is known where some nodes stand
 pub record Fits (nested : Bool) (d : Document) (around : Surroundings) (before : Before)
@@ -178,11 +160,7 @@ solid-means {nested = nested} {d = d} {content = content} {name = name} {t = t} 
       prints = solid-node (standing nested d white) t content name solid whole stands inner.pieces k
           own-prints g;
       heading = heading-found nested d content name t inner solid stands own-prints;
-      texts = texts-append (Stands nested Flow) inner.footnotes
-          (when (named GfmFootnoteDefinition name) (noted ∷ []))
-          (inner-texts (is_blocks (content_inside Blocks name)) refl) (cond_both
-          (named GfmFootnoteDefinition name) (noted ∷ []) [] (AreFlow nested) (λ is.
-          (note-found nested d content name inner is stands own-prints, tt)) (λ _. tt));
+      texts = grind (arith, texts-append, inner-texts, cond_both, note-found);
     }
   where
     same : is_blocks (content_inside Blocks name) ≡ is_blocks (content_of name Blocks)
@@ -211,11 +189,7 @@ any-node nested d white content name t inner same k stands placed own none g =
 pub means : (nested : Bool) (d : Document) (forest : Forest) (around : Surroundings)
     (before : Before) (content : Content) → Fits nested d around before content forest →
     Means nested d content (outcome d.context around before forest)
-means nested d Empty around before content f = record {
-  prints = adds-nothing stands-nothing;
-  heading = tt;
-  texts = tt;
-}
+means nested d Empty around before content f = grind (arith, adds-nothing, stands-nothing)
 means nested d (Node name start end children rest) around before content f =
     let around' : Surroundings = inside d.context.options (is_loose children) name around in
     let before' : Before = before_children name children before in
@@ -275,9 +249,7 @@ means nested d (Node name start end children rest) around before content f =
     }) in
     record {
       prints = lays-both one.prints later.prints;
-      heading = on-later (Stands nested Phrasing) here.found.heading others.found.heading
-          one.heading
-          later.heading;
+      heading = grind (arith, on-later);
       texts = texts-append (Stands nested Flow) here.footnotes others.footnotes one.texts
           later.texts;
     }

@@ -1,7 +1,7 @@
 -- The section of footnotes is flow content: its heading, its items and their ways back, which the
 -- last paragraph of flow content takes before its end.
-use Rattle.std.proofs.Common.{◌≡◌, ℕ, Bool, ◌==◌, true, false, List, [], ◌∷◌, ◌++◌, refl, sym, ap}
-use Rattle.std.proofs.Common.{◌∙◌, subst, append_assoc, append-nil, codes}
+use Rattle.std.proofs.Common.{◌≡◌, ℕ, Bool, ◌==◌, true, List, [], ◌∷◌, ◌++◌, refl, sym, ap}
+use Rattle.std.proofs.Common.{◌∙◌, subst, append_assoc, append-nil, codes, arith}
 use Rattle.std.proofs.lemmas.Bool.{and_parts, and_from}
 use Rattle.md_base.proofs.Lies.{lie}
 use Rattle.md_text.specs.Laws.{is_line_ends}
@@ -80,11 +80,7 @@ element-whole name attributes children rest = simp append_assoc
 stands-forest : (nested : Bool) (content : Content) (f : Forest) → is_forest f ≡ true →
     is_contained nested content f ≡ true →
     Stands nested content (written f)
-stands-forest nested content f h c = record {
-  forest = f;
-  reading = record { in_grammar = h; written_so = refl };
-  contained = c;
-}
+stands-forest nested content f h c = grind arith
 
 cuts : (nested : Bool) (x : List ℕ) → IsMade x (λ f y. is_contained nested Flow f ≡ true → Cut
     nested x f y)
@@ -144,12 +140,7 @@ same-end (m ∷ a) (n ∷ b) c d x e f = same-end a b c d x (rest_of e) (rest_of
 paragraph-name : (nested : Bool) (name : List ℕ) (children : Forest) (endings rest : List ℕ) →
     112 ∷ 62 ∷ endings ≡ name ++ (62 ∷ rest) → is_held nested Flow name children ≡ true →
     name ≡ codes "p"
-paragraph-name nested [] children endings rest e h = lie (ap (λ n. n == 62) (first_of e))
-paragraph-name nested (b ∷ []) children endings rest e h = ap (λ b. b ∷ []) (sym (first_of e))
-paragraph-name nested (b ∷ c ∷ name) children endings rest e h =
-    lie (subst (λ c. is_held nested Flow (112 ∷ c ∷ name) children ≡ true)
-    (sym (first_of (rest_of e)))
-    (subst (λ b. is_held nested Flow (b ∷ c ∷ name) children ≡ true) (sym (first_of e)) h))
+paragraph-name nested name children endings rest e h = grind arith
 
 pub paragraph-takes : (nested : Bool) (before endings x : List ℕ) → is_line_ends endings ≡ true →
     Stands nested Flow (before ++ codes "</p>" ++ endings) → Stands nested Phrasing (32 ∷ x) →
@@ -183,13 +174,11 @@ paragraph-takes nested before endings x h s r =
     (stands-forest nested Flow cut.rest cut.rest_forest cut.rest_contained)))
 
 sup-opens : (nested : Bool) → Opens nested (in_link nested) (in_link nested) (codes "sup")
-sup-opens true = refl
-sup-opens false = refl
+sup-opens nested = grind arith
 
 -- an escaped text in a link
 linked-text : (nested : Bool) (x : List ℕ) → Escaped x → Stands nested (in_link nested) x
-linked-text true x h = stands-text h refl
-linked-text false x h = stands-text h refl
+linked-text nested x h = grind (arith, stands-text)
 
 pub backreferences-stand : (nested : Bool) (d : Document) (identifier : List ℕ) (number count : ℕ) →
     Stands nested Phrasing (backreferences d.context.options identifier number count)

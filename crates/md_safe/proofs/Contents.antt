@@ -1,11 +1,9 @@
 -- What holds of the text of each content, in which surroundings it stands and after which names.
-use Rattle.std.proofs.Common.{◌≡◌, ℕ, Bool, true, false, cond, List, [], ◌∷◌, ◌++◌, refl, sym, ap}
-use Rattle.std.proofs.Common.{inl}
+use Rattle.std.proofs.Common.{◌≡◌, ℕ, Bool, true, false, cond, List, [], ◌∷◌, ◌++◌, refl, ap}
+use Rattle.std.proofs.Common.{arith}
 use Rattle.std.specs.List.{list_any}
 use Rattle.std.proofs.lemmas.Bool.{cond_both}
-use Rattle.md_base.proofs.Lies.{lie}
 use Rattle.md_base.specs.declared.event.Name.{Name}
-use Rattle.md_text.proofs.HtmlJoin.{nothing}
 use Rattle.md_base.specs.Tree.{Forest, Empty, Node}
 use Rattle.md_base.specs.NameTests.{is_transparent, is_fence as fence_name}
 use Rattle.md_base.specs.Children.{spine_names}
@@ -51,12 +49,7 @@ is_first _ = false
 
 pub holds-nothing : (p : Claim) (escaping in_image : Bool) (content : Content) →
     is_first content ≡ false → Holds p escaping in_image content []
-holds-nothing p escaping in_image Blocks h = p.plain [] (nothing p.test)
-holds-nothing p escaping in_image FirstFence h = lie (sym h)
-holds-nothing p escaping in_image FirstMathFence h = lie (sym h)
-holds-nothing p escaping in_image InfoAndMeta h = inl refl
-holds-nothing p escaping in_image Done h = inl refl
-holds-nothing p escaping in_image _ h = search
+holds-nothing p escaping in_image content h = grind arith
 
 -- what stays after each name stays after nodes
 pub stays-after : (Q : Content → Type 0) → ((content : Content) (name : Name) → Q content → Q
@@ -75,5 +68,4 @@ blocks-stay forest = stays-after (λ content. content ≡ Blocks)
 -- after each node in blocks the content is still blocks
 pub after-blocks : (name : Name) (children : Forest) → content_after_node Blocks name
     children ≡ Blocks
-after-blocks name children =
-    cond_both _ _ _ (λ c. c ≡ Blocks) (λ _. blocks-stay children) (λ _. refl)
+after-blocks name children = grind (arith, cond_both, blocks-stay)

@@ -1,9 +1,8 @@
 -- How often an id stands in what is printed: what is claimed of texts and of footnotes. What a node
 -- costs: how often an id stands in what it prints, as often as calls have it at most.
-use Rattle.std.proofs.Common.{◌≡◌, ℕ, ◌+◌, ◌≤◌, Bool, true, false, not, ◌&&◌, List, [], ◌∷◌, ◌++◌}
-use Rattle.std.proofs.Common.{refl, subst, arith, codes, ap, cond, ◌∙◌, append-nil}
-use Rattle.std.specs.Prelude.{bytes_eq, unwrap_or}
-use Rattle.std.proofs.lemmas.Bool.{and_parts, not-true}
+use Rattle.std.proofs.Common.{◌≡◌, ℕ, ◌+◌, ◌≤◌, Bool, true, false, List, [], ◌∷◌, ◌++◌}
+use Rattle.std.proofs.Common.{refl, subst, arith, codes, append-nil}
+use Rattle.std.specs.Prelude.{unwrap_or}
 use Rattle.md_text.specs.References.{read_back}
 use Rattle.md_text.specs.Html.{Attribute, is_tag, elements, any_attribute}
 use Rattle.md_text.proofs.HtmlJoin.{text, nothing}
@@ -17,10 +16,9 @@ use Rattle.md_meaning.specs.Meaning.At.{Footnote, Context, Before, At, identifie
 use Rattle.md_safe.proofs.Tags.{Claim, reading, IsTest, attribute}
 use Rattle.md_safe.proofs.Texts.{Escaped}
 use Rattle.md_safe.proofs.Calls.{a_call, call_text, call-regrouped}
-use Rattle.md_base.proofs.Lies.{lie}
 use Rattle.md_base.specs.declared.event.Name.{Name}
 use Rattle.md_base.specs.declared.event.Name.TheVariants as name_variants
-use name_variants.{Other, BlockQuotePrefix, SpaceOrTab, GfmFootnoteDefinition, GfmFootnoteCall}
+use name_variants.{GfmFootnoteDefinition, GfmFootnoteCall}
 use Rattle.md_base.specs.declared.event.Point.{Point}
 use Rattle.md_base.specs.Is.{is as named}
 use Rattle.md_base.specs.Tree.{Forest}
@@ -54,14 +52,7 @@ counting w n = record {
 -- the test on attributes in such a claim
 pub without-test : (w : List ℕ) (options : CompileOptions) → options.allow_dangerous_html ≡ false →
     IsTest (is_without w) options
-without-test w options html = record {
-  other = λ name value h. ap (λ b. not (b && bytes_eq (read_back value) w)) (not-true (bytes_eq name
-      (codes "id")) (and_parts _ _ (and_parts _ _ h).1).1);
-  link = λ destination. refl;
-  anchor = λ rest. refl;
-  image = λ destination. refl;
-  html = html;
-}
+without-test w options html = grind arith
 
 -- a heading that waits for its underline has an id at most so often
 abbrev pub Waiting : List ℕ → Bool → ℕ → List ℕ → Type 0
@@ -166,10 +157,7 @@ due d w before calls = occurs w (ids_after d.context.options d.context.calls bef
 
 pub due-append : (d : Document) (w : List ℕ) (before xs ys : List (List ℕ)) →
     due d w before (xs ++ ys) ≡ due d w before xs + due d w (before ++ xs) ys
-due-append d w before xs ys =
-    ap (occurs w) (ids-append d.context.options d.context.calls before xs ys)
-    ∙ occurs-append w (ids_after d.context.options d.context.calls before xs)
-    (ids_after d.context.options d.context.calls (before ++ xs) ys)
+due-append d w before xs ys = grind (arith, ids-append, occurs-append)
 
 -- what is printed has the id so often, the heading that waits after it so often, and footnotes so
 -- often: together at most so often as the heading that waits before it, and as calls
@@ -253,30 +241,9 @@ pub through-node : (context : Context) (t : At) (name : Name) (inner : Outcome) 
       footnotes = inner.footnotes ++ [];
       slurps = (node context t name inner).slurps;
     }
-through-node context t (Other number) inner is same =
-    ap (λ found. record (node context t (Other number) inner) { found = found }) same
-through-node context t BlockQuotePrefix inner is same =
-    ap (λ found. record (node context t BlockQuotePrefix inner) { found = found }) same
-through-node context t SpaceOrTab inner is same =
-    ap (λ found. record (node context t SpaceOrTab inner) { found = found }) same
-through-node context t _ inner is same = lie is
+through-node context t name inner is same = grind arith
 
 pub through-spent : (d : Document) (w : List ℕ) (p : Place) (name : Name) (waits : Bool) (m : ℕ) →
     is_transparent name ≡ true → Below d w p name waits m →
     Costs d w p.before m (waits_after waits p.children) (here_of d p name)
-through-spent d w p name waits m is b =
-    rw (through-node d.context (at_of d p name) name (inner_of d p name) is refl) (record {
-      body = b.body;
-      left = b.left;
-      notes = b.notes;
-      prints = b.prints;
-      heading = subst (λ through. Waiting w (waits_after waits p.children) b.left
-          (unwrap_or (inner_of d p name).found.heading (cond through p.before.heading []))) is
-          b.heading;
-      texts = rw append-nil b.texts;
-      few = omega (
-        b.few,
-        ap (due d w p.before.calls) (append-nil (inner_of d p name).calls),
-        arith,
-      );
-    })
+through-spent d w p name waits m is b = grind (arith, through-node, append-nil)

@@ -242,9 +242,7 @@ spent d w (Node name start end children rest) around before waits m f h =
       body = one.body + later.body;
       left = later.left;
       notes = one.notes + later.notes;
-      prints = adds-append {f = Counts w one.body} {g = Counts w later.body}
-          {h = Counts w (one.body + later.body)} (counts-join w one.body later.body) one.prints
-          later.prints;
+      prints = grind (arith, adds-append, counts-join);
       heading = subst (Waiting w (waits_after waits' rest) later.left) (heading-both
           others.found.heading here.found.heading) later.heading;
       texts = texts-append w one.notes later.notes here.footnotes others.footnotes one.texts

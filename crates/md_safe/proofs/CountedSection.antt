@@ -1,6 +1,6 @@
 -- How often an id stands in the section of footnotes, and in a document: at most once.
 use Rattle.std.proofs.Common.{◌≡◌, ℕ, ◌+◌, ◌≤◌, ◌<◌, ◌^◌, true, false, List, [], ◌∷◌, ◌++◌, length}
-use Rattle.std.proofs.Common.{refl, sym, ap, ◌∙◌, subst, arith, append_assoc, codes, bytes_eq}
+use Rattle.std.proofs.Common.{refl, sym, ap, subst, arith, append_assoc, codes, bytes_eq}
 use Rattle.std.specs.Prelude.{Some, find}
 use Rattle.std.specs.Option.{option_map_or}
 use Rattle.std.proofs.lemmas.Bool.{or_parts, cond_both}
@@ -61,13 +61,7 @@ for-others : (w : List ℕ) (n : ℕ) (footnote : Footnote) (footnotes : List Fo
     TextsFor w n footnotes identifiers → TextsFor w n (footnote ∷ footnotes) identifiers
 for-others w n footnote footnotes [] none h = tt
 for-others w n footnote footnotes (identifier ∷ others) none h =
-    let parts = or_parts _ _ none in (
-      h.0,
-      h.1,
-      h.2,
-      rw (bytes_eq-sym footnote.identifier identifier ∙ parts.0) h.3,
-      for-others w h.1 footnote footnotes others parts.1 h.4,
-    )
+    grind (arith, or_parts, bytes_eq-sym, for-others w h.1 footnote footnotes others)
 
 -- one footnote more
 for-one : (w : List ℕ) (m k : ℕ) (footnote : Footnote) (footnotes : List Footnote)

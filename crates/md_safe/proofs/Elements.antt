@@ -1,13 +1,13 @@
 -- The tags of blocks, of code, of tasks, of lists and of cells around what they hold: each keeps
 -- the claim.
-use Rattle.std.proofs.Common.{◌≡◌, ◌≢◌, ◌⊎◌, ℕ, ◌≤◌, ◌<◌, ◌==◌, Bool, true, false, not, cond, List}
-use Rattle.std.proofs.Common.{[], ◌∷◌, ◌++◌, refl, ap, ◌∙◌, inl, inr, arith}
-use Rattle.std.proofs.Common.{append_assoc, codes, ne_eqb}
+use Rattle.std.proofs.Common.{◌≡◌, ◌⊎◌, ℕ, ◌≤◌, ◌<◌, ◌==◌, Bool, true, false, not, cond, List}
+use Rattle.std.proofs.Common.{[], ◌∷◌, ◌++◌, refl, ap, inl, inr, arith}
+use Rattle.std.proofs.Common.{append_assoc, codes}
 use Rattle.std.specs.Prelude.{Option, Some, None, bytes_eq, Option, Some, None}
 use Rattle.std.specs.Option.{option_map_or}
 use Rattle.std.specs.List.{list_all, flat_map, list_all}
 use Rattle.std.specs.Fmt.{decimal}
-use Rattle.std.proofs.lemmas.Bool.{agree_below, agree_below_at, not_from_false}
+use Rattle.std.proofs.lemmas.Bool.{agree_below}
 use Rattle.md_base.specs.declared.event.Position.{Position}
 use Rattle.md_text.specs.Html.{Attribute, Attribute}
 use Rattle.md_text.specs.declared.options.CompileOptions.{CompileOptions}
@@ -35,11 +35,7 @@ heading_name rank = 104 ∷ decimal rank
 -- a test of each of these ranks
 pub ranked : (test : ℕ → Bool) → agree_below test (λ rank. not (rank == 0)) 7 ≡ true →
     (rank : ℕ) → (1 ≤ rank) × (rank ≤ 6) → test rank ≡ true
-ranked test agree rank h =
-    let below : rank < 7 = omega (arith, h.1) in
-    let some : rank ≢ 0 = (λ e. omega (arith, h.0, e)) in
-    agree_below_at test (λ rank. not (rank == 0)) 7 rank agree below
-    ∙ not_from_false (rank == 0) (ne_eqb rank 0 some)
+ranked test agree rank h = grind arith
 
 -- the opening of a list, between pieces
 record IsOpening (W Q R : List ℕ → Type 0) (ending close : List ℕ)
@@ -90,8 +86,7 @@ adds-ordered {W} {Q} {R} beside takes stays context h known turns at {inner} fit
 -- the end of an item, on a line of its own or not
 pub item-end : {W : List ℕ → Type 0} {ending : List ℕ} → IsBeside W → W ending → (ends : Bool) →
     Adds ending (IsFramed W (codes "</li>")) ((cond ends [] (Needed ∷ [])) ++ said (codes "</li>"))
-item-end beside h true = framed-text beside
-item-end beside h false = framed-needed beside h
+item-end beside h ends = grind (arith, framed-text, framed-needed)
 
 pub class-passes : {test : Attribute → Bool} {options : CompileOptions} → IsTest test options →
     (value : List ℕ) → list_all test (attribute (codes "class") value ∷ []) ≡ true

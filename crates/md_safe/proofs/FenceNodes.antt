@@ -1,10 +1,9 @@
 -- The nodes of code and math in lines print what may stand there: fences, and lines between them.
-use Rattle.std.proofs.Common.{◌≡◌, ℕ, Bool, true, false, not, List, [], ◌∷◌, ◌++◌, refl, sym}
-use Rattle.std.proofs.Common.{ap, ◌∙◌, subst, inl, append_assoc, append-nil, codes}
+use Rattle.std.proofs.Common.{◌≡◌, ℕ, Bool, true, false, not, List, [], ◌∷◌, ◌++◌, refl, sym, arith}
+use Rattle.std.proofs.Common.{ap, ◌∙◌, inl, append_assoc, append-nil, codes}
 use Rattle.std.specs.List.{list_any}
 use Rattle.md_base.proofs.Lies.{lie}
 use Rattle.md_base.specs.declared.event.Name.{Name}
-use Rattle.md_base.specs.declared.event.Name.TheVariants.{LineEnding}
 use Rattle.md_base.specs.NameTests.{is_fence as fence_name}
 use Rattle.md_pattern.specs.Looseness.{is_loose}
 use Rattle.md_meaning.specs.Meaning.Inherited.{inside}
@@ -43,20 +42,16 @@ begun s false {holds} {later = later} {inner} {rest} both e a b = rw append_asso
 fence-prints : (context : Context) (t : At) (name : Name) → fence_name name ≡ true →
     (inner : List Piece) → prints context t name inner ≡ inner ++ when
     (is_first_fence t) (said (codes ">"))
-fence-prints context t LineEnding is inner = lie is
-fence-prints context t _ is inner = cc
+fence-prints context t name is inner = grind arith
 
 in-code : (name : Name) → is_code_fence name ≡ true → content_of name FirstFence ≡ InfoAndMeta
-in-code LineEnding is = lie is
-in-code _ is = cc
+in-code name is = grind arith
 
 in-math : (name : Name) → is_math_fence name ≡ true → content_of name FirstMathFence ≡ MetaAlone
-in-math LineEnding is = lie is
-in-math _ is = cc
+in-math name is = grind arith
 
 in-chunks : (name : Name) → fence_name name ≡ true → content_of name Chunks ≡ Nothing
-in-chunks LineEnding is = lie is
-in-chunks _ is = cc
+in-chunks name is = grind arith
 
 -- the pieces of the children, if the content of the node is known
 pub inside-is : (s : Setting) (t : At) (content allowed_inside : Content) (name : Name)
@@ -64,9 +59,7 @@ pub inside-is : (s : Setting) (t : At) (content allowed_inside : Content) (name 
     content_of name content ≡ allowed_inside → Inside s t content name inner →
     Prints s (Holds s.p (inside s.context.options (is_loose t.children) name t.around).is_escaping
     (inside s.context.options (is_loose t.children) name t.around).in_image allowed_inside) inner
-inside-is s t content allowed_inside name inner e a = subst (λ c. Prints s
-    (Holds s.p (inside s.context.options (is_loose t.children) name t.around).is_escaping
-    (inside s.context.options (is_loose t.children) name t.around).in_image c) inner) e a
+inside-is s t content allowed_inside name inner e a = grind arith
 
 pub code_fence-node : (s : Setting) (t : At) (name : Name) →
     list_any fence_name t.before.spine ≡ false → is_code_fence name ≡ true →
@@ -89,8 +82,7 @@ math_fence-node s t name e is inner rest a b =
 -- a later fence prints nothing
 closed : (s : Setting) (has_fence : Bool) {inner : List Piece} → has_fence ≡ true →
     Prints s IsNil inner → Prints s Escaped (inner ++ when (not has_fence) (said (codes ">")))
-closed s true e a = rw append-nil (adds-weaker (λ x e. rw e refl) a)
-closed s false e a = lie e
+closed s has_fence e a = grind (arith, append-nil, adds-weaker)
 
 pub line-node : (s : Setting) (t : At) (name : Name) → list_any fence_name t.before.spine ≡ true →
     may_stand Chunks name ≡ true → IsFitAt s t name → (inner : List Piece) →

@@ -1,5 +1,5 @@
 -- What is found where a node stands is good: a heading's text, titles, and the texts of footnotes.
-use Rattle.std.proofs.Common.{◌≡◌, ℕ, Bool, true, ◌||◌, List, [], ◌∷◌, ◌++◌, refl}
+use Rattle.std.proofs.Common.{◌≡◌, ℕ, Bool, true, ◌||◌, List, [], ◌∷◌, ◌++◌, arith}
 use Rattle.std.specs.Prelude.{Option}
 use Rattle.std.proofs.lemmas.Bool.{or_left, or_right}
 use Rattle.md_base.proofs.Lies.{lie}
@@ -12,7 +12,7 @@ use Rattle.md_base.specs.NameTests.{is_transparent}
 use Rattle.md_meaning.specs.Meaning.At.{Defined, Footnote, Found, At}
 use Rattle.md_meaning.specs.Meaning.Layout.{Piece, layout}
 use Rattle.md_meaning.specs.Meaning.Nodes.{found_at}
-use Rattle.md_content.specs.Built.{Content, Blocks, Sources, may_stand, content_inside, IsBuilt}
+use Rattle.md_content.specs.Built.{Content, may_stand, content_inside, IsBuilt}
 use Rattle.md_safe.proofs.Media.{IsEscapedTitle}
 use Rattle.md_safe.proofs.Contents.{Holds}
 use Rattle.md_safe.proofs.Insides.{is_blocks, asks_escaping, Suits, is_blocks-same}
@@ -31,15 +31,13 @@ blocks-read s escaping in_image content is x h = rw (is_blocks-same content is) 
 -- a footnote stands among blocks
 note-blocks : (content : Content) → may_stand content GfmFootnoteDefinition ≡ true →
     is_blocks content ≡ true
-note-blocks Blocks h = refl
-note-blocks _ h = lie h
+note-blocks content h = grind arith
 
 -- where a title may stand, special characters are escaped
 title-asks : (content : Content) →
     (may_stand content DefinitionTitleString || may_stand content ResourceTitleString) ≡ true →
     asks_escaping content ≡ true
-title-asks Sources s = refl
-title-asks _ s = lie s
+title-asks content s = grind arith
 
 -- a heading's text that was found is as claimed
 abbrev pub IsRead : Setting → Option (List ℕ) → Type 0

@@ -1,8 +1,8 @@
 -- Flow content is built as it is read: blocks, lists, preformatted code, and among them
 -- spans and tables.
-use Rattle.std.proofs.Common.{◌≡◌, ◌⊎◌, inl, inr, ℕ, ◌≤◌, suc, true, false, List, [], ◌∷◌, refl}
+use Rattle.std.proofs.Common.{◌≡◌, ◌⊎◌, inl, inr, ℕ, ◌≤◌, suc, true, false, List, ◌∷◌, refl}
 use Rattle.std.proofs.Common.{sym, ap, ◌∙◌, codes, arith}
-use Rattle.std.specs.Prelude.{Some, bytes_eq}
+use Rattle.std.specs.Prelude.{Some}
 use Rattle.std.proofs.lemmas.Bool.{and_parts, or_cases}
 use Rattle.std.proofs.lemmas.Slice.Eq.{bytes_eq-Decides}
 use Rattle.md_base.proofs.Lies.{lie}
@@ -10,12 +10,12 @@ use Rattle.md_text.specs.Bytes.{is_one_of}
 use Rattle.md_text.specs.Html.{Attribute, Forest, Empty, Text, Void, Element}
 use Rattle.md_safe.specs.Token.{StartTag, TokenAttribute}
 use Rattle.md_safe.specs.Tokens.{seen, seen_attributes}
-use Rattle.md_safe.specs.Contents.{Content, Flow, Items, Preformatted, elements_in, voids_in}
+use Rattle.md_safe.specs.Contents.{Content, elements_in, voids_in}
 use Rattle.md_safe.specs.Contents.{is_contained}
-use Rattle.md_safe.specs.Node.{Nodes, Entry, Marker, Formatting, with_element, Empty as NoNode}
+use Rattle.md_safe.specs.Node.{Nodes, Entry, with_element, Empty as NoNode}
 use Rattle.md_safe.specs.Elements.{headings}
 use Rattle.md_safe.specs.Stack.{is_among}
-use Rattle.md_safe.specs.InBody.{has_item, insert_void}
+use Rattle.md_safe.specs.InBody.{has_item}
 use Rattle.md_safe.specs.InTable.{mode_for}
 use Rattle.md_safe.specs.Construction.{step}
 use Rattle.md_safe.specs.Built.{has_whole_texts, with_characters, put, has_none_active}
@@ -27,7 +27,7 @@ use Rattle.md_safe.proofs.PhrasingRules.{is_inline, here-within}
 use Rattle.md_safe.proofs.Phrasing.{span-passes, phrasing-done, here-after, none-done, text-done}
 use Rattle.md_safe.proofs.Phrasing.{void-done, element-done, text-escaped, element-parts}
 use Rattle.md_safe.proofs.Tables.{table-passes}
-use Rattle.md_safe.proofs.FlowRules.{IsBlock, HasNoParagraph, block-passes, pre-passes, unclosed}
+use Rattle.md_safe.proofs.FlowRules.{IsBlock, HasNoParagraph, block-passes, pre-passes}
 use Rattle.md_safe.proofs.FlowRules.{is_items, Holder, EndsItems, is_flowing, Ruled, flowing-rules}
 
 -- ---- all flow content
@@ -65,12 +65,7 @@ there-within {x = x} {those = those} k items there = record {
 
 -- a link may stand there, or none does
 here-in : (content : Content) {x : Position} → Here x true → Here x (is_free content)
-here-in content here = record {
-  body = here.body;
-  opened = here.opened;
-  made = here.made;
-  no_link = λ free. here.no_link refl;
-}
+here-in content here = grind arith
 
 -- what children do, for all contents that an element may hold
 record Inside (inner : Forest) (held : Content) : Type 0 where
@@ -109,23 +104,14 @@ kind-passes {content} {held} {x} {name} {attributes} {inner} rule there h c insi
 -- a rule, besides a void tag of a span
 flow-void : (content : Content) (name : List ℕ) → is_flowing content ≡ true →
     is_one_of (voids_in content) name ≡ true → (name ≡ codes "hr") ⊎ IsVoid name
-flow-void Flow name is h = elim (or_cases (bytes_eq name (codes "hr")) _ h) [
-  | inl e ↦ inl ((bytes_eq-Decides name (codes "hr")).0 e)
-  | inr c ↦ inr (void-named name c)
-]
-flow-void Items name is h = lie h
-flow-void Preformatted name is h = lie h
-flow-void _ name is h = lie is
+flow-void content name is h = grind (arith, or_cases, bytes_eq-Decides, void-named)
 
 flow-void-step : {x : Position} {name : List ℕ} (attributes : List TokenAttribute) →
     (name ≡ codes "hr") ⊎ IsVoid name → Here x true → HasNoParagraph (x.node ∷ x.others) → step
     (parser_of x) (StartTag name attributes true) ≡ Some (parser_of (with_children x
     (with_element x.node.children name attributes NoNode) x.active (suc x.created)))
 flow-void-step {x = x} attributes (inr v) here none = void-step x attributes here.body here.opened v
-flow-void-step {x = x} attributes (inl e) here none = rw e
-    (start-in-body x here.body (codes "hr") attributes true refl ∙ ap (λ stack. Some (insert_void
-    (codes "hr") attributes (record (parser_of x) { stack = stack })))
-    (unclosed (x.node ∷ x.others) none))
+flow-void-step attributes (inl e) here none = grind (arith, start-in-body)
 
 pub flow-done : (f : Forest) (content : Content) → is_flowing content ≡ true →
     has_whole_texts f ≡ true → is_contained false content f ≡ true → (x : Position) →
@@ -162,6 +148,4 @@ flow-done (Element name attributes inner rest) content is h c x there =
 -- where no formatting element is active, none is taken away
 pub kept-none : (active left : List Entry) → has_none_active active ≡ true →
     Keeps active left → left ≡ active
-kept-none [] left h k = k
-kept-none (Marker ∷ active) left h k = k
-kept-none (Formatting identity name attributes ∷ active) left h k = lie h
+kept-none active left h k = grind arith

@@ -162,8 +162,7 @@ block-node m t _ is inner k a = lie is
 covered : (name : Name) →
     (is_transparent name || ((is_part name || is_source name) || (is_inline name || (is_block name
     || (is_raw name || is_inner (sort_of name)))))) ≡ true
-covered LineEnding = refl
-covered _ = refl
+covered name = grind arith
 
 -- no item and no part of a table
 outer : (name : Name) → (cond (is_inner (sort_of name)) false true) ≡ true →
@@ -184,8 +183,7 @@ flow-node m t name solid whole stands inner k a = either _ _ (covered name)
 -- neither a block nor a part of another is a span
 no_block : (name : Name) → (is_block name || (is_raw name || is_inner (sort_of name))) ≡ true →
     may_stand Phrasing (sort_of name) ≡ false
-no_block LineEnding is = lie is
-no_block _ is = cc
+no_block name is = grind arith
 
 spans-node : (m : Claims) (t : At) (content : Content) (name : Name) → is_transparent name ≡ false →
     (is_part name || is_source name) ≡ false → may_stand Phrasing (sort_of name) ≡ true →
@@ -200,9 +198,7 @@ spans-node m t content name solid whole stands inner k a g = either _ _ (covered
 
 -- where a line ending may stand, what may be around a text may
 ending-spaced : (content : Content) → may_stand content Ending ≡ true → is_spaced content ≡ true
-ending-spaced Flow stands = refl
-ending-spaced Preformatted stands = lie stands
-ending-spaced _ stands = refl
+ending-spaced content stands = grind arith
 
 row-node : (m : Claims) (in_head : Bool) (kinds : List AlignKind) (inner : List Piece) →
     Prints m Cells inner → Prints m Rows (on_own_line (codes "<tr>") ++ (inner ++ (flat_map

@@ -1,9 +1,7 @@
 -- Blocks with tags or raw text; lines of code and HTML print escaped texts.
-use Rattle.std.proofs.Common.{◌≡◌, ℕ, ◌≤◌, Bool, true, false, cond, List, [], ◌||◌, inl, inr, arith}
-use Rattle.std.specs.Prelude.{unwrap_or}
+use Rattle.std.proofs.Common.{◌≡◌, ℕ, ◌≤◌, Bool, true, false, cond, List, ◌||◌, arith}
 use Rattle.std.specs.List.{list_any}
 use Rattle.std.proofs.lemmas.Bool.{or_cases}
-use Rattle.md_base.specs.Place.{serialized_between}
 use Rattle.md_base.proofs.Lies.{lie}
 use Rattle.md_base.specs.declared.event.Name.{Name}
 use Rattle.md_base.specs.declared.event.Name.TheVariants as name_variants
@@ -58,9 +56,7 @@ is_leaf name = is_line name || is_html name
 pub has-fence : (bytes : List ℕ) (name : Name) (start end : Point) (children : Forest) →
     is_raw name ≡ true → IsFit bytes name start end children →
     list_any is_fence (spine_names children) ≡ true
-has-fence bytes CodeFenced start end children is fit = fit
-has-fence bytes MathFlow start end children is fit = fit
-has-fence bytes _ start end children is fit = lie is
+has-fence bytes name start end children is fit = grind arith
 
 -- math, or else code; its printed text, and its content
 abbrev pub is_math : Name → Bool
@@ -71,27 +67,22 @@ raw_tag math = cond math math_tag code_tag
 
 pub raw-prints : (context : Context) (t : At) (name : Name) → is_raw name ≡ true →
     (inner : List Piece) → prints context t name inner ≡ fenced t (raw_tag (is_math name)) inner
-raw-prints context t Paragraph is inner = lie is
-raw-prints context t _ is inner = cc
+raw-prints context t name is inner = grind arith
 
 pub in-raw : (name : Name) → is_raw name ≡ true →
     content_of name Blocks ≡ cond (is_math name) FirstMathFence FirstFence
-in-raw Paragraph is = lie is
-in-raw _ is = cc
+in-raw name is = grind arith
 
 -- what is claimed of a text
 abbrev pub Reads : Setting → List ℕ → Type 0
 Reads s x = s.p.holds x
 
 pub setext-fits : (dash : Bool) → (1 ≤ cond dash 2 1) × (cond dash 2 1 ≤ 6)
-setext-fits true = (omega arith, omega arith)
-setext-fits false = (omega arith, omega arith)
+setext-fits dash = grind arith
 
 -- a line of code
 chunk-escaped : (s : Setting) (t : At) → Prints s Escaped (chunk s.context t)
-chunk-escaped s t =
-    let x : List ℕ = unwrap_or (serialized_between s.context.bytes t.place.start t.place.end) [] in
-    adds-text (is_escaped-encoded x)
+chunk-escaped s t = grind (arith, adds-text, is_escaped-encoded)
 
 -- HTML, escaped
 html-escaped : (s : Setting) (t : At) → t.around.is_escaping ≡ true →
@@ -111,12 +102,4 @@ line-escaped s t _ is fit inner = lie is
 pub leaf-escaped : (s : Setting) (t : At) (name : Name) → t.around.is_escaping ≡ true →
     is_leaf name ≡ true → IsFitAt s t name → (inner : List Piece) →
     Prints s Escaped (prints s.context t name inner)
-leaf-escaped s t name e is fit inner = elim (or_cases (is_line name) (is_html name) is) [
-  | inl is ↦ line-escaped s t name is fit inner
-  | inr is ↦ by name is
-]
-  where
-    by : (name : Name) → is_html name ≡ true → Prints s Escaped (prints s.context t name inner)
-    by HtmlFlowData is = html-escaped s t e
-    by HtmlTextData is = html-escaped s t e
-    by _ is = lie is
+leaf-escaped s t name e is fit inner = grind (arith, or_cases, line-escaped, html-escaped)

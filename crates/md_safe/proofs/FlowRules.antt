@@ -1,26 +1,26 @@
 -- Blocks and preformatted code are built as they are read, by what their children do; and what is
 -- known of each element that stands in flow content or in a list.
-use Rattle.std.proofs.Common.{◌≡◌, ℕ, true, false, cond, List, ◌∷◌, ◌++◌, refl, ap, ◌∙◌, codes, ◌⊎◌}
-use Rattle.std.proofs.Common.{inl, inr, Bool, sym, []}
+use Rattle.std.proofs.Common.{◌≡◌, ℕ, true, false, List, ◌∷◌, ◌++◌, refl, ap, codes, ◌⊎◌}
+use Rattle.std.proofs.Common.{Bool, arith}
 use Rattle.std.specs.Prelude.{Some, bytes_eq}
 use Rattle.md_base.proofs.Lies.{lie}
 use Rattle.md_text.specs.Html.{Attribute, Forest, Empty, Text, Void, Element}
 use Rattle.md_safe.specs.Token.{Token, EndTag, TokenAttribute, TokenAttribute}
 use Rattle.md_safe.specs.Tokens.{seen_attributes, tokens}
 use Rattle.md_safe.specs.Contents.{Preformatted, is_contained, Content, Flow, Phrasing, Items}
-use Rattle.md_safe.specs.Contents.{block_elements, Parts, elements_in, span_elements}
+use Rattle.md_safe.specs.Contents.{Parts, elements_in}
 use Rattle.md_safe.specs.Node.{Nodes, Open, Parser, Empty as NoNode, Nodes, Open, Parser}
 use Rattle.md_safe.specs.Elements.{button_scope, headings, headings}
-use Rattle.md_safe.specs.Stack.{is_named, is_among, has_in_scope, current, insert, popped, insert}
+use Rattle.md_safe.specs.Stack.{is_named, is_among, has_in_scope, insert, popped, insert}
 use Rattle.md_safe.specs.InBody.{close_p, has_item, start_in_body, end_in_body}
 use Rattle.md_safe.specs.Construction.{run}
 use Rattle.md_safe.specs.Built.{put, at, is_body}
 use Rattle.md_safe.proofs.Steps.{past}
 use Rattle.md_safe.proofs.TreeSteps.{Position, parser_of, with_children, element_of, within}
-use Rattle.md_safe.proofs.PhrasingNames.{Done, Passed, IsOuter, outside, passes, Each, also}
+use Rattle.md_safe.proofs.PhrasingNames.{Done, Passed, IsOuter, outside, passes, Each}
 use Rattle.md_text.specs.Bytes.{is_one_of}
 use Rattle.md_safe.specs.InTable.{mode_for}
-use Rattle.md_safe.proofs.PhrasingRules.{Rule, span-rules, code-rule}
+use Rattle.md_safe.proofs.PhrasingRules.{Rule}
 
 -- ---- blocks
 
@@ -56,47 +56,6 @@ pub record IsBlock (name : List ℕ) : Type 0 where
 -- nothing is closed before a block
 pub unclosed : (stack : List Open) → HasNoParagraph stack → close_p stack ≡ stack
 unclosed stack none = past _ none refl
-
--- a block before which only a paragraph is closed, an item, and a heading
-pub plain : {name : List ℕ} → IsOuter name → ((attributes : List TokenAttribute) (p : Parser) →
-    start_in_body name attributes p ≡ Some (insert name attributes
-    (record p { stack = close_p p.stack }))) → EndsBlock name → KeepsParagraph name → IsBlock name
-plain {name = name} names starts ends keeps = record {
-  names = names;
-  starts = λ attributes x none calm item. starts attributes (parser_of x) ∙ ap (λ stack. Some
-      (insert name attributes (record (parser_of x) { stack = stack }))) (unclosed _ none);
-  ends = ends;
-  keeps_p = keeps;
-}
-
-pub li-block : IsBlock (codes "li")
-li-block = record {
-  names = outside refl;
-  starts = λ attributes x none calm item. ap (λ stack. Some (insert (codes "li") attributes
-      (record (parser_of x) { stack = close_p stack }))) (past _ (item refl) refl) ∙ ap (λ stack.
-      Some (insert (codes "li") attributes (record (parser_of x) { stack = stack })))
-      (unclosed _ none);
-  ends = λ i t c x. refl;
-  keeps_p = λ i t c s other none. none;
-}
-
-pub heading : {name : List ℕ} → IsOuter name →
-    ((attributes : List TokenAttribute) (p : Parser) → start_in_body name attributes p
-    ≡ Some (insert name attributes (record p {
-      stack = cond (current (is_among headings) (close_p p.stack)) (popped (close_p p.stack))
-          (close_p p.stack);
-    }))) → EndsBlock name → KeepsParagraph name → IsBlock name
-heading {name = name} names starts ends keeps = record {
-  names = names;
-  starts = λ attributes x none calm item. starts attributes (parser_of x)
-      ∙ ap (λ stack. Some (insert name attributes (record (parser_of x) {
-        stack = cond (current (is_among headings) stack) (popped stack) stack;
-      }))) (unclosed (x.node ∷ x.others) none)
-      ∙ ap (λ stack. Some (insert name attributes (record (parser_of x) { stack = stack })))
-      (past _ calm refl);
-  ends = ends;
-  keeps_p = keeps;
-}
 
 -- a block with what it holds, by what its children do
 pub block-passes : {x : Position} {name : List ℕ} {attributes : List Attribute} {inner : Forest} →
@@ -173,71 +132,6 @@ pub record Ruled (content : Content) (name : List ℕ) (held : Content) : Type 0
   pub kind : Kind content name held
   pub item : bytes_eq name (codes "li") ≡ true → is_items content ≡ true
 
--- one that holds phrasing content, flow content or items
-speaking : {name : List ℕ} → IsBlock name → bytes_eq name (codes "li") ≡ false →
-    Ruled Flow name Phrasing
-speaking block other = record { kind = inr (inl (block, refl)); item = λ e. lie (sym other ∙ e) }
-
-holding : {name : List ℕ} → Holder name → bytes_eq name (codes "li") ≡ false → Ruled Flow name Flow
-holding k other = record { kind = inr (inr (inl (k, refl))); item = λ e. lie (sym other ∙ e) }
-
-listing : {name : List ℕ} → Holder name → EndsItems name → bytes_eq name (codes "li") ≡ false →
-    Ruled Flow name Items
-listing k ends other =
-    record { kind = inr (inr (inr (inl (k, refl, ends)))); item = λ e. lie (sym other ∙ e) }
-
--- a block that is treated as quotes and lists are
-plainly : {name : List ℕ} → IsOuter name →
-    ((attributes : List TokenAttribute) (p : Parser) → start_in_body name attributes p
-    ≡ Some (insert name attributes (record p { stack = close_p p.stack }))) →
-    EndsBlock name → KeepsParagraph name → bytes_eq name (codes "p") ≡ false →
-    is_one_of headings name ≡ false → KeepsMode name → Holder name
-plainly names starts ends keeps other calm passes =
-    record { block = plain names starts ends keeps; other = other; calm = calm; passes = passes }
-
-table-rule : Ruled Flow (codes "table") Parts
-table-rule = record { kind = inr (inr (inr (inr (inl (refl, refl))))); item = λ e. lie e }
-
-pre-rule : Ruled Flow (codes "pre") Preformatted
-pre-rule = record { kind = inr (inr (inr (inr (inr (refl, refl))))); item = λ e. lie e }
-
-p-rule : Ruled Flow (codes "p") Phrasing
-p-rule = speaking (plain (outside refl) (λ t p. refl) (λ i t c x. refl) (λ i t c s o n. lie (sym
-    o))) refl
-
-ruleset elements_of_blocks =
-    (listing, holding, speaking, plainly, heading, outside, table-rule, pre-rule, p-rule)
-
-block-rules : Each (Ruled Flow) block_elements
-block-rules = search elements_of_blocks depth 10 fits 10000
-
--- the elements of spans, and then these
-spanned : (those others : List (List ℕ × Content)) → Each (Rule Flow) those →
-    Each (Ruled Flow) others → Each (Ruled Flow) (those ++ others)
-spanned [] others rules more = more
-spanned (element ∷ those) others rules more =
-    also (record { kind = inl rules.0; item = λ e. lie (sym rules.0.no_item ∙ e) })
-    (spanned those others rules.1 more)
-
 pub flowing-rules : (content : Content) → is_flowing content ≡ true →
     Each (Ruled content) (elements_in false content)
-flowing-rules Flow is =
-    spanned (span_elements false) block_elements (span-rules Flow refl) block-rules
-flowing-rules Items is = (
-  record {
-    kind = inr (inr (inl (
-      record {
-        block = li-block;
-        other = refl;
-        calm = refl;
-        passes = λ i t c s. refl;
-      },
-      refl,
-    )));
-    item = λ e. refl;
-  },
-  tt,
-)
-flowing-rules Preformatted is =
-    (record { kind = inl (code-rule Preformatted); item = λ e. lie e }, tt)
-flowing-rules _ is = lie is
+flowing-rules content is = grind arith

@@ -2,25 +2,19 @@
 -- node's children, and before what follows it; blocks occur only in blocks, and a condition on
 -- blocks alone covers no more after nodes. After a node's children, and after it, no first fence is
 -- to come.
-use Rattle.std.proofs.Common.{◌≡◌, Bool, true, false, ◌||◌, refl, sym, ◌∙◌, subst, ℕ, cond}
+use Rattle.std.proofs.Common.{◌≡◌, Bool, true, false, ◌||◌, refl, subst, ℕ, cond}
 use Rattle.std.proofs.Common.{List, [], ◌∷◌, ◌++◌, append_assoc, append-nil, arith}
 use Rattle.std.proofs.lemmas.Bool.{cond_both, cond_both, or_left, or_right}
-use Rattle.md_base.proofs.Lies.{lie}
 use Rattle.md_base.specs.declared.event.Name.{Name}
-use Rattle.md_base.specs.declared.event.Name.TheVariants.{Image, LineEnding}
-use Rattle.md_base.specs.Is.{is as named}
 use Rattle.md_base.specs.Tree.{Forest, Forest, Empty, Node, Forest}
-use Rattle.md_text.specs.declared.options.CompileOptions.{CompileOptions}
-use Rattle.md_meaning.specs.declared.surroundings.Surroundings.{Surroundings}
-use Rattle.md_meaning.specs.Meaning.Inherited.{inside}
-use Rattle.md_content.specs.Built.{Content, Blocks, is_source, may_stand, content_of, content_past}
-use Rattle.md_content.specs.Built.{content_after_node, FirstFence, FirstMathFence, Chunks}
-use Rattle.md_content.specs.Built.{InfoAndMeta, MetaAlone, Nothing, is_fence, is_info}
+use Rattle.md_content.specs.Built.{Content, may_stand, content_of, content_past}
+use Rattle.md_content.specs.Built.{content_after_node}
+use Rattle.md_content.specs.Built.{is_fence}
 use Rattle.md_content.specs.Built.{content_after, content_inside, IsBuilt, IsFit}
 use Rattle.md_safe.proofs.Contents.{stays-after, Follows, spine_after_node, is_first}
-use Rattle.md_safe.proofs.Insides.{allowed_inside, is_blocks, of-blocks, is_blocks-same, Suits}
-use Rattle.md_safe.proofs.Insides.{past_of, is_chunks, is_raw}
-use Rattle.md_safe.proofs.Cases.{either, cases, cases}
+use Rattle.md_safe.proofs.Insides.{allowed_inside, is_blocks, of-blocks, Suits}
+use Rattle.md_safe.proofs.Insides.{past_of, is_raw}
+use Rattle.md_safe.proofs.Cases.{cases, cases}
 use Rattle.std.specs.List.{list_any}
 use Rattle.md_base.specs.NameTests.{is_transparent, is_fence as fence_name, is_fence as fence_name}
 use Rattle.md_base.specs.Children.{spine_names}
@@ -45,53 +39,9 @@ suits-after-node escaping in_image content name children h =
           outside = λ is. h.outside (after.blocks is);
         }
 
--- images alone begin an image, and no blocks stand in them
-still-outside : (options : CompileOptions) (loose : Bool) (around : Surroundings) (name : Name) →
-    is_blocks (content_of name Blocks) ≡ true → around.in_image ≡ false →
-    (inside options loose name around).in_image ≡ false
-still-outside options loose around Image blocks out = lie blocks
-still-outside options loose around _ blocks out = out
-
--- if HTML is escaped, escaped text stays so, except in the targets of links
-stays-escaping : (options : CompileOptions) → options.allow_dangerous_html ≡ false →
-    (loose : Bool) (around : Surroundings) (name : Name) → around.is_escaping ≡ true →
-    is_source name ≡ false → (inside options loose name around).is_escaping ≡ true
-stays-escaping options html loose around Image e out = e
-stays-escaping options html loose around _ e out = grind (arith, html, e, out)
-
-stays-image : (options : CompileOptions) (loose : Bool) (around : Surroundings) (name : Name) →
-    around.in_image ≡ true → (inside options loose name around).in_image ≡ true
-stays-image options loose around Image e = refl
-stays-image options loose around _ e = e
-
-in-image : (options : CompileOptions) (loose : Bool) (around : Surroundings) (name : Name) →
-    named Image name ≡ true → (inside options loose name around).in_image ≡ true
-in-image options loose around Image is = refl
-in-image options loose around _ is = lie is
-
--- the surroundings of a node's children suit them
-pub suits-inside : (options : CompileOptions) → options.allow_dangerous_html ≡ false →
-    (loose : Bool) (around : Surroundings) (content : Content) (name : Name) →
-    may_stand content name ≡ true → Suits around.is_escaping around.in_image content → Suits
-    (inside options loose name around).is_escaping
-    (inside options loose name around).in_image (content_of name content)
-suits-inside options html loose around content name s h = record {
-  escaped = λ asks.
-      let needs = (allowed_inside content name s).escaping asks in
-      stays-escaping options html loose around name (h.escaped needs.0) needs.1;
-  image = λ asks. either _ _ ((allowed_inside content name s).image asks)
-      (λ within. stays-image options loose around name (h.image within))
-      (in-image options loose around name);
-  outside = λ is.
-      let blocks = of-blocks content name is in
-      still-outside options loose around name (rw (is_blocks-same content blocks) at is) (h.outside
-      blocks);
-}
-
 -- the two tests of fences are one
 pub same_fence : (name : Name) → is_fence name ≡ fence_name name
-same_fence LineEnding = refl
-same_fence _ = refl
+same_fence name = grind arith
 
 pub same_fences : (names : List Name) → list_any is_fence names ≡ list_any fence_name names
 same_fences [] = refl
@@ -100,26 +50,18 @@ same_fences (name ∷ names) = (λ i. same_fence name i || same_fences names i)
 follows-past : (content : Content) (name : Name) (names : List Name) →
     may_stand content name ≡ true →
     Follows content names → Follows (content_past content name) (names ++ (name ∷ []))
-follows-past FirstFence name names h f = list_any-append fence_name names (name ∷ []) ∙ or_right _ _
-    (or_left _ _ ((allowed_inside FirstFence name h).fence refl))
-follows-past FirstMathFence name names h f = list_any-append fence_name names (name ∷ []) ∙ or_right
-    _ _ (or_left _ _ ((allowed_inside FirstMathFence name h).fence refl))
-follows-past Chunks name names h f = list_any-append fence_name names (name ∷ []) ∙ or_left _ _ f
-follows-past InfoAndMeta name names h f = cond_both (is_info name) MetaAlone Nothing
-    (λ content. Follows content (names ++ (name ∷ []))) (λ _. tt) (λ _. tt)
-follows-past _ name names h f = tt
+follows-past content name names h f =
+    grind (arith, list_any-append, or_right, or_left, allowed_inside, cond_both)
 
 -- one of two tests holds, and it isn't the first
 pub second : (a b : Bool) → a ≡ false → (a || b) ≡ true → b ≡ true
-second true b e h = lie (sym e)
-second false b e h = h
+second a b e h = grind arith
 
 follows-node : (content : Content) (name : Name) (names : List Name) (children : Forest) →
     (is_transparent name || may_stand content name) ≡ true → Follows content names → (is_transparent
     name ≡ true → Follows (content_after content children) (names ++ spine_names children)) →
     Follows (content_after_node content name children) (spine_after_node name children names)
-follows-node content name names children stands f inner = cases (is_transparent name)
-    (λ e. rw e (inner e)) (λ e. rw e (follows-past content name names (second _ _ e stands) f))
+follows-node content name names children stands f inner = grind (arith, follows-past)
 
 pub follows-after : (bytes : List ℕ) (content : Content) (names : List Name) (forest : Forest) →
     IsBuilt bytes content forest → Follows content names →
@@ -139,24 +81,16 @@ pub follows-after-node :
     Follows content names
     → Follows (content_after_node content name children) (spine_after_node name children names)
 follows-after-node bytes content name names children stands built f =
-    follows-node content name names children stands f
-    (λ e. follows-after bytes content names children (rw e at built) f)
+    grind (arith, follows-node, follows-after)
 
 -- nothing stands before a node's first child
 pub follows-inside : (content : Content) (name : Name) → may_stand content name ≡ true →
     Follows (content_of name content) []
-follows-inside content name s = by (content_of name content) (allowed_inside content name s).chunks
-  where
-    by : (content : Content) → is_chunks content ≡ false → Follows content []
-    by FirstFence h = refl
-    by FirstMathFence h = refl
-    by Chunks h = lie (sym h)
-    by _ h = tt
+follows-inside content name s = grind (arith, allowed_inside)
 
 pub inside-blocks : (content : Content) (name : Name) → is_blocks (content_inside content name)
     ≡ true → is_blocks content ≡ true
-inside-blocks content name = cond_both _ _ _ (λ c. is_blocks c ≡ true → is_blocks content ≡ true)
-    (λ _ h. h) (λ _ h. of-blocks content name h)
+inside-blocks content name = grind (arith, cond_both, of-blocks)
 
 -- a condition on blocks alone covers no more after nodes
 pub asked-after-node : (A : Type 0) (content : Content) (name : Name) (children : Forest) →
@@ -171,24 +105,20 @@ IsLater content = is_first content ≡ false
 -- in a node without a fence of its own no first one is to come
 later-of : (content : Content) (name : Name) → is_raw name ≡ false →
     may_stand content name ≡ true → IsLater (content_of name content)
-later-of content name plain s = cases (is_first (content_of name content))
-    (λ e. lie (sym plain ∙ (allowed_inside content name s).first e)) (λ e. e)
+later-of content name plain s = grind (arith, allowed_inside)
 
 -- after a fence no first one is to come
 later-fenced : (content : Content) (names : List Name) → Follows content names →
     list_any fence_name names ≡ true →
     IsLater content
-later-fenced FirstFence names f h = lie (sym f ∙ h)
-later-fenced FirstMathFence names f h = lie (sym f ∙ h)
-later-fenced _ names f h = refl
+later-fenced content names f h = grind arith
 
 fenced-after : (bytes : List ℕ) (content : Content) (children : Forest) →
     IsBuilt bytes content children →
     Follows content [] → list_any is_fence (spine_names children) ≡ true →
     IsLater (content_after content children)
 fenced-after bytes content children built f h =
-    later-fenced (content_after content children) (spine_names children)
-    (follows-after bytes content [] children built f) (sym (same_fences (spine_names children)) ∙ h)
+    grind (arith, later-fenced, follows-after, same_fences)
 
 -- after a node's children no first fence is to come
 pub later-inside :

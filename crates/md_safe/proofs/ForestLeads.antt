@@ -1,9 +1,7 @@
 -- A forest, node by node: to the data state, before whatever follows.
-use Rattle.std.proofs.Common.{◌≡◌, ℕ, true, false, not, List, [], ◌∷◌, ◌++◌, refl, sym, ap}
-use Rattle.std.proofs.Common.{◌∙◌, subst, append-nil, append_assoc}
-use Rattle.std.specs.List.{list_all}
+use Rattle.std.proofs.Common.{◌≡◌, ℕ, true, false, not, List, [], ◌∷◌, ◌++◌, refl, sym, arith}
+use Rattle.std.proofs.Common.{◌∙◌, append-nil, append_assoc}
 use Rattle.std.proofs.lemmas.Bool.{and_parts}
-use Rattle.md_base.proofs.Lies.{lie}
 use Rattle.md_text.specs.Html.{Attribute, Forest, Empty, Text, Void, Element, is_forest}
 use Rattle.md_text.specs.Html.{begins_with_text, written, IsReading}
 use Rattle.md_text.proofs.HtmlWriting.{attributes_before, forest_before, written-before}
@@ -14,7 +12,7 @@ use Rattle.md_safe.specs.Tokens.{tokens}
 use Rattle.md_safe.proofs.TagLeads.{good-no_return, lined, line_feeds-attributes, element-leads}
 use Rattle.md_safe.proofs.TagLeads.{void-leads, end-leads}
 use Rattle.md_safe.proofs.LineFeeds.{line_feeds-append, line_feeds-name, line_feeds-escaped}
-use Rattle.md_safe.proofs.GoodNames.{is_good_byte, is_good_name, begins_tag, are_good, element-good}
+use Rattle.md_safe.proofs.GoodNames.{is_good_name, are_good, element-good}
 use Rattle.md_safe.proofs.GoodNames.{void-good}
 use Rattle.md_safe.specs.Embedded.{EndsInDataState}
 use Rattle.md_safe.proofs.TextLeads.{To, arrived, text-leads}
@@ -23,24 +21,16 @@ use Rattle.md_safe.proofs.TextLeads.{To, arrived, text-leads}
 pub after_text : (f : Forest) (r : List ℕ) → not (begins_with_text f) ≡ true →
     begins_with_line_feed r ≡ false →
     begins_with_line_feed (forest_before f r) ≡ false
-after_text Empty r h n = n
-after_text (Text bytes rest) r h n = lie h
-after_text (Void name attributes rest) r h n = refl
-after_text (Element name attributes children rest) r h n = refl
+after_text f r h n = grind arith
 
 pub good-line_feeds : (name r : List ℕ) → is_good_name name ≡ true →
     with_line_feeds (name ++ r) ≡ name ++ with_line_feeds r
-good-line_feeds name r g =
-    let p = and_parts (begins_tag name) _ g in
-    line_feeds-name name r (good-no_return name (and_parts (list_all is_good_byte name) _ p.1).0)
+good-line_feeds name r g = grind (arith, and_parts, line_feeds-name, good-no_return)
 
 attributes-append : (x : List Attribute) (r left : List ℕ) →
     attributes_before x r ++ left ≡ attributes_before x (r ++ left)
 attributes-append [] r left = refl
-attributes-append (a ∷ x) r left =
-    ap (λ y. 32 ∷ y) (append_assoc a.name (61 ∷ 34 ∷ (a.value ++ (34 ∷ attributes_before x r))) left
-    ∙ ap (λ y. a.name ++ (61 ∷ 34 ∷ y)) (append_assoc a.value (34 ∷ attributes_before x r) left
-    ∙ ap (λ y. a.value ++ (34 ∷ y)) (attributes-append x r left)))
+attributes-append (a ∷ x) r left = grind (arith, append_assoc, attributes-append x r left)
 
 -- a tag's name and its attributes, and what follows them
 tag-lined : (name : List ℕ) (x : List Attribute) (r left : List ℕ) →
@@ -48,10 +38,7 @@ tag-lined : (name : List ℕ) (x : List Attribute) (r left : List ℕ) →
     name ++ attributes_before (lined x) (with_line_feeds r ++ left)
     ≡ with_line_feeds (name ++ attributes_before x r) ++ left
 tag-lined name x r left g h =
-    ap (λ y. name ++ y) (sym (attributes-append (lined x) (with_line_feeds r) left))
-    ∙ sym (append_assoc name (attributes_before (lined x) (with_line_feeds r)) left)
-    ∙ ap (λ y. (name ++ y) ++ left) (sym (line_feeds-attributes x r h))
-    ∙ ap (λ y. y ++ left) (sym (good-line_feeds name (attributes_before x r) g))
+    grind (arith, attributes-append, append_assoc, line_feeds-attributes, good-line_feeds)
 
 forest-leads : {left : List ℕ} (f : Forest) (r : List ℕ) (t : List Token) → is_forest f ≡ true →
     begins_with_line_feed r ≡ false → To left Data (with_line_feeds r ++ left) t →
@@ -93,5 +80,4 @@ forest-ends f h left =
     rw (append-nil (tokens f)) at (rw (sym (written-before f []) ∙ append-nil (written f)) at ends)
 
 pub reading-ends : (text : List ℕ) (f : Forest) → IsReading text f → EndsInDataState text (tokens f)
-reading-ends text f reading =
-    subst (λ x. EndsInDataState x (tokens f)) reading.written_so (forest-ends f reading.in_grammar)
+reading-ends text f reading = grind (arith, forest-ends)

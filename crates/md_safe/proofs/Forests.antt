@@ -1,12 +1,11 @@
 -- What the nodes of a document mean: the induction over nodes of any content, for any claim that is
 -- kept where two texts meet. It goes over all that an outcome has at once.
-use Rattle.std.proofs.Common.{◌≡◌, Bool, true, false, ◌||◌, List, [], ◌∷◌, ◌++◌, sym}
+use Rattle.std.proofs.Common.{◌≡◌, Bool, true, false, ◌||◌, List, [], ◌∷◌, ◌++◌, sym, arith}
 use Rattle.std.proofs.Common.{subst, append_assoc}
 use Rattle.std.proofs.lemmas.Bool.{cond_both}
-use Rattle.md_base.proofs.Lies.{lie}
 use Rattle.md_base.specs.declared.event.Name.{Name}
 use Rattle.md_base.specs.declared.event.Name.TheVariants as name_variants
-use name_variants.{Other, BlockQuotePrefix, SpaceOrTab, Definition, GfmFootnoteDefinition}
+use name_variants.{Definition, GfmFootnoteDefinition}
 use Rattle.md_base.specs.Is.{is as named}
 use Rattle.md_base.specs.Tree.{Forest, Empty, Node}
 use Rattle.md_base.specs.NameTests.{is_transparent}
@@ -19,49 +18,34 @@ use Rattle.md_meaning.specs.Meaning.At.{Target}
 use Rattle.md_meaning.specs.Meaning.Before.{before_children}
 use Rattle.md_meaning.specs.Meaning.Layout.{Piece, layout, when}
 use Rattle.md_meaning.specs.Meaning.Nodes.{Outcome, found_at, node, before_next, outcome}
-use Rattle.md_content.specs.Built.{Content, may_stand, content_of, content_inside}
+use Rattle.md_content.specs.Built.{Content, may_stand, content_inside}
 use Rattle.md_content.specs.Built.{content_after_node, content_after, IsBuilt}
 use Rattle.md_safe.proofs.Contents.{stays-after, Holds, Follows}
 use Rattle.md_safe.proofs.Insides.{is_blocks, Suits, past_of}
 use Rattle.md_safe.proofs.Following.{inside-blocks, asked-after-node, second, follows-inside}
-use Rattle.md_safe.proofs.Following.{follows-after-node, suits-inside, suits-after-node}
+use Rattle.md_safe.proofs.Following.{follows-after-node, suits-after-node}
 use Rattle.md_safe.proofs.Spot.{IsWhole, Setting, AreTitles, IsFitAt, Prints, Inside, at_in}
 use Rattle.md_safe.proofs.FlowNodes.{Reads}
 use Rattle.md_safe.proofs.BlockNodes.{holds-none}
 use Rattle.md_safe.proofs.Nodes.{Knows, any-node, inside-alone, Before as PrintsBefore}
 use Rattle.md_safe.proofs.Findings.{AreFound, AreRead, titles-append, texts-append}
 use Rattle.md_safe.proofs.Findings.{Inner, found-node, note-node}
-use Rattle.md_safe.proofs.Cases.{on-later, on-either, cases}
+use Rattle.md_safe.proofs.Cases.{on-later, on-either}
 use Rattle.md_safe.proofs.Texts.{Escaped}
 use Rattle.md_safe.proofs.Media.{IsEscapedTitle}
-
--- the surroundings of children suit them
-through-suits : (options : CompileOptions) (loose : Bool) (around : Surroundings)
-    (content : Content) (name : Name) →
-    is_transparent name ≡ true → Suits around.is_escaping around.in_image content
-    → Suits (inside options loose name around).is_escaping
-    (inside options loose name around).in_image content
-through-suits options loose around content (Other number) is h = h
-through-suits options loose around content BlockQuotePrefix is h = h
-through-suits options loose around content SpaceOrTab is h = h
-through-suits options loose around content _ is h = lie is
 
 children-suit : (options : CompileOptions) → options.allow_dangerous_html ≡ false →
     (loose : Bool) (around : Surroundings) (content : Content) (name : Name) →
     (is_transparent name || may_stand content name) ≡ true → Suits around.is_escaping
     around.in_image content → Suits (inside options loose name around).is_escaping
     (inside options loose name around).in_image (content_inside content name)
-children-suit options html loose around content name stands h = cond_both (is_transparent name)
-    content (content_of name content) (Suits (inside options loose name around).is_escaping (inside
-    options loose name around).in_image) (λ e. through-suits options loose around content name e h)
-    (λ e. suits-inside options html loose around content name (second _ _ e stands) h)
+children-suit options html loose around content name stands h = grind arith
 
 -- the state before a node's first child
 children-follow : (content : Content) (name : Name) (before : Before) (children : Forest) →
     (is_transparent name || may_stand content name) ≡ true → Follows content before.spine →
     Follows (content_inside content name) (before_children name children before).spine
-children-follow content name before children stands f = cases (is_transparent name)
-    (λ e. rw e f) (λ e. rw e (follows-inside content name (second _ _ e stands)))
+children-follow content name before children stands f = grind (arith, follows-inside)
 
 blocks-after-node : (content : Content) (name : Name) (children : Forest) →
     is_blocks content ≡ true → is_blocks (content_after_node content name children) ≡ true
@@ -96,14 +80,8 @@ pub ready-inside : {s : Setting} {around : Surroundings} {before : Before} {cont
     (inside s.context.options (is_loose children) name around)
     (before_children name children before) (content_inside content name)
 ready-inside {s = s} {around = around} {before = before} {content = content} name children stands
-    r = record {
-      suits = children-suit s.context.options s.test.html (is_loose children) around content name
-          stands r.suits;
-      follows = children-follow content name before children stands r.follows;
-      whole = λ h. r.whole (inside-blocks content name h);
-      heading = λ h. cond_both (is_transparent name) before.heading [] (Reads s)
-          (λ _. r.heading (inside-blocks content name h)) (λ _. holds-none s);
-    }
+    r =
+    grind (arith, children-suit, children-follow, inside-blocks, cond_both, holds-none)
 
 -- and where the next node stands
 pub ready-after : {s : Setting} {content : Content} (t : At) (name : Name) (here : Outcome) →
@@ -124,12 +102,7 @@ ready-after {s = s} {content = content} t name here stands built own r = record 
 pub means : (s : Setting) (forest : Forest) (around : Surroundings) (before : Before)
     (content : Content) → IsBuilt s.context.bytes content forest → Ready s around before content →
     Means s around content forest (outcome s.context around before forest)
-means s Empty around before content built r = record {
-  prints = λ later h. h;
-  found = record { heading = λ _. tt; title = tt; resource = tt };
-  titles = tt;
-  texts = tt;
-}
+means s Empty around before content built r = grind arith
 means s (Node name start end children rest) around before content built r =
     let around' : Surroundings = inside s.context.options (is_loose children) name around in
     let before' : Before = before_children name children before in
@@ -204,12 +177,4 @@ pub found-at : {s : Setting} {content : Content} (t : At) (name : Name) (inner :
     (content_inside content name) t.children → PrintsBefore s t (content_inside content name) name
     inner → AreFound s (content_inside content name) t.found →
     AreFound s content (found_at t name (layout s.context.ending inner))
-found-at t name inner stands fit suits built before found =
-    found-node t name (record {
-      stands = stands;
-      fit = fit;
-      suits = suits;
-      built = built;
-      before = before;
-      found = found;
-    })
+found-at t name inner stands fit suits built before found = grind (arith, found-node)

@@ -49,9 +49,7 @@ attributes-good : (listed : List (List ℕ)) (attributes : List Attribute) →
     list_all is_good_attribute_name listed ≡ true → are_attributes listed attributes ≡ true →
     are_good attributes ≡ true
 attributes-good listed [] g e = refl
-attributes-good listed (a ∷ rest) g e =
-    let good = one_of-passes is_good_attribute_name listed a.name g in
-    grind (arith, good, attributes-good listed rest g)
+attributes-good listed (a ∷ rest) g e = grind (arith, one_of-passes, attributes-good listed rest g)
 
 -- what holds of the name of each rule that allows some attributes holds of the name of a tag
 pub by_rule : (P : List ℕ → Type 0) (test : List ℕ × List (List ℕ) → Bool)

@@ -36,12 +36,8 @@ none-later : (options : CompileOptions) → options.gfm_footnote_number_ids ≡ 
     occurs (id_after options all before x) (ids_after options all (before ++ x ∷ mid) calls) ≡ 0
 none-later options on all before mid x [] among few small = refl
 none-later options on all before mid x (y ∷ calls) among few small =
-    let same = append_assoc before (x ∷ mid) (y ∷ []) in
-    let longer = length-append (before ++ x ∷ mid) (y ∷ []) in
-    let later = none-later options on all before (mid ++ y ∷ []) x calls among few
-    (omega (ap length same, longer, small, arith)) in
-    occurs-other _ _ _ (ids-differ options on all before mid x y among few (omega (small, arith)))
-    ∙ (rw (← same) at later)
+    let later = none-later options on all before (mid ++ y ∷ []) x calls among few in
+    grind (arith, append_assoc, length-append, occurs-other, ids-differ, later)
 
 -- each id is that of one call at most
 pub calls-once : (options : CompileOptions) → options.gfm_footnote_number_ids ≡ true →
@@ -49,13 +45,9 @@ pub calls-once : (options : CompileOptions) → options.gfm_footnote_number_ids 
     length all + 1 < 2 ^ 64 → length before + length calls + 1 < 2 ^ 64 →
     occurs w (ids_after options all before calls) ≤ 1
 calls-once options on w all before [] whole few small = omega arith
-calls-once options on w all before (x ∷ calls) whole few small = occurs-once w
-    (id_after options all before x) (ids_after options all (before ++ x ∷ []) calls) (none-later
-    options on all before [] x calls (subst (λ all. is_in x all ≡ true) whole
-    (is_in-middle before calls x)) few (omega (length-append before (x ∷ []), small, arith)))
-    (calls-once options on w all (before ++ x ∷ []) calls
-    (append_assoc before (x ∷ []) calls ∙ whole) few
-    (omega (length-append before (x ∷ []), small, arith)))
+calls-once options on w all before (x ∷ calls) whole few small =
+    let later = calls-once options on w all (before ++ x ∷ []) calls in
+    grind (arith, occurs-once, none-later, is_in-middle, length-append, append_assoc, later)
 
 -- the ids of footnotes
 abbrev pub note_id : CompileOptions → List (List ℕ) → List ℕ → List ℕ
@@ -74,12 +66,7 @@ notes-differ : (options : CompileOptions) → options.gfm_footnote_number_ids �
     (all : List (List ℕ)) (x y : List ℕ) → length all + 1 < 2 ^ 64 → is_in y (distinct all) ≡ true →
     note_id options all y ≡ note_id options all x → y ≡ x
 notes-differ options on all x y few among e =
-    let tails : back_prefix options ++ note_tail (place_among (distinct all) y) ≡ back_prefix
-    options ++ note_tail (place_among (distinct all) x) = sym
-    (note-back options on y (place_among (distinct all) y)) ∙ e ∙ note-back options on x
-    (place_among (distinct all) x) in
-    same-place (distinct all) y x among (same-note options _ _
-    (omega (number-bound all y, few, arith)) (omega (number-bound all x, few, arith)) tails)
+    grind (arith, note-back, same-place, same-note, number-bound)
 
 none-other : (options : CompileOptions) → options.gfm_footnote_number_ids ≡ true →
     (all : List (List ℕ)) (x : List ℕ) (identifiers : List (List ℕ)) → length all + 1 < 2 ^ 64 →

@@ -17,8 +17,7 @@ abbrev pub is_blocks : Content → Bool
 is_blocks content = elim content [ Blocks ↦ true | _ ↦ false ]
 
 pub is_blocks-same : (content : Content) → is_blocks content ≡ true → content ≡ Blocks
-is_blocks-same Blocks h = refl
-is_blocks-same _ h = lie h
+is_blocks-same content h = grind arith
 
 -- what follows a first fence
 abbrev pub is_chunks : Content → Bool
@@ -63,10 +62,7 @@ facts c n =
     && (implies (may_stand c n) (tells c n (content_of n c)) && past_tells c (content_past c n))
 
 all-facts : (c : Content) (n : Name) → facts c n ≡ true
-all-facts Blocks Image = refl
-all-facts Blocks _ = refl
-all-facts _ Image = refl
-all-facts _ _ = refl
+all-facts c n = grind arith
 
 -- blocks stand only in blocks
 pub of-blocks : (c : Content) (n : Name) → is_blocks (content_of n c) ≡ true → is_blocks c ≡ true

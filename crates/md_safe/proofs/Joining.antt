@@ -1,5 +1,5 @@
 -- Some steps, and then others.
-use Rattle.std.proofs.Common.{◌≡◌, ℕ, List, ◌++◌, refl, sym, ap, ◌∙◌, subst, append_assoc}
+use Rattle.std.proofs.Common.{◌≡◌, ℕ, List, ◌++◌, refl, sym, ap, ◌∙◌, subst, append_assoc, arith}
 use Rattle.std.proofs.Common.{Some, option_map, zero, suc}
 use Rattle.md_safe.specs.Token.{Token}
 use Rattle.md_safe.specs.TokenizerStates.{State, Data, Step, Goes, Stops, Stuck}
@@ -15,9 +15,7 @@ same_step e = (cc, cc, cc)
 went : (out : List Token) (s : Step) (t : List Token) (mid : List ℕ) →
     emitted_before out s ≡ Goes t Data mid →
     (later : List Token) × (s ≡ Goes later Data mid) × (out ++ later ≡ t)
-went out (Goes later state rest) t mid e = (later, cc, cc)
-went out (Stops later) t mid e = absurd (cc e)
-went out Stuck t mid e = absurd (cc e)
+went out s t mid e = grind arith
 
 -- a claim of a way that goes back over each step
 abbrev GoesBack : (State → List ℕ → List Token → Type 0) → Type 0
@@ -44,10 +42,7 @@ back-step P g mid u n go state input t Stuck is e = absurd (cc e)
 
 back : (P : State → List ℕ → List Token → Type 0) → GoesBack P → (mid : List ℕ) (u : List Token) →
     P Data mid u → (n : ℕ) → Backs P mid u n
-back P g mid u h zero state input t e =
-    let is = same_step e in
-    subst (λ x. P state input (x ++ u)) is.2 (subst (λ a. P a input u) (sym is.0)
-    (subst (λ x. P Data x u) (sym is.1) h))
+back P g mid u h zero state input t e = grind (arith, same_step)
 back P g mid u h (suc n) state input t e = back-step P g _ u n (back P g _ u h n) _ _ t _ refl e
 
 pub leads-back : (left : List ℕ) → GoesBack (λ state input t. Tokenizes state input t left)
@@ -85,16 +80,7 @@ Rests mid n = (k : ℕ) (state : State) (input : List ℕ) (t all : List Token) 
 
 rest-step : (mid : List ℕ) (n : ℕ) → Rests mid n → (k : ℕ) (t all : List Token) (s : Step) →
     and_then (steps n) s ≡ Goes t Data mid → after_step (run k) s ≡ Some all → Rest mid t all
-rest-step mid n go k t all (Goes out next rest) e f =
-    let w = went out (steps n next rest) t mid e in
-    let m = map_some out (run k next rest) all f in
-    let r = go k next rest w.0 m.0 w.1 m.1 in (
-      r.0,
-      r.1,
-      m.2 ∙ ap (λ x. out ++ x) r.2 ∙ sym (append_assoc out w.0 r.0) ∙ ap (λ x. x ++ r.0) w.2,
-    )
-rest-step mid n go k t all (Stops out) e f = absurd (cc e)
-rest-step mid n go k t all Stuck e f = absurd (cc e)
+rest-step mid n go k t all s e f = grind (arith, went, map_some, append_assoc)
 
 run-rest : (mid : List ℕ) (n : ℕ) → Rests mid n
 run-rest mid zero k state input t all e f =

@@ -1,5 +1,5 @@
 -- What a list of pieces adds to a text: the claim on texts carried over to what is laid out.
-use Rattle.std.proofs.Common.{◌≡◌, ℕ, Bool, true, false, List, [], ◌∷◌, ◌++◌, refl, sym, ap}
+use Rattle.std.proofs.Common.{◌≡◌, ℕ, Bool, List, [], ◌∷◌, ◌++◌, refl, sym, ap, arith}
 use Rattle.std.proofs.Common.{◌∙◌, subst, append_assoc, append-nil}
 use Rattle.md_meaning.specs.Meaning.Layout.{Piece, Text, Needed, Forced, laid_after, layout, when}
 use Rattle.std.specs.List.{flat_map}
@@ -21,11 +21,7 @@ pub record Adds (ending : List ℕ) (holds : List ℕ → Type 0) (pieces : List
 -- something else holds as well
 pub adds-weaker : {ending : List ℕ} {f g : List ℕ → Type 0} {pieces : List Piece} →
     ((x : List ℕ) → f x → g x) → Adds ending f pieces → Adds ending g pieces
-adds-weaker weaker a = record {
-  to = λ text.
-      let r = a.to text in
-      record { added = r.added; grown = r.grown; it_holds = weaker r.added r.it_holds };
-}
+adds-weaker weaker a = grind arith
 
 -- one list after another
 pub adds-append : {ending : List ℕ} {f g h : List ℕ → Type 0} {xs ys : List Piece} →
@@ -66,19 +62,12 @@ adds-forced {ending = ending} h =
 
 pub adds-needed : {W : List ℕ → Type 0} {ending : List ℕ} → IsBeside W → W ending →
     Adds ending W (Needed ∷ [])
-adds-needed {W} {ending} beside h = record {
-  to = λ text. cond_both _ _ _ (Grows W text) (λ _. nothing_added W text beside.none) (λ _. record {
-    added = ending;
-    grown = refl;
-    it_holds = h;
-  });
-}
+adds-needed beside h = grind (arith, cond_both, nothing_added)
 
 -- pieces, where a test holds
 pub adds-when : {W : List ℕ → Type 0} {ending : List ℕ} {pieces : List Piece} → IsBeside W →
     (holds : Bool) → Adds ending W pieces → Adds ending W (when holds pieces)
-adds-when beside true a = a
-adds-when beside false a = adds-nothing beside.none
+adds-when beside holds a = grind (arith, adds-nothing)
 
 -- one list after another for each of some things
 pub adds-all : {A : Type 0} {ending : List ℕ} {R : List ℕ → Type 0} {f : A → List Piece} →

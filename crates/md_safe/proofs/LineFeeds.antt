@@ -19,8 +19,7 @@ one-append b feed x r = grind arith
 
 begins-append : (x r : List ℕ) → begins_with_line_feed r ≡ false →
     begins_with_line_feed (x ++ r) ≡ begins_with_line_feed x
-begins-append [] r h = h
-begins-append (b ∷ x) r h = refl
+begins-append x r h = grind arith
 
 -- a text, and what follows it and doesn't begin with LF
 pub line_feeds-append : (x r : List ℕ) → begins_with_line_feed r ≡ false →

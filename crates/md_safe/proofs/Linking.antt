@@ -1,8 +1,8 @@
 -- What stands in a link, where links may stand in links and where not; and none does where a
 -- document has no link in a link.
-use Rattle.std.proofs.Common.{◌≡◌, ◌⊎◌, inl, inr, Bool, true, false, not, ◌&&◌, ◌||◌, cond, refl}
-use Rattle.std.proofs.Common.{sym, ap, ◌∙◌, arith}
-use Rattle.std.proofs.lemmas.Bool.{or_parts, or_left, or_right, cond_both}
+use Rattle.std.proofs.Common.{◌≡◌, ◌⊎◌, inl, Bool, true, false, not, ◌&&◌, ◌||◌, cond}
+use Rattle.std.proofs.Common.{sym, ◌∙◌, arith}
+use Rattle.std.proofs.lemmas.Bool.{or_parts, or_left, or_right}
 use Rattle.md_base.proofs.Lies.{lie}
 use Rattle.md_base.specs.declared.event.Name.{Name}
 use Rattle.md_base.specs.declared.event.Name.TheVariants.{Image, Link}
@@ -53,28 +53,15 @@ inner_place nested content name = cond (is_transparent name) content (place_in n
 pub place-other : (nested : Bool) (content : Content) (name : Name) → named Link name ≡ false →
     place_in nested content name
     ≡ cond (is_linked content) (without_links (place_of name)) (place_of name)
-place-other nested content Link other = lie (sym other)
-place-other nested content _ other = refl
-
-with-without : (content : Content) → with_links (without_links content) ≡ with_links content
-with-without content = grind arith
-
--- no place is without links by its name
-place-with : (name : Name) → with_links (place_of name) ≡ place_of name
-place-with Link = refl
-place-with _ = refl
+place-other nested content name other = grind arith
 
 pub place-in-with : (nested : Bool) (content : Content) (name : Name) →
     with_links (place_in nested content name) ≡ place_of name
-place-in-with nested content Link = grind arith
-place-in-with nested content name = cond_both (is_linked content) (without_links (place_of name))
-    (place_of name) (λ c. with_links c ≡ place_of name) (λ _. with-without (place_of name) ∙
-    place-with name) (λ _. place-with name)
+place-in-with nested content name = grind arith
 
 pub inner-place-with : (nested : Bool) (content : Content) (name : Name) →
     with_links (inner_place nested content name) ≡ place_inside (with_links content) name
-inner-place-with nested content name = cases (is_transparent name) (λ e. rw e refl)
-    (λ e. rw e (place-in-with nested content name))
+inner-place-with nested content name = grind (arith, place-in-with)
 
 -- spans without links stand only in a link, where links don't nest
 abbrev pub IsLinked : Bool → Content → Surroundings → Type 0
@@ -84,44 +71,23 @@ IsLinked nested content around =
 -- a link contains the content of a link
 inside-link : (options : CompileOptions) (loose : Bool) (name : Name) (around : Surroundings) →
     (inside options loose name around).in_link ≡ (named Link name || around.in_link)
-inside-link options loose Link around = refl
-inside-link options loose _ around = refl
+inside-link options loose name around = grind arith
 
 never-linked : (name : Name) → is_linked (place_of name) ≡ false
-never-linked Link = refl
-never-linked _ = refl
+never-linked name = grind arith
 
 linked-place : (nested : Bool) (content : Content) (name : Name) →
     is_linked (place_in nested content name) ≡ true →
     (is_linked content ≡ true) ⊎ ((named Link name ≡ true) × (nested ≡ false))
-linked-place nested content Link h = cases (is_linked content) (λ e. inl e)
-    (λ e. inr (refl, by nested (rw e at h)))
-  where
-    by : (nested : Bool) → is_linked (in_link nested) ≡ true → nested ≡ false
-    by nested h = grind (arith, h)
+linked-place nested content Link h = grind arith
 linked-place nested content name h = cases (is_linked content) (λ e. inl e)
     (λ e. lie (sym (never-linked name) ∙ (rw e at h)))
 
 pub linked-inside : (nested : Bool) (options : CompileOptions) (loose : Bool) (content : Content)
     (name : Name) (around : Surroundings) → IsLinked nested content around →
     IsLinked nested (inner_place nested content name) (inside options loose name around)
-linked-inside nested options loose content name around linked h = cases (is_transparent name) (λ e.
-    let l = linked (rw e at h) in (l.0, kept l.1)) (λ e. elim (linked-place nested content name (rw
-    e at h)) [
-      | inl e ↦ ((linked e).0, kept (linked e).1)
-      | inr e ↦ (
-        e.1,
-        inside-link options loose name around ∙ or_left (named Link name) around.in_link e.0,
-      )
-    ])
-  where
-    kept : around.in_link ≡ true → (inside options loose name around).in_link ≡ true
-    kept e = inside-link options loose name around ∙ or_right (named Link name) around.in_link e
-
--- the parts of a node without a link in a link
-parts : (a b c d : Bool) → (a && b || c && d) ≡ false →
-    (c ≡ true → d ≡ false) × (a ≡ true → b ≡ false)
-parts a b c d h = (λ e. grind (arith, h, e), λ e. grind (arith, h, e))
+linked-inside nested options loose content name around linked h =
+    grind (arith, linked-place, inside-link, or_left, or_right)
 
 pub unnested-parts : (name : Name) (in_link : Bool) (start end : Point) (children rest : Forest) →
     has_nested_link in_link (Node name start end children rest) ≡ false → ((in_link && prints_link
@@ -129,30 +95,19 @@ pub unnested-parts : (name : Name) (in_link : Bool) (start end : Point) (childre
     ≡ false) × (has_nested_link in_link rest ≡ false)
 unnested-parts name in_link start end children rest h = or_parts _ _ h
 
-no_image : (name : Name) → is_blocks (content_inside Blocks name) ≡ true →
-    not (named Image name) ≡ true
-no_image Image h = lie h
-no_image _ h = refl
-
 pub unnested-inside :
     (options : CompileOptions) (loose : Bool) (name : Name) (around : Surroundings)
     (start end : Point)
     (children rest : Forest) → is_blocks (content_inside Blocks name) ≡ true →
     has_nested_link around.in_link (Node name start end children rest) ≡ false →
     has_nested_link (inside options loose name around).in_link children ≡ false
-unnested-inside options loose name around start end children rest blocks h =
-    ap (λ b. has_nested_link b children) (inside-link options loose name around)
-    ∙ (parts around.in_link (prints_link name) (not (named Image name))
-    (has_nested_link (named Link name || around.in_link) children)
-    (unnested-parts name around.in_link start end children rest h).0).0 (no_image name blocks)
+unnested-inside options loose name around start end children rest blocks h = grind arith
 
 -- spans that aren't without links
 pub unlinked-spans : (content : Content) → is_spans content ≡ true →
     (is_linked content ≡ true → content ≡ Phrasing) →
     content ≡ Phrasing
-unlinked-spans Phrasing is h = refl
-unlinked-spans Linked is h = h refl
-unlinked-spans _ is h = lie is
+unlinked-spans content is h = grind arith
 
 -- no link is printed where they are
 pub unlinked-here :
@@ -162,7 +117,4 @@ pub unlinked-here :
     (nested ≡ false → has_nested_link around.in_link (Node name start end children rest) ≡ false) →
     content ≡ Phrasing
 unlinked-here nested content name around start end children rest is prints linked unnested =
-    unlinked-spans content is (λ e.
-    lie (sym ((parts around.in_link (prints_link name) (not (named Image name))
-    (has_nested_link (named Link name || around.in_link) children) (unnested-parts name
-    around.in_link start end children rest (unnested (linked e).0)).0).1 (linked e).1) ∙ prints))
+    grind arith

@@ -6,8 +6,7 @@ use Rattle.std.specs.Prelude.{None}
 use Rattle.std.proofs.lemmas.Bool.{or_right, cond_both}
 use Rattle.md_safe.specs.Token.{TokenAttribute}
 use Rattle.md_safe.specs.Node.{Open, Entry, Marker, Formatting}
-use Rattle.md_safe.specs.Stack.{has_identity}
-use Rattle.md_safe.specs.Formatting.{is_open, is_active, count_same, without_earliest, last_active}
+use Rattle.md_safe.specs.Formatting.{is_active, count_same, without_earliest, last_active}
 use Rattle.md_safe.specs.Built.{AreCreated, AreOpen}
 
 -- some formatting elements after the last marker were taken away
@@ -49,8 +48,7 @@ room name attributes xs =
 
 pub keeps-room : (name : List ℕ) (attributes : List TokenAttribute) (xs : List Entry) →
     Keeps xs (room name attributes xs)
-keeps-room name attributes xs =
-    cond_both _ _ _ (Keeps xs) (λ _. keeps-earliest name attributes xs) (λ _. keeps-all xs)
+keeps-room name attributes xs = grind (arith, cond_both, keeps-earliest, keeps-all)
 
 -- what holds of a list and of what follows its first entry, and of that entry before any list of
 -- which it holds, holds when entries are taken away
@@ -95,10 +93,8 @@ pub open-under : (node : Open) (stack : List Open) (xs : List Entry) → AreOpen
     AreOpen (node ∷ stack) xs
 open-under node stack [] o = tt
 open-under node stack (Marker ∷ xs) o = tt
-open-under node stack (Formatting identity name attributes ∷ xs) o = (
-  or_right (has_identity identity node) (is_open identity stack) o.0,
-  open-under node stack xs o.1,
-)
+open-under node stack (Formatting identity name attributes ∷ xs) o =
+    grind (arith, or_right, open-under node stack xs o.1)
 
 -- where no element of a name is active, none is when entries are taken away
 pub keeps-none : (name : List ℕ) (xs ys : List Entry) → last_active name xs ≡ None → Keeps xs ys →

@@ -1,8 +1,7 @@
 -- Links and images as they are printed have readings, and their addresses pass the test.
-use Rattle.std.proofs.Common.{◌≡◌, ℕ, Bool, true, ◌||◌, List, [], ◌∷◌, refl, codes}
+use Rattle.std.proofs.Common.{◌≡◌, ℕ, Bool, true, List, [], ◌∷◌, refl, codes, arith}
 use Rattle.std.specs.Prelude.{Option, Some, None}
 use Rattle.std.proofs.lemmas.Bool.{cond_both}
-use Rattle.md_text.specs.Url.{sanitized, sanitized_with, link_protocols, image_protocols}
 use Rattle.md_text.specs.Html.{Attribute}
 use Rattle.md_text.proofs.EscapedLemmas.{sanitized-escaped, sanitized_with-escaped}
 use Rattle.md_text.specs.declared.options.CompileOptions.{CompileOptions}
@@ -14,15 +13,10 @@ use Rattle.md_safe.proofs.Tags.{IsTest, attribute, Tagged, Single, adds-flat}
 use Rattle.md_safe.proofs.Cases.{OnSome}
 
 pub href-escaped : (options : CompileOptions) (x : List ℕ) → Escaped (href options x)
-href-escaped options x =
-    cond_both options.allow_dangerous_protocol (sanitized x) (sanitized_with link_protocols x)
-    Escaped (λ _. sanitized-escaped x) (λ _. sanitized_with-escaped link_protocols x)
+href-escaped options x = grind (arith, cond_both, sanitized-escaped, sanitized_with-escaped)
 
 pub src-escaped : (options : CompileOptions) (x : List ℕ) → Escaped (src options x)
-src-escaped options x =
-    cond_both (options.allow_any_img_src || options.allow_dangerous_protocol) (sanitized x)
-    (sanitized_with image_protocols x) Escaped (λ _. sanitized-escaped x)
-    (λ _. sanitized_with-escaped image_protocols x)
+src-escaped options x = grind (arith, cond_both, sanitized-escaped, sanitized_with-escaped)
 
 -- a title is escaped, where there is one
 abbrev pub IsEscapedTitle : Option (List ℕ) → Type 0

@@ -1,12 +1,12 @@
 -- A node of any content, before what is printed after it: the step of the induction
 -- in `Forests.antt`.
-use Rattle.std.proofs.Common.{◌≡◌, ℕ, Bool, true, false, not, ◌||◌, cond, List, [], ◌++◌}
+use Rattle.std.proofs.Common.{◌≡◌, ℕ, Bool, true, false, not, ◌||◌, cond, List, [], ◌++◌, arith}
 use Rattle.std.proofs.Common.{refl, ap, inl, inr, append-nil, codes}
 use Rattle.md_base.proofs.Lies.{lie}
 use Rattle.md_base.specs.declared.event.Name.{Name}
 use Rattle.md_base.specs.declared.event.Name.TheVariants as name_variants
-use name_variants.{Other, BlockQuotePrefix, SpaceOrTab, CodeFencedFenceInfo, CodeFencedFenceMeta}
-use name_variants.{MathFlowFenceMeta, GfmTaskListItemValueChecked}
+use name_variants.{CodeFencedFenceInfo, CodeFencedFenceMeta}
+use name_variants.{MathFlowFenceMeta}
 use Rattle.md_text.proofs.EscapedLemmas.{escaped-append}
 use Rattle.md_base.specs.NameTests.{is_transparent}
 use Rattle.md_pattern.specs.Looseness.{is_loose}
@@ -37,14 +37,12 @@ use Rattle.md_safe.proofs.RawElements.{IsInfo, code_tag}
 -- spans print nothing, or only their children, or one of these
 span-sorts : (name : Name) → not (may_stand Spans name) || (is_hidden name || (is_silent name
     || (is_text name || (is_shown name || (is_leaf name || is_autolink name))))) ≡ true
-span-sorts SpaceOrTab = refl
-span-sorts _ = refl
+span-sorts name = grind arith
 
 -- in the latter spans stand
 silent-spans : (name : Name) → is_silent name ≡ true → may_stand Spans name ≡ true →
     content_of name Spans ≡ Spans
-silent-spans SpaceOrTab is stands = lie stands
-silent-spans _ is stands = cc
+silent-spans name is stands = grind arith
 
 span-any : (s : Setting) (t : At) (name : Name) → Suits t.around.is_escaping t.around.in_image
     Spans → may_stand Spans name ≡ true → IsFitAt s t name → (inner : List Piece) →
@@ -93,31 +91,21 @@ info_or_meta-node s t _ e is inner rest a b = lie is
 meta-node : (s : Setting) (t : At) (name : Name) → may_stand MetaAlone name ≡ true →
     (inner rest : List Piece) →
     Prints s IsNil rest → Prints s IsNil (prints s.context t name inner ++ rest)
-meta-node s t CodeFencedFenceMeta is inner rest b = b
-meta-node s t MathFlowFenceMeta is inner rest b = b
-meta-node s t _ is inner rest b = lie is
+meta-node s t name is inner rest b = grind arith
 
 -- the mark of a task that is done
 checked : (s : Setting) (in_image : Bool) {rest : List Piece} → Prints s IsNil rest →
     Prints s (IsDone in_image) (when (not in_image) (said (codes "checked=\"\" ")) ++ rest)
-checked s in_image b =
-    adds-append {f = IsDone in_image} {g = IsNil} (λ x y f g. rw (g, append-nil) f) (by in_image) b
-  where
-    by : (in_image : Bool) → Prints s
-        (IsDone in_image) (when (not in_image) (said (codes "checked=\"\" ")))
-    by true = adds-nothing (inl refl)
-    by false = adds-text (inr (refl, refl))
+checked s in_image b = grind (arith, adds-append, append-nil, adds-nothing, adds-text)
 
 done-node : (s : Setting) (t : At) (name : Name) → may_stand Done name ≡ true →
     (inner rest : List Piece) → Prints s IsNil rest → Prints s
     (IsDone t.around.in_image) (prints s.context t name inner ++ rest)
-done-node s t GfmTaskListItemValueChecked is inner rest b = checked s t.around.in_image b
-done-node s t _ is inner rest b = lie is
+done-node s t name is inner rest b = grind (arith, checked)
 
 -- a node among blocks is no part of another node
 pub not_part : (part : Bool) → cond part false true ≡ true → part ≡ false
-not_part true h = lie h
-not_part false h = refl
+not_part part h = grind arith
 
 -- the facts about a node besides the pieces of its children: its place, the text of a heading
 -- before it, and the target of a resource in it
@@ -179,10 +167,7 @@ through-node : (s : Setting) (t : At) (content : Content) (name : Name) →
     (inner rest : List Piece) → Before s t content name inner →
     Prints s (Here s t (content_after content t.children)) rest →
     Prints s (Here s t content) (prints s.context t name inner ++ rest)
-through-node s t content (Other number) is inner rest a b = a rest b
-through-node s t content BlockQuotePrefix is inner rest a b = a rest b
-through-node s t content SpaceOrTab is inner rest a b = a rest b
-through-node s t content _ is inner rest a b = lie is
+through-node s t content name is inner rest a b = grind arith
 
 -- what a node that isn't transparent holds
 pub inside-alone : (s : Setting) (t : At) (content : Content) (name : Name) →

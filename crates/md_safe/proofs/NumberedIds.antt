@@ -1,28 +1,25 @@
 -- Ids by number: which number each has is read back of it. The numbers of calls and their
 -- occurrences determine them, and so do their ids.
-use Rattle.std.proofs.Common.{◌≡◌, ℕ, ◌<◌, ◌^◌, ◌==◌, ◌/◌, ◌%◌, zero, suc, true, false, not, ◌&&◌}
-use Rattle.std.proofs.Common.{cond, List, [], ◌∷◌, ◌++◌, refl, sym, ap, ◌∙◌, arith, append_assoc}
+use Rattle.std.proofs.Common.{◌≡◌, ℕ, ◌<◌, ◌^◌, zero, suc, true, false}
+use Rattle.std.proofs.Common.{List, [], ◌∷◌, ◌++◌, refl, sym, ap, arith, append_assoc}
 use Rattle.std.proofs.Common.{codes, ◌+◌, ◌≤◌, Bool, ◌||◌, length, append-nil, bytes_eq}
-use Rattle.std.specs.Prelude.{Option, Some, None, filter}
-use Rattle.std.specs.Option.{option_map_or}
+use Rattle.std.specs.Prelude.{filter}
 use Rattle.std.specs.List.{list_all}
-use Rattle.std.specs.Fmt.{decimal, digits, digits_onto, digit_glyph}
-use Rattle.std.proofs.lemmas.Bool.{and_parts, and_from, cond_both, cond_both, or_right}
+use Rattle.std.specs.Fmt.{decimal, digits, digits_onto}
+use Rattle.std.proofs.lemmas.Bool.{and_parts, cond_both, cond_both, or_right}
 use Rattle.std.proofs.lemmas.Fmt.{decimal_injective}
 use Rattle.std.proofs.lemmas.List.{append_cancel_left, length-append}
 use Rattle.std.proofs.lemmas.List.Folds.{list_all-append}
 use Rattle.md_base.proofs.Lies.{lie}
-use Rattle.md_text.specs.Encode.{encoded}
 use Rattle.md_text.specs.References.{read_back}
 use Rattle.md_text.proofs.EncodeLaws.{read_back-before, read_back-other}
 use Rattle.md_text.proofs.HtmlSplit.{split}
 use Rattle.md_text.specs.declared.options.CompileOptions.{CompileOptions}
-use Rattle.md_text.specs.Url.{sanitized}
 use Rattle.md_meaning.specs.Meaning.Footnotes.{id_of, call_id, distinct, place_among, count_of}
 use Rattle.md_content.specs.Built.{is_digit}
 use Rattle.md_safe.proofs.Cases.{all-weaker}
 use Rattle.md_safe.specs.Apart.{prefix_of}
-use Rattle.md_safe.proofs.Calls.{prefix_given, id_prefix}
+use Rattle.md_safe.proofs.Calls.{id_prefix}
 use Rattle.md_safe.proofs.Texts.{digit-plain, glyph-digit, decimal-digits}
 use Rattle.md_text.proofs.ProtocolLemmas.{no_and}
 use Rattle.md_meaning.proofs.Identifiers.{is_in, same, itself, is_in-distinct}
@@ -41,16 +38,10 @@ EndsInDigit x = is_digit (last_byte x) ≡ true
 onto-ends : (k n c : ℕ) (acc : List ℕ) → EndsInDigit (c ∷ acc) →
     EndsInDigit (digits_onto k 10 false n (c ∷ acc))
 onto-ends zero n c acc h = h
-onto-ends (suc k) n c acc h = cond_both (n / 10 == 0) (digit_glyph false (n % 10) ∷ c ∷ acc)
-    (digits_onto k 10 false (n / 10) (digit_glyph false (n % 10) ∷ c ∷ acc)) EndsInDigit (λ _. h)
-    (λ _. onto-ends k _ _ _ h)
+onto-ends (suc k) n c acc h = grind (arith, cond_both, onto-ends k)
 
 onto-first : (k n : ℕ) → EndsInDigit (digits_onto (suc k) 10 false n [])
-onto-first k n =
-    let l : n % 10 < 10 = omega arith in
-    cond_both (n / 10 == 0) (digit_glyph false (n % 10) ∷ []) (digits_onto k 10 false (n / 10)
-    (digit_glyph false (n % 10) ∷ [])) EndsInDigit (λ _. glyph-digit _ l)
-    (λ _. onto-ends k _ _ _ (glyph-digit _ l))
+onto-first k n = grind (arith, cond_both, glyph-digit, onto-ends)
 
 decimal-ends : (n : ℕ) → EndsInDigit (decimal n)
 unfolding digits
@@ -77,13 +68,7 @@ back_prefix options = prefix_of options
 
 prefix-back : (options : CompileOptions) (x : List ℕ) →
     read_back (id_prefix options ++ x) ≡ back_prefix options ++ read_back x
-prefix-back options x = by (prefix_given options)
-  where
-    by : (given : Option (List ℕ)) →
-        read_back (option_map_or (encoded true) given (codes "user-content-") ++ x)
-        ≡ option_map_or (encoded false) given (codes "user-content-") ++ read_back x
-    by None = refl
-    by (Some text) = read_back-before text x
+prefix-back options x = grind (arith, read_back-before)
 
 -- ---- ids by number
 
@@ -99,37 +84,20 @@ pub note-back : (options : CompileOptions) → options.gfm_footnote_number_ids �
     read_back (id_of options (codes "fn-") identifier number)
     ≡ back_prefix options ++ note_tail number
 note-back options on identifier number =
-    let prefix : List ℕ = id_prefix options in
-    ap
-    (λ b. read_back (prefix ++ (codes "fn-" ++ cond b (decimal number) (sanitized identifier)))) on
-    ∙ prefix-back options (note_tail number)
-    ∙ ap (λ x. back_prefix options ++ x)
-    (plain-back (note_tail number) (digits-no_and (decimal number) (decimal-digits number)))
+    grind (arith, prefix-back, plain-back, digits-no_and, decimal-digits)
 
 pub call-back : (options : CompileOptions) → options.gfm_footnote_number_ids ≡ true →
     (identifier : List ℕ)
     (number occurrence : ℕ) → read_back (call_id options identifier number occurrence)
     ≡ back_prefix options ++ call_tail number occurrence
 call-back options on identifier number occurrence =
-    let prefix : List ℕ = id_prefix options in
-    ap
-    (λ b. read_back ((prefix ++ (codes "fnref-" ++ cond b (decimal number) (sanitized identifier)))
-    ++ cond (not b && occurrence == 1) [] (45 ∷ decimal occurrence))) on
-    ∙ ap read_back
-    (append_assoc prefix (codes "fnref-" ++ decimal number) (45 ∷ decimal occurrence))
-    ∙ prefix-back options (call_tail number occurrence)
-    ∙ ap (λ x. back_prefix options ++ x) (plain-back (call_tail number occurrence)
-    (list_all-append no_and (decimal number) (45 ∷ decimal occurrence)
-    ∙ and_from _ _ (digits-no_and (decimal number) (decimal-digits number))
-    (digits-no_and (decimal occurrence) (decimal-digits occurrence))))
+    let whole = prefix-back options (call_tail number occurrence) in
+    grind (arith, append_assoc, whole, plain-back, list_all-append, digits-no_and, decimal-digits)
 
 -- equal ids have equal numbers
 pub same-note : (options : CompileOptions) (n m : ℕ) → n < 2 ^ 64 → m < 2 ^ 64 →
     back_prefix options ++ note_tail n ≡ back_prefix options ++ note_tail m → n ≡ m
-same-note options n m hn hm e =
-    let tails : note_tail n ≡ note_tail m =
-    append_cancel_left (back_prefix options) (note_tail n) (note_tail m) e in
-    decimal_injective n m hn hm (cc tails)
+same-note options n m hn hm e = grind (arith, append_cancel_left, decimal_injective)
 
 pub same-call : (options : CompileOptions) (n m k l : ℕ) → n < 2 ^ 64 → m < 2 ^ 64 →
     k < 2 ^ 64 → l < 2 ^ 64 →
@@ -147,9 +115,7 @@ same-call options n m k l hn hm hk hl e =
 -- a footnote's id is no call's, and neither is that of the heading
 pub note-no_call : (options : CompileOptions) (n m k : ℕ) → back_prefix options ++ note_tail n
     ≡ back_prefix options ++ call_tail m k → ⊥
-note-no_call options n m k e =
-    let tails : note_tail n ≡ call_tail m k = append_cancel_left (back_prefix options) _ _ e in
-    cc tails
+note-no_call options n m k e = grind (arith, append_cancel_left)
 
 pub label-no_digit : (x : List ℕ) → codes "footnote-label" ≡ x → EndsInDigit x → ⊥
 label-no_digit x e ends = lie (rw (sym e) at ends)
@@ -195,10 +161,7 @@ calls-differ : (all before mid : List (List ℕ)) (x y : List ℕ) → is_in x a
     place_among (distinct all) x ≡ place_among (distinct all) y →
     suc (count_of before x) ≡ suc (count_of (before ++ x ∷ mid) y) → ⊥
 calls-differ all before mid x y among numbers occurrences =
-    let one : x ≡ y = same-place (distinct all) x y (is_in-distinct all x ∙ among) numbers in
-    let counted : count_of before x ≡ count_of (before ++ x ∷ mid) x =
-    omega (occurrences, arith) ∙ ap (λ z. count_of (before ++ x ∷ mid) z) (sym one) in
-    omega (counted, count-middle before mid x, arith)
+    grind (arith, same-place, is_in-distinct, count-middle)
 
 -- numbers and occurrences are no greater than the calls are many, and one
 place-last : (xs : List (List ℕ)) (x : List ℕ) → place_among xs x ≤ suc (length xs)
@@ -215,9 +178,7 @@ filter-fewer p (x ∷ xs) = grind (arith, filter-fewer p xs)
 
 pub distinct-fewer : (calls : List (List ℕ)) → length (distinct calls) ≤ length calls
 distinct-fewer [] = omega arith
-distinct-fewer (call ∷ calls) =
-    let fewer = filter-fewer (λ other. not (bytes_eq other call)) (distinct calls) in
-    omega (fewer, distinct-fewer calls, arith)
+distinct-fewer (call ∷ calls) = grind (arith, filter-fewer, distinct-fewer calls)
 
 pub number-bound : (all : List (List ℕ)) (x : List ℕ) →
     place_among (distinct all) x ≤ suc (length all)
@@ -241,10 +202,7 @@ pub ids-append : (options : CompileOptions) (all before xs ys : List (List ℕ))
     ≡ ids_after options all before xs ++ ids_after options all (before ++ xs) ys
 ids-append options all before [] ys = ap (λ b. ids_after options all b ys) (sym (append-nil before))
 ids-append options all before (x ∷ xs) ys =
-    ap (λ ids. id_after options all before x ∷ ids)
-    (ids-append options all (before ++ (x ∷ [])) xs ys
-    ∙ ap (λ b. ids_after options all (before ++ (x ∷ [])) xs ++ ids_after options all b ys)
-    (append_assoc before (x ∷ []) xs))
+    grind (arith, append_assoc, ids-append options all (before ++ (x ∷ [])) xs ys)
 
 -- a later call has another id
 pub ids-differ : (options : CompileOptions) → options.gfm_footnote_number_ids ≡ true →
@@ -252,15 +210,4 @@ pub ids-differ : (options : CompileOptions) → options.gfm_footnote_number_ids 
     length (before ++ x ∷ mid) + 1 < 2 ^ 64 → id_after options all (before ++ x ∷ mid) y ≡ id_after
     options all before x → ⊥
 ids-differ options on all before mid x y among few small e =
-    let n : ℕ = place_among (distinct all) x in
-    let k : ℕ = suc (count_of before x) in
-    let m : ℕ = place_among (distinct all) y in
-    let l : ℕ = suc (count_of (before ++ x ∷ mid) y) in
-    let fewer : length before ≤ length (before ++ x ∷ mid) = omega
-    (length-append before (x ∷ mid), arith) in
-    let tails : back_prefix options ++ call_tail n k ≡ back_prefix options ++ call_tail m l = sym
-    (call-back options on x n k) ∙ sym e ∙ call-back options on y m l in
-    let parts = same-call options _ _ _ _ (omega (number-bound all x, few, arith))
-    (omega (number-bound all y, few, arith)) (omega (count-last before x, fewer, small, arith))
-    (omega (count-last (before ++ x ∷ mid) y, small, arith)) tails in
-    calls-differ all before mid x y among parts.0 parts.1
+    grind (arith, length-append, call-back, same-call, number-bound, count-last, calls-differ)

@@ -1,24 +1,18 @@
 -- However many steps are allowed, the tokens are the same.
-use Rattle.std.proofs.Common.{◌≡◌, ℕ, List, ◌++◌, refl, sym, ap, ◌∙◌, Option, Some, None}
+use Rattle.std.proofs.Common.{◌≡◌, ℕ, List, ◌++◌, Option, Some, arith}
 use Rattle.std.proofs.Common.{option_map, zero, suc}
 use Rattle.md_safe.specs.Token.{Token}
-use Rattle.md_safe.specs.TokenizerStates.{State, Step, Goes, Stops, Stuck}
+use Rattle.md_safe.specs.TokenizerStates.{State, Step}
 use Rattle.md_safe.specs.Tokenizer.{run, after_step, IsRun}
 
 pub map_some : (out : List Token) (o : Option (List Token)) (x : List Token) →
     option_map (λ later. out ++ later) o ≡ Some x → (y : List Token) × (o ≡ Some y) × (x ≡ out ++ y)
-map_some out None x e = absurd (cc e)
-map_some out (Some y) x e = (y, refl, cc)
+map_some out o x e = grind arith
 
 same_after : (n m : ℕ) → ((state : State) (input : List ℕ) (x y : List Token) → run n state input
     ≡ Some x → run m state input ≡ Some y → x ≡ y) → (s : Step) (x y : List Token) →
     after_step (run n) s ≡ Some x → after_step (run m) s ≡ Some y → x ≡ y
-same_after n m go (Goes out state rest) x y e f =
-    let p = map_some _ _ x e in
-    let q = map_some _ _ y f in
-    p.2 ∙ ap (λ later. out ++ later) (go state rest p.0 q.0 p.1 q.1) ∙ sym q.2
-same_after n m go (Stops out) x y e f = cc
-same_after n m go Stuck x y e f = cc
+same_after n m go s x y e f = grind arith
 
 same_run : (n m : ℕ) (state : State) (input : List ℕ) (x y : List Token) →
     run n state input ≡ Some x → run m state input ≡ Some y → x ≡ y

@@ -1,6 +1,6 @@
 -- A page's document: its fixed parts by computing, its title character by character, and its
 -- body as it is built.
-use Rattle.std.proofs.Common.{◌≡◌, ℕ, ◌==◌, true, false, List, [], ◌∷◌, ◌++◌, refl}
+use Rattle.std.proofs.Common.{◌≡◌, ℕ, ◌==◌, true, false, List, [], ◌∷◌, ◌++◌, refl, arith}
 use Rattle.std.proofs.Common.{ap, ◌∙◌, map, codes}
 use Rattle.std.specs.Prelude.{Option, Some, None, is_some, option_and_then}
 use Rattle.std.specs.List.{list_all}
@@ -98,12 +98,9 @@ pub reading-page-built : (title : List ℕ) (body : Forest) → list_all is_char
     is_forest body ≡ true → is_contained false Flow body ≡ true →
     document_of (page_tokens title body) ≡ Some (page_document title body)
 reading-page-built title body h grammar contained =
-    page-built title body h (forest-built body (reading-texts body grammar) contained InBody
-    (body_at NoNode) (root_at title ∷ []) [] 5 (body-place title))
+    grind (arith, page-built, forest-built, reading-texts, body-place)
 
 pub text-page-built : (title text : List ℕ) → list_all is_character title ≡ true →
     (built : IsBuiltAsRead text) →
     document_of (page_tokens title built.forest) ≡ Some (page_document title built.forest)
-text-page-built title text h built =
-    page-built title built.forest h
-    (built.builds InBody (body_at NoNode) (root_at title ∷ []) [] 5 (body-place title))
+text-page-built title text h built = grind (arith, page-built, body-place)

@@ -1,7 +1,7 @@
 -- Phrasing content is built as it is read: texts, void tags, formatting elements and others,
 -- without a link in a link.
-use Rattle.std.proofs.Common.{◌≡◌, inl, inr, ℕ, ◌≤◌, suc, Bool, true, false, List, ◌∷◌, refl, ◌∙◌}
-use Rattle.std.proofs.Common.{map, codes, arith, Some}
+use Rattle.std.proofs.Common.{◌≡◌, inl, inr, ℕ, ◌≤◌, suc, Bool, true, false, List, refl}
+use Rattle.std.proofs.Common.{map, arith, Some}
 use Rattle.std.proofs.lemmas.Bool.{and_parts}
 use Rattle.md_text.specs.Html.{Attribute, Forest, Empty, Text, Void, Element}
 use Rattle.md_text.specs.References.{is_escaped}
@@ -24,14 +24,8 @@ use Rattle.md_safe.proofs.PhrasingRules.{here-within, is_inline, rules, void-in}
 pub here-after : {x : Position} {children : Nodes} {left : List Entry} {more : ℕ} {free : Bool} →
     Keeps x.active left → x.created ≤ more → Here x free → Here
     (with_children x children left more) free
-here-after {x = x} {children = children} {left = left} {more = more} kept later here = record {
-  body = here.body;
-  opened = same-open x.node children x.others left (keeps-open (x.node ∷ x.others) x.active left
-      here.opened kept);
-  made = later-created x.created more left later
-      (keeps-created x.created x.active left here.made kept);
-  no_link = λ is. keeps-none (codes "a") x.active left (here.no_link is) kept;
-}
+here-after kept later here =
+    grind (arith, same-open, keeps-open, later-created, keeps-created, keeps-none)
 
 -- nothing
 pub none-done : (x : Position) → Done x Empty
@@ -48,13 +42,7 @@ onward : {x : Position} {next : Nodes} {left : List Entry} {more : ℕ} {forest 
     put x.node.children forest ≡ put next rest → run (parser_of x) (tokens forest)
     ≡ run (parser_of (with_children x next left more)) (tokens rest) → Keeps x.active left →
     x.created ≤ more → Done (with_children x next left more) rest → Done x forest
-onward {x} {left = left} same leads keeps more later = record {
-  left = later.left;
-  more = later.more;
-  runs = leads ∙ rw same later.runs;
-  keeps = keeps-twice x.active left later.left keeps later.keeps;
-  later = omega (more, later.later, arith);
-}
+onward same leads keeps more later = grind (arith, keeps-twice)
 
 -- a text, and what comes after it
 pub text-done : {x : Position} {free : Bool} {bytes : List ℕ} {rest : Forest} →
@@ -74,10 +62,7 @@ pub void-done : {x : Position} {name : List ℕ} {attributes : List Attribute} {
     (suc x.created))) → Done (with_children x (with_element x.node.children name
     (seen_attributes attributes) NoNode) x.active (suc x.created)) rest →
     Done x (Void name attributes rest)
-void-done {x} {name} {attributes} {rest} inserts later =
-    let tag = StartTag name (seen_attributes attributes) true in
-    onward refl (after-one (parser_of x) _ tag (tokens rest) inserts) (keeps-all x.active)
-    (omega arith) later
+void-done inserts later = grind (arith, onward, after-one, keeps-all)
 
 -- an element, and what comes after it
 pub element-done : {x : Position} {name : List ℕ} {attributes : List Attribute}
@@ -90,10 +75,7 @@ element-done {rest = rest} passed later =
 -- the parts of a text in a forest
 pub text-escaped : (bytes : List ℕ) (rest : Forest) → has_whole_texts (Text bytes rest) ≡ true →
     (is_escaped bytes ≡ true) × (has_whole_texts rest ≡ true)
-text-escaped bytes rest h =
-    let all = and_parts _ _ h in
-    let own = and_parts _ _ all.0 in
-    ((and_parts _ _ own.0).1, all.1)
+text-escaped bytes rest h = grind arith
 
 -- and those of an element
 pub element-parts : (name : List ℕ) (attributes : List Attribute) (inner rest : Forest) →

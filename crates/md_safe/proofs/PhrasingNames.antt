@@ -1,8 +1,8 @@
 -- Where phrasing content may be inserted, what builds an element there, and which elements there
 -- are.
-use Rattle.std.proofs.Common.{◌≡◌, ℕ, ◌≤◌, suc, Bool, true, false, cond, List, [], ◌∷◌, ◌++◌, refl}
-use Rattle.std.proofs.Common.{ap, ◌∙◌, subst, codes, arith, not, ◌&&◌}
-use Rattle.std.specs.Prelude.{Some, None, find, option_map, is_some, bytes_eq}
+use Rattle.std.proofs.Common.{◌≡◌, ℕ, ◌≤◌, suc, Bool, true, false, List, [], ◌∷◌, ◌++◌}
+use Rattle.std.proofs.Common.{◌∙◌, codes, arith, not, ◌&&◌}
+use Rattle.std.specs.Prelude.{Some, None, find, option_map, bytes_eq}
 use Rattle.std.specs.Option.{option_map_or}
 use Rattle.std.proofs.lemmas.Slice.Eq.{bytes_eq-Decides}
 use Rattle.md_base.proofs.Lies.{lie}
@@ -73,16 +73,8 @@ pub found : (P : List ℕ → Content → Type 0) (those : List (List ℕ × Con
     ≡ true →
     (held : Content) × P name held × (is_contained false held inner ≡ true)
 found P [] name inner each h = lie h
-found P (element ∷ others) name inner each h = cond_both (bytes_eq element.0 name) (Some element)
-    (find (λ element. bytes_eq element.0 name) others) (λ o. option_map_or (λ held. is_contained
-    false held inner) (option_map (λ element. element.1) o) false ≡ true → (held : Content) × P name
-    held × (is_contained false held inner ≡ true)) (λ e h. (
-      element.1,
-      subst (λ name. P name
-          element.1) ((bytes_eq-Decides element.0 name).0 e) each.0,
-      h,
-    )) (λ _ h. found P others name inner
-    each.1 h) h
+found P (element ∷ others) name inner each h =
+    grind (arith, cond_both, bytes_eq-Decides, found P others name inner)
 
 -- ---- names
 
@@ -124,15 +116,6 @@ is_outer name = not (is_one_of parts name) && (not (is_one_of cells name) && (no
 
 pub outside : {name : List ℕ} → is_outer name ≡ true → IsOuter name
 outside {name} h = grind arith
-
-pub a-formats : IsFormatting (codes "a")
-a-formats = record {
-  names = outside refl;
-  plain = refl;
-  starts = λ attributes p free. ap (λ found. cond (is_some found) None (reconstructed p
-      (insert_formatting (codes "a") attributes))) (free refl);
-  ends = λ p. refl;
-}
 
 pub void-named : (name : List ℕ) → is_one_of (codes "br" ∷ codes "img" ∷ codes "input" ∷ []) name
     ≡ true → IsVoid name

@@ -1,28 +1,27 @@
 -- Ordinary and formatting elements are built as they are read, by what their children do; what is
 -- known of each element of phrasing content, and where its children are inserted.
-use Rattle.std.proofs.Common.{◌≡◌, inl, inr, ℕ, ◌==◌, true, false, List, ◌∷◌, refl, sym, ◌∙◌, subst}
+use Rattle.std.proofs.Common.{◌≡◌, inl, inr, ℕ, ◌==◌, true, false, List, ◌∷◌, refl, ◌∙◌}
 use Rattle.std.proofs.Common.{codes, eq-eqb, ◌⊎◌, suc, Bool, arith}
 use Rattle.std.specs.Prelude.{Some, None, bytes_eq, bytes_eq}
 use Rattle.md_text.specs.Bytes.{is_one_of}
 use Rattle.md_text.specs.Html.{Attribute, Forest}
 use Rattle.md_safe.specs.Token.{TokenAttribute}
 use Rattle.md_safe.specs.Tokens.{seen_attributes}
-use Rattle.md_safe.specs.Node.{Nodes, Open, Entry, Formatting, Mode, Empty as NoNode, Entry, Parser}
+use Rattle.md_safe.specs.Node.{Nodes, Open, Entry, Formatting, Mode, Empty as NoNode, Entry}
 use Rattle.md_safe.specs.Elements.{special}
 use Rattle.md_safe.specs.Stack.{insert, popped, insert}
-use Rattle.md_safe.specs.Formatting.{push, last_active, adopt, end_formatting, end_other}
-use Rattle.md_safe.specs.InBody.{insert_formatting, reconstructed, start_in_body, end_in_body}
+use Rattle.md_safe.specs.Formatting.{push, last_active, adopt, end_formatting}
+use Rattle.md_safe.specs.InBody.{insert_formatting}
 use Rattle.md_safe.specs.Built.{put, at, is_body, AreCreated, AreOpen}
 use Rattle.md_safe.proofs.Lists.{Keeps, keeps-twice, room, keeps-room, keeps-created, not-active}
 use Rattle.md_safe.proofs.Lists.{keeps-open, later-created, open-under, keeps-none}
 use Rattle.md_safe.proofs.Steps.{here, past}
 use Rattle.md_safe.proofs.TreeSteps.{Position, parser_of, element_of, within, reconstructs}
 use Rattle.md_safe.proofs.PhrasingNames.{Done, Passed, IsOrdinary, IsFormatting, full, passes}
-use Rattle.md_safe.proofs.PhrasingNames.{is_free, Each, a-formats, outside, IsOuter, also, IsVoid}
+use Rattle.md_safe.proofs.PhrasingNames.{is_free, Each, IsVoid}
 use Rattle.md_safe.proofs.PhrasingNames.{void-named, Here}
 use Rattle.std.proofs.lemmas.Bool.{or_left}
-use Rattle.md_base.proofs.Lies.{lie}
-use Rattle.md_safe.specs.Contents.{Content, Phrasing, Linked, Characters, span_elements, spans_of}
+use Rattle.md_safe.specs.Contents.{Content, Phrasing, Linked, Characters}
 use Rattle.md_safe.specs.Contents.{elements_in, voids_in}
 
 -- an ordinary element
@@ -64,13 +63,8 @@ formatting-ends mode node others active left more identity name attributes child
       k,
     )
 formatting-ends mode node others active left more identity name attributes children plain self made
-    (inr k) = (
-      k.0,
-      subst (λ left. end_formatting name (at mode (element_of identity name attributes children
-          ∷ node ∷ others) left more) ≡ Some (at mode (popped (element_of identity name attributes
-          children ∷ node ∷ others)) k.0 more)) (sym k.1) (adopted _ _ _ _ _ _ _ _ _ self plain),
-      k.2,
-    )
+    (inr k) =
+    grind (arith, adopted)
 
 -- a formatting element, with what it holds
 pub formatting-passes : {x : Position} {name : List ℕ} {attributes : List Attribute}
@@ -104,77 +98,13 @@ pub record Rule (content : Content) (name : List ℕ) (held : Content) : Type 0 
   pub links : bytes_eq name (codes "a") ≡ true → is_free content ≡ true
   pub no_item : bytes_eq name (codes "li") ≡ false
 
--- of one that is no link
-spanning : {content held : Content} {name : List ℕ} → IsFormatting name ⊎ IsOrdinary name →
-    is_inline held ≡ true → (is_free held ≡ true → is_free content ≡ true) →
-    bytes_eq name (codes "a") ≡ false → bytes_eq name (codes "li") ≡ false → Rule content name held
-spanning kind inline free no_link no_item = record {
-  kind = kind;
-  inline = inline;
-  frees = λ e. (free e, no_link);
-  links = λ e. lie (sym no_link ∙ e);
-  no_item = no_item;
-}
-
-formatting : {content held : Content} {name : List ℕ} → IsOuter name →
-    is_one_of special name ≡ false →
-    ((attributes : List TokenAttribute) (p : Parser) →
-    start_in_body name attributes p ≡ reconstructed p (insert_formatting name attributes)) →
-    ((p : Parser) → end_in_body name p ≡ end_formatting name p) → is_inline held ≡ true →
-    (is_free held ≡ true → is_free content ≡ true) →
-    bytes_eq name (codes "a") ≡ false → bytes_eq name (codes "li") ≡ false → Rule content name held
-formatting names plain starts ends inline free no_link no_item =
-    spanning (inl (record {
-      names = names;
-      plain = plain;
-      starts = λ t p f. starts t p;
-      ends = ends;
-    })) inline free no_link no_item
-
-ordinary : {content held : Content} {name : List ℕ} → IsOuter name →
-    ((attributes : List TokenAttribute) (p : Parser) →
-    start_in_body name attributes p ≡ reconstructed p (insert name attributes)) →
-    ((p : Parser) → end_in_body name p ≡ end_other name p) → is_inline held ≡ true →
-    (is_free held ≡ true → is_free content ≡ true) →
-    bytes_eq name (codes "a") ≡ false → bytes_eq name (codes "li") ≡ false → Rule content name held
-ordinary names starts ends inline free no_link no_item =
-    spanning (inr (record { names = names; starts = starts; ends = ends }))
-    inline free no_link no_item
-
-pub code-rule : (content : Content) → Rule content (codes "code") Characters
-code-rule content = formatting (outside refl) refl (λ t p. refl) (λ p. refl) refl (λ e. lie e) refl
-    refl
-
--- the elements that aren't links and hold this content
-spans : (content held : Content) → is_inline held ≡ true →
-    (is_free held ≡ true → is_free content ≡ true) → Each (Rule content) (spans_of held)
-spans content held i f = search (code-rule, formatting, ordinary, outside) depth 8 fits 4000
-
-pub span-rules : (content : Content) → is_free content ≡ true →
-    Each (Rule content) (span_elements false)
-span-rules content free =
-    also (record {
-      kind = inl a-formats;
-      inline = refl;
-      frees = λ e. lie e;
-      links = λ e. free;
-      no_item = refl;
-    })
-    (spans content Phrasing refl (λ e. free))
-
 pub rules : (content : Content) → is_inline content ≡ true →
     Each (Rule content) (elements_in false content)
-rules Phrasing is = span-rules Phrasing refl
-rules Linked is = spans Linked Linked refl (λ e. lie e)
-rules Characters is = tt
-rules _ is = lie is
+rules content is = grind arith
 
 pub void-in : (content : Content) (name : List ℕ) → is_inline content ≡ true →
     is_one_of (voids_in content) name ≡ true → IsVoid name
-void-in Phrasing name is h = void-named name h
-void-in Linked name is h = void-named name h
-void-in Characters name is h = lie h
-void-in _ name is h = lie is
+void-in content name is h = grind (arith, void-named)
 
 -- where the children of a formatting element are inserted
 pub here-formatting : {x : Position} {name : List ℕ} {those : List TokenAttribute}
@@ -202,9 +132,4 @@ here-formatting {x = x} {name = name} {those = those} rule here =
 -- and of an ordinary one, or of a block
 pub here-within : {x : Position} {name : List ℕ} {those : List TokenAttribute} {free free' : Bool} →
     (free' ≡ true → free ≡ true) → Here x free → Here (within x name those x.active) free'
-here-within {x = x} {name = name} {those = those} frees here = record {
-  body = here.body;
-  opened = open-under (within x name those x.active).node (x.node ∷ x.others) x.active here.opened;
-  made = later-created x.created (suc x.created) x.active (omega arith) here.made;
-  no_link = λ e. here.no_link (frees e);
-}
+here-within frees here = grind (arith, open-under, later-created)

@@ -1,16 +1,12 @@
 -- Each document of the grammar is placed: the content of a node's children allows them.
-use Rattle.std.proofs.Common.{◌≡◌, inl, inr, true, ◌||◌, false, Bool, Option, None, List}
+use Rattle.std.proofs.Common.{◌≡◌, true, ◌||◌, false, Bool, Option, None, List}
 use Rattle.std.proofs.Common.{◌++◌, refl, sym, ◌∙◌, arith}
 use Rattle.std.specs.List.{list_all}
 use Rattle.std.proofs.lemmas.Bool.{and_parts}
 use Rattle.std.proofs.lemmas.List.Folds.{list_all-append}
 use Rattle.md_base.specs.declared.event.Name.{Name}
-use Rattle.md_base.specs.declared.event.Name.TheVariants as name_variants
-use name_variants.{BlockQuotePrefix, SpaceOrTab, Other, MdxEsm, MdxFlowExpression}
-use name_variants.{MdxTextExpression, MdxJsxFlowTag, MdxJsxTextTag}
 use Rattle.md_base.specs.Tree.{Forest, Empty, Node}
 use Rattle.md_base.specs.NameTests.{is_transparent}
-use Rattle.md_base.proofs.Lies.{lie}
 use Rattle.md_pattern.specs.declared.kinds.Symbol.{Symbol}
 use Rattle.md_pattern.specs.declared.kinds.Symbol.TheVariants as symbol
 use Rattle.md_pattern.specs.declared.kinds.Role.{Role}
@@ -72,15 +68,7 @@ Says (Solid seen usual reading) name =
 Says Mdx name = Unit {0}
 
 says : (name : Name) → Says (standing_of name) name
-says BlockQuotePrefix = refl
-says (Other number) = refl
-says SpaceOrTab = refl
-says MdxEsm = tt
-says MdxFlowExpression = tt
-says MdxTextExpression = tt
-says MdxJsxFlowTag = tt
-says MdxJsxTextTag = tt
-says _ = (refl, refl, refl)
+says name = grind arith
 
 -- a symbol may stand there
 abbrev may_show : Content → Symbol → Bool
@@ -90,49 +78,31 @@ may_show content seen = may_stand content (sort_for seen)
 
 phrasing-shows : (first : Symbol) (tail : List Symbol) → may_show Phrasing first ≡ true →
     IsTail first tail → list_all (may_show Phrasing) tail ≡ true
-phrasing-shows symbol.ReferenceMarker tail h is = elim is [
-  | inl e ↦ rw e refl
-  | inr (inl e) ↦ rw e refl
-  | inr (inr e) ↦ rw e refl
-]
-phrasing-shows symbol.SetextText tail h is = lie h
-phrasing-shows first tail h is = rw is refl
+phrasing-shows first tail h is = grind arith
 
 -- where neither a reference nor a heading begins
 alone-shows : (content : Content) → may_show content symbol.ReferenceMarker ≡ false →
     may_show content symbol.SetextText ≡ false → (first : Symbol) (tail : List Symbol) →
     may_show content first ≡ true → IsTail first tail → list_all (may_show content) tail ≡ true
-alone-shows content a b symbol.ReferenceMarker tail h is = lie (sym a ∙ h)
-alone-shows content a b symbol.SetextText tail h is = lie (sym b ∙ h)
-alone-shows content a b first tail h is = rw is refl
+alone-shows content a b first tail h is = grind arith
 
 tail-shows : (content : Content) (first : Symbol) (tail : List Symbol) →
     may_show content first ≡ true →
     IsTail first tail → list_all (may_show content) tail ≡ true
-tail-shows Flow first tail h is = tail-all (may_show Flow) first tail refl is
-tail-shows Phrasing first tail h is = phrasing-shows first tail h is
-tail-shows content first tail h is = alone-shows content refl refl first tail h is
+tail-shows content first tail h is = grind (arith, tail-all, phrasing-shows, alone-shows)
 
 -- ---- what matches a role's pattern may stand in its place
 
 letters-show : (usual : Role) → letters (may_show (place_for usual)) (pattern_of usual) ≡ true
-letters-show role.Flow = refl
-letters-show _ = refl
+letters-show usual = grind arith
 
 all-show : (usual : Role) (symbols : List Symbol) → Matches usual symbols →
     list_all (may_show (place_for usual)) symbols ≡ true
-all-show usual symbols match =
-    grouped-all (may_show (place_for usual)) (tail-shows (place_for usual)) match.0 symbols match.1
-    (fits-all (may_show (place_for usual)) (pattern_of usual) match.0 match.2 (letters-show usual))
+all-show usual symbols match = grind (arith, grouped-all, tail-shows, fits-all, letters-show)
 
 role-place : (around : Role) (before : Option Symbol) (usual : Role) →
     place_for (role_for around before usual) ≡ place_for usual
-role-place around before role.Item = grind arith
-role-place around before role.Prefix = grind arith
-role-place around before role.Label = grind arith
-role-place around before role.CodeFence = grind arith
-role-place around before role.MathFence = grind arith
-role-place around before usual = refl
+role-place around before usual = grind arith
 
 -- ---- a node may stand there, its children in it, and others after it
 

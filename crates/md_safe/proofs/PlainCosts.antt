@@ -4,14 +4,13 @@ use Rattle.std.specs.Prelude.{None}
 use Rattle.md_base.proofs.Lies.{lie}
 use Rattle.md_base.specs.declared.event.Name.{Name}
 use Rattle.md_base.specs.declared.event.Name.TheVariants as name_variants
-use name_variants.{Other, BlockQuotePrefix, SpaceOrTab, LineEnding, HeadingSetextText}
+use name_variants.{HeadingSetextText}
 use name_variants.{HeadingSetextUnderlineSequence, GfmFootnoteDefinition}
 use Rattle.md_base.specs.Is.{is as named}
 use Rattle.md_base.specs.Tree.{Forest, Empty, Node}
 use Rattle.md_base.specs.NameTests.{is_transparent, is_call}
 use Rattle.md_meaning.specs.declared.surroundings.Surroundings.{Surroundings}
 use Rattle.md_meaning.specs.Meaning.At.{Before, At}
-use Rattle.md_meaning.specs.Meaning.Layout.{layout}
 use Rattle.md_meaning.specs.Meaning.Nodes.{found_at, before_next, outcome}
 use Rattle.md_content.specs.Underlined.{is_underline, waits_past}
 use Rattle.md_content.specs.Built.{Content, Blocks, is_part, is_source, may_stand, content_of}
@@ -55,30 +54,21 @@ is_special name = is_setext name || (is_call name || named GfmFootnoteDefinition
 no_wait : (name : Name) → is_setext name ≡ false → is_blocks (content_of name Blocks) ≡ true →
     (waits : Bool) →
     waits_past waits name ≡ false
-no_wait HeadingSetextText other blocks waits = lie (sym other)
-no_wait LineEnding other blocks waits = lie blocks
-no_wait _ other blocks waits = refl
+no_wait name other blocks waits = grind arith
 
 keeps_wait : (w : List ℕ) (m : ℕ) (name : Name) → is_setext name ≡ false →
     (waits : Bool) (x : List ℕ) →
     Waiting w waits m x → Waiting w (waits_past waits name) m x
-keeps_wait w m HeadingSetextText other waits x h = lie (sym other)
-keeps_wait w m LineEnding other waits x h = h
-keeps_wait w m _ other waits x h = tt
+keeps_wait w m name other waits x h = grind arith
 
 -- nor is a heading found at it
 no_heading : (t : At) (name : Name) (x : List ℕ) → is_transparent name ≡ false →
     is_setext name ≡ false →
     (found_at t name x).heading ≡ None
-no_heading t HeadingSetextText x solid other = lie (sym other)
-no_heading t (Other number) x solid other = lie (sym solid)
-no_heading t BlockQuotePrefix x solid other = lie (sym solid)
-no_heading t SpaceOrTab x solid other = lie (sym solid)
-no_heading t _ x solid other = refl
+no_heading t name x solid other = grind arith
 
 no_underline : (name : Name) → is_setext name ≡ false → is_underline name ≡ true → false ≡ true
-no_underline HeadingSetextUnderlineSequence other is = sym other
-no_underline _ other is = is
+no_underline name other is = grind arith
 
 -- what a name of no rule of its own is
 pub record IsPlain (name : Name) : Type 0 where
@@ -117,13 +107,11 @@ around-blocks {d} {w} {p} {name} waits k plain blocks b = record {
 
 no_definition : (content : Content) → may_stand content GfmFootnoteDefinition ≡ true →
     is_blocks content ≡ true
-no_definition Blocks h = refl
-no_definition _ h = lie h
+no_definition content h = grind arith
 
 none_here : (content : Content) (name : Name) → (is_transparent name || may_stand content name)
     ≡ true → is_blocks content ≡ false → named GfmFootnoteDefinition name ≡ false
-none_here content GfmFootnoteDefinition stands other = lie (sym other ∙ no_definition _ stands)
-none_here content _ stands other = refl
+none_here content name stands other = grind (arith, no_definition)
 
 -- no footnote is defined but among blocks
 pub no_footnotes : (d : Document) (content : Content) (forest : Forest) (around : Surroundings)
@@ -160,9 +148,7 @@ around-others {d} {w} {p} {name} {m} waits k plain blocks h =
       notes = 0;
       prints = plain-prints k plain (inside-means (at_of d p name) Blocks name k.solid k.stands
           k.fit k.built counted);
-      heading = rw (no_heading (at_of d p name) name (layout d.context.ending (inner_of d p
-          name).pieces) k.solid plain.setext) (keeps_wait w m name plain.setext waits
-          p.before.heading h);
+      heading = grind (arith, no_heading, keeps_wait);
       texts = no-footnote d w 0 p name plain.footnote (rw (no_footnotes d (content_inside Blocks
           name) p.children (inner_around d p name) (inner_before p name) blocks k.built) tt);
       few = omega arith;

@@ -1,13 +1,11 @@
 -- What the inductions need is known at the beginning of a document.
-use Rattle.std.proofs.Common.{◌≡◌, ℕ, Bool, true, cond, List, [], refl}
+use Rattle.std.proofs.Common.{◌≡◌, ℕ, Bool, true, cond, List, [], refl, arith}
 use Rattle.std.specs.Prelude.{Option, Some, None}
 use Rattle.std.specs.Option.{option_map_or}
 use Rattle.md_base.specs.declared.event.Name.{Name}
-use Rattle.md_base.specs.declared.event.Name.TheVariants.{LineEnding, BlankLineEnding}
 use Rattle.md_base.specs.declared.event.Point.{Point}
 use Rattle.md_base.specs.declared.event.Position.{Position}
 use Rattle.md_text.specs.declared.line_ending.LineEnding.{LineEnding as Ending}
-use Rattle.md_text.specs.declared.line_ending.LineEnding.TheVariants.{CarriageReturnLineFeed}
 use Rattle.md_text.specs.Laws.{is_line_ends}
 use Rattle.md_text.specs.LineEnding.{ending_text}
 use Rattle.md_text.specs.Html.{Attribute, any_attribute}
@@ -32,9 +30,7 @@ use Rattle.md_safe.specs.Options.{KeepsGrammar}
 use Rattle.md_safe.proofs.Texts.{Escaped}
 use Rattle.md_safe.proofs.Tags.{reading}
 use Rattle.md_safe.proofs.Spot.{PassesIds, IsWhole, Setting}
-use Rattle.md_safe.proofs.BlockNodes.{holds-none}
 use Rattle.md_safe.proofs.Forests.{Ready, means}
-use Rattle.md_safe.proofs.Insides.{blocks-suit}
 
 -- a place, where there is one, has the text of line endings
 abbrev pub IsEnding : List ℕ → Option Position → Type 0
@@ -43,15 +39,12 @@ IsEnding bytes place = option_map_or (λ found. is_line_ends (text_in bytes foun
 first_of_two : (bytes : List ℕ) (first second : Option Position) → IsEnding bytes first →
     IsEnding bytes second →
     IsEnding bytes (or_else first second)
-first_of_two bytes None second f g = g
-first_of_two bytes (Some place) second f g = f
+first_of_two bytes first second f g = grind arith
 
 own-ending : (bytes : List ℕ) (name : Name) (start end : Point) (children : Forest) →
     IsFit bytes name start end children → IsEnding bytes
     (cond (is_line_ending name) (Some (position start end)) None)
-own-ending bytes LineEnding start end children fit = fit
-own-ending bytes BlankLineEnding start end children fit = fit
-own-ending bytes _ start end children fit = refl
+own-ending bytes name start end children fit = grind arith
 
 -- the first line ending of a document is one
 pub first-is_ending : (bytes : List ℕ) (content : Content) (forest : Forest) →
@@ -59,15 +52,12 @@ pub first-is_ending : (bytes : List ℕ) (content : Content) (forest : Forest) �
     IsEnding bytes (first_ending forest)
 first-is_ending bytes content Empty built = refl
 first-is_ending bytes content (Node name start end children rest) built =
-    let own : Option Position = cond (is_line_ending name) (Some (position start end)) None in
-    first_of_two bytes (first_ending children) (or_else own (first_ending rest))
-    (first-is_ending bytes (content_inside content name) children built.2)
-    (first_of_two bytes own (first_ending rest) (own-ending bytes name start end children built.1)
-    (first-is_ending bytes (content_after_node content name children) rest built.3))
+    let inner = first-is_ending bytes (content_inside content name) children built.2 in
+    let later = first-is_ending bytes (content_after_node content name children) rest built.3 in
+    grind (arith, first_of_two, own-ending, inner, later)
 
 default-white : (ending : Ending) → IsWhite (ending_text ending)
-default-white CarriageReturnLineFeed = (refl, refl)
-default-white _ = (refl, refl)
+default-white ending = grind arith
 
 -- the line ending that is used is white space, and escaped
 pub ending-white : (options : CompileOptions) (bytes : List ℕ) (place : Option Position) →
@@ -77,12 +67,7 @@ ending-white options bytes (Some place) h = line_ends-white (text_in bytes place
 
 -- what is known at the document's beginning
 pub outermost-ready : (s : Setting) → IsWhole s.p → Ready s outermost nothing_before Blocks
-outermost-ready s whole = record {
-  suits = blocks-suit;
-  follows = tt;
-  whole = λ _. whole;
-  heading = λ _. holds-none s;
-}
+outermost-ready s whole = grind arith
 
 -- a reading is claimed as a whole
 pub reads-whole : (p : Attribute → Bool) → PassesIds p → IsWhole (reading p)

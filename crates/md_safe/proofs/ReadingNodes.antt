@@ -1,6 +1,6 @@
 -- The nodes of blocks print texts with readings, whatever else is claimed about texts: what is
 -- claimed of each content is the same.
-use Rattle.std.proofs.Common.{List, codes, false, refl, sym, true, ◌++◌, ◌||◌, ◌∙◌, ◌≡◌}
+use Rattle.std.proofs.Common.{List, codes, false, refl, sym, true, ◌++◌, ◌||◌, ◌∙◌, ◌≡◌, arith}
 use Rattle.md_base.proofs.Lies.{lie}
 use Rattle.md_base.specs.NameTests.{is_transparent}
 use Rattle.md_base.specs.declared.event.Name.{Name}
@@ -53,12 +53,10 @@ abbrev place_for : Sort → Content
 place_for sort = elim sort [ Item ↦ Items | Part ↦ Parts | Row ↦ Rows | Cell ↦ Cells | _ ↦ Flow ]
 
 stands-there : (sort : Sort) → may_stand (with_links (place_for sort)) sort ≡ true
-stands-there Item = refl
-stands-there _ = refl
+stands-there sort = grind arith
 
 no-spans : (sort : Sort) → is_spans (place_for sort) ≡ false
-no-spans Item = refl
-no-spans _ = refl
+no-spans sort = grind arith
 
 pub block-node : (s : Setting) (t : At) (name : Name) → is_transparent name ≡ false →
     (is_part name || is_source name) ≡ false → (inner : List Piece) → Known (reads s) t name inner →

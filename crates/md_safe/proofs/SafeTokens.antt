@@ -34,15 +34,7 @@ attributes-permitted name schemes f (a ∷ x) g h =
 -- such a test accepts all tags of the tables
 passes : (name : List ℕ) (schemes : List (List ℕ)) → Permits schemes →
     PassesTags (attributes_pass (is_permitted name schemes)) (is_safe name schemes)
-passes name schemes f = record {
-  characters = λ b. refl;
-  end_of_file = refl;
-  ends = λ tag attributes g. refl;
-  starts = λ tag attributes g k.
-      attributes-permitted name schemes f attributes (element-good tag attributes g).1 k;
-  voids = λ tag attributes g k.
-      attributes-permitted name schemes f attributes (void-good tag attributes g).1 k;
-}
+passes name schemes f = grind (arith, attributes-permitted, element-good, void-good)
 
 pub links-pass : PassesTags has_safe_links is_safe_link
 links-pass = passes (codes "href") link_protocols permitted-link

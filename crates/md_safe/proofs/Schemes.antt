@@ -4,7 +4,7 @@ use Rattle.std.proofs.Common.{◌≡◌, ℕ, ◌==◌, Bool, true, false, List,
 use Rattle.std.proofs.Common.{arith, ◌||◌, not, ◌&&◌, sym, ap, ap₂, ◌∙◌, Option}
 use Rattle.std.proofs.Common.{Some, append-nil, append_assoc, eqb-true}
 use Rattle.std.specs.List.{list_all}
-use Rattle.std.proofs.lemmas.Bool.{cond_both, or_parts, and_parts, or_left, eqb-false}
+use Rattle.std.proofs.lemmas.Bool.{cond_both, and_parts, or_left}
 use Rattle.md_text.specs.Bytes.{is_letter, lower, is_letter, lower, lowered, is_one_of}
 use Rattle.md_text.specs.Url.{protocol_of, protocol_of, link_protocols, image_protocols}
 use Rattle.md_text.proofs.ProtocolLemmas.{map_none, ends_protocol, none_some, map_some}
@@ -15,15 +15,13 @@ use Rattle.md_safe.specs.Scheme.{is_control_or_space, without_leading, without_t
 use Rattle.md_safe.specs.Scheme.{is_tab_or_newline, without_newlines, is_scheme_byte, in_scheme}
 use Rattle.md_safe.specs.Scheme.{in_scheme_start, scheme_of, has_permitted_scheme}
 use Rattle.std.specs.Option.{option_map_or}
-use Rattle.md_base.proofs.Lies.{lie}
 use Rattle.md_base.specs.Identifier.{is_nonempty}
 use Rattle.md_text.specs.References.{is_escaped, read_back}
 use Rattle.md_text.specs.Safe.{is_safe_value}
-use Rattle.md_text.proofs.EncodeLaws.{read_back-other}
 use Rattle.md_safe.proofs.Cases.{one_of-passes, all-weaker, cases}
 use Rattle.md_safe.specs.Tokens.{seen}
 use Rattle.md_safe.proofs.EscapedCases.{IsPlain, by_escaped}
-use Rattle.md_safe.proofs.LineFeeds.{no_return, line_feeds-name, one}
+use Rattle.md_safe.proofs.LineFeeds.{no_return, line_feeds-name}
 use Rattle.md_safe.proofs.Steps.{here}
 use Rattle.md_text.specs.Kept.{goes_on}
 
@@ -37,13 +35,7 @@ none-keep b x y f h = grind (arith, f, map_none b (protocol_of x))
 -- after a byte that doesn't end a protocol the rest has none
 none-drop : (t : ℕ → Bool) (b : ℕ) (rest : List ℕ) → (t 58 || (t 63 || (t 35 || t 47))) ≡ false →
     HasNone (b ∷ rest) → t b ≡ true → HasNone rest
-none-drop t b rest other h e =
-    let p = or_parts (t 58) (t 63 || (t 35 || t 47)) other in
-    let q = or_parts (t 63) (t 35 || t 47) p.1 in
-    let r = or_parts (t 35) (t 47) q.1 in
-    let past = λ (n : ℕ) (other : t n ≡ false). passes_not t b n other e in
-    let none = map_none b (protocol_of rest) in
-    grind (arith, h, past 58 p.0, past 63 q.0, past 35 r.0, past 47 r.1, none)
+none-drop t b rest other h e = grind arith
 
 line_feeds-none : (x : List ℕ) → HasNone x → HasNone (with_line_feeds x)
 line_feeds-none [] h = refl
@@ -58,15 +50,11 @@ leading-none (b ∷ rest) h =
 
 trailing-none : (x : List ℕ) → HasNone x → HasNone (without_trailing x)
 trailing-none [] h = refl
-trailing-none (b ∷ rest) h = cond_both (list_all is_control_or_space (b ∷ rest)) [] (b ∷
-    without_trailing rest) HasNone (λ _. refl) (λ _. none-keep b rest (without_trailing rest)
-    (trailing-none rest) h)
+trailing-none (b ∷ rest) h = grind (arith, cond_both, none-keep, trailing-none rest)
 
 newlines-none : (x : List ℕ) → HasNone x → HasNone (without_newlines x)
 newlines-none [] h = refl
-newlines-none (b ∷ rest) h = cond_both _ _ _ HasNone (λ e. newlines-none rest (none-drop
-    is_tab_or_newline b rest refl h e)) (λ _. none-keep b rest (without_newlines rest)
-    (newlines-none rest) h)
+newlines-none (b ∷ rest) h = grind (arith, cond_both, none-drop, none-keep, newlines-none rest)
 
 in_scheme-none : (buffer x : List ℕ) → HasNone x → in_scheme buffer x ≡ None
 in_scheme-none buffer [] h = refl
@@ -74,16 +62,11 @@ in_scheme-none buffer (b ∷ rest) h = cond_both _ _ _ (λ v. v ≡ None) (λ e.
     (lower b ∷ [])) rest (none-drop is_scheme_byte b rest refl h e)) (λ _. grind (arith, h))
 
 in_scheme_start-none : (x : List ℕ) → HasNone x → in_scheme_start x ≡ None
-in_scheme_start-none [] h = refl
-in_scheme_start-none (b ∷ rest) h = cond_both _ _ _ (λ v. v ≡ None) (λ e. in_scheme-none (lower b ∷
-    []) rest (none-drop is_letter b rest refl h e)) (λ _. refl)
+in_scheme_start-none x h = grind (arith, cond_both, in_scheme-none, none-drop)
 
 pub scheme_of-none : (x : List ℕ) → HasNone x → scheme_of (with_line_feeds x) ≡ None
 scheme_of-none x h =
-    let lines = with_line_feeds x in
-    in_scheme_start-none (without_newlines (without_trailing (without_leading lines)))
-    (newlines-none (without_trailing (without_leading lines))
-    (trailing-none (without_leading lines) (leading-none lines (line_feeds-none x h))))
+    grind (arith, in_scheme_start-none, newlines-none, trailing-none, leading-none, line_feeds-none)
 
 -- ---- line feeds and references
 
@@ -92,17 +75,8 @@ abbrev ReadsAlike : List ℕ → Type 0
 ReadsAlike x = (read_back (with_line_feeds x) ≡ with_line_feeds (read_back x))
     × (begins_with_line_feed (read_back x) ≡ begins_with_line_feed x)
 
-one-read : (b : ℕ) (feed : Bool) (later : List ℕ) → IsPlain b →
-    read_back (one b feed later) ≡ one b feed (read_back later)
-one-read b feed later p = grind (arith, read_back-other b later (eqb-false b 38 p.no_and))
-
 plain-alike : (b : ℕ) (rest : List ℕ) → IsPlain b → ReadsAlike rest → ReadsAlike (b ∷ rest)
-plain-alike b rest p h =
-    let reads = read_back-other b rest (eqb-false b 38 p.no_and) in (
-      one-read b (begins_with_line_feed rest) (with_line_feeds rest) p
-          ∙ ap₂ (one b) (sym h.1) h.0 ∙ ap with_line_feeds (sym reads),
-      ap begins_with_line_feed reads,
-    )
+plain-alike b rest p h = grind arith
 
 pub seen-is : (x : List ℕ) → is_escaped x ≡ true → seen x ≡ with_line_feeds (read_back x)
 seen-is x e =
@@ -145,8 +119,7 @@ letter-scheme : (b : ℕ) → is_letter b ≡ true → is_scheme_byte b ≡ true
 letter-scheme b h = or_left _ _ (or_left _ _ (or_left _ _ (or_left _ _ h)))
 
 leading-word : (q y : List ℕ) → is_word q ≡ true → without_leading (q ++ y) ≡ q ++ y
-leading-word [] y h = lie h
-leading-word (b ∷ q) y h = grind (arith, letter-control b)
+leading-word q y h = grind (arith, letter-control)
 
 trailing-word : (q r : List ℕ) → list_all is_letter q ≡ true →
     without_trailing (q ++ (58 ∷ r)) ≡ q ++ (58 ∷ without_trailing r)
@@ -168,24 +141,16 @@ in_scheme-word buffer (b ∷ q) r h =
 
 in_scheme_start-word : (q r : List ℕ) → is_word q ≡ true →
     in_scheme_start (q ++ (58 ∷ r)) ≡ Some (lowered q)
-in_scheme_start-word [] r h = lie h
-in_scheme_start-word (b ∷ q) r h =
-    let p = and_parts (is_letter b) (list_all is_letter q) h in
-    here _ p.0 (in_scheme-word (lower b ∷ []) q r p.1)
+in_scheme_start-word q r h = grind (arith, and_parts, in_scheme-word)
 
 scheme_of-word : (q r : List ℕ) → is_word q ≡ true → scheme_of (with_line_feeds (q ++ (58 ∷ r)))
     ≡ Some (lowered q)
 scheme_of-word q r h =
-    let letters = (and_parts _ _ h).1 in
-    let lines = with_line_feeds r in
-    ap scheme_of (line_feeds-name q _ (letters-no_return q letters)) ∙ ap (λ y. in_scheme_start
-    (without_newlines (without_trailing y))) (leading-word q _ h) ∙ ap
-    (λ y. in_scheme_start (without_newlines y)) (trailing-word q _ letters) ∙ ap in_scheme_start
-    (newlines-word q _ letters) ∙ in_scheme_start-word q _ h
+    let start = in_scheme_start-word q (without_newlines (without_trailing (with_line_feeds r))) in
+    grind (arith, line_feeds-name, letters-no_return, leading-word, trailing-word, newlines-word)
 
 lowered-word : (q : List ℕ) → is_word (lowered q) ≡ true → is_word q ≡ true
-lowered-word [] h = h
-lowered-word (b ∷ q) h = lowered-letters (b ∷ q) h
+lowered-word q h = grind (arith, lowered-letters)
 
 -- ---- both
 permitted_by : (schemes : List (List ℕ)) (x : List ℕ) (o : Option (List ℕ)) →
@@ -203,9 +168,7 @@ permitted_by schemes x (Some q) g e h =
 permitted : (schemes : List (List ℕ)) → list_all is_word schemes ≡ true → (value : List ℕ) →
     is_escaped value ≡ true →
     is_safe_value schemes value ≡ true → has_permitted_scheme schemes (seen value) ≡ true
-permitted schemes g value e h =
-    ap (has_permitted_scheme schemes) (seen-is value e)
-    ∙ permitted_by schemes (read_back value) (protocol_of (read_back value)) g refl h
+permitted schemes g value e h = grind (arith, seen-is, permitted_by)
 
 pub permitted-link : (value : List ℕ) → is_escaped value ≡ true →
     is_safe_value link_protocols value ≡ true →

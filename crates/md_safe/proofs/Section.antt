@@ -1,9 +1,9 @@
 -- The section of footnotes has a reading: its heading, its items and their ways back, which are
 -- before the end of a footnote's last paragraph.
-use Rattle.std.proofs.Common.{◌≡◌, ℕ, suc, ◌≤◌, ◌-◌, ◌==◌, Bool, true, ◌&&◌, ◌||◌, List, [], ◌∷◌}
+use Rattle.std.proofs.Common.{◌≡◌, ℕ, ◌≤◌, ◌-◌, Bool, true, List, [], ◌∷◌}
 use Rattle.std.proofs.Common.{◌++◌, length, take, drop, refl, sym, ap, ◌∙◌, subst, arith}
 use Rattle.std.proofs.Common.{append_assoc, append-nil, codes, eqb-true, length-drop}
-use Rattle.std.specs.Prelude.{bytes_eq, Some, None, option_map, find, bytes_eq, string_bytes}
+use Rattle.std.specs.Prelude.{bytes_eq, None, option_map, find, bytes_eq, string_bytes}
 use Rattle.std.proofs.lemmas.Bool.{cond_both, and_parts, and_from, cond_both}
 use Rattle.std.proofs.lemmas.List.{take-append-drop, drop-append-le}
 use Rattle.std.proofs.lemmas.Slice.Eq.{bytes_eq-Decides}
@@ -35,14 +35,7 @@ use Rattle.md_safe.proofs.Findings.{AreTexts, AreRead}
 -- at the end of a text there are only CR and LF
 pub rest-ends : (text : List ℕ) → is_line_ends (drop (unended_length text) text) ≡ true
 rest-ends [] = refl
-rest-ends (byte ∷ bytes) =
-    let ending : Bool = (byte == 13) || (byte == 10) in
-    let none : Bool = unended_length bytes == 0 in
-    cond_both (ending && none) 0 (suc (unended_length bytes))
-    (λ n. is_line_ends (drop n (byte ∷ bytes)) ≡ true) (λ h.
-    let parts = and_parts _ _ h in
-    and_from _ _ parts.0 (subst (λ n. is_line_ends (drop n bytes) ≡ true) (eqb-true _ _ parts.1)
-    (rest-ends bytes))) (λ _. rest-ends bytes)
+rest-ends (byte ∷ bytes) = grind (arith, cond_both, and_parts, and_from, eqb-true, rest-ends bytes)
 
 -- the last paragraph of a text takes a space and something else before its end
 abbrev pub TakesBack : (List ℕ → Type 0) → (List ℕ → Type 0) → Type 0
@@ -90,8 +83,7 @@ body-prints s x back r rb = adds-body (Reads s) (HasReadingWith s.p.test)
 -- an element before the content of brackets
 pub turn-after : {Q R S : List ℕ → Type 0} {o c : List ℕ} (h : List ℕ) → Turns R S o c →
     ((x : List ℕ) → Q x → R (h ++ x)) → Turns Q S (o ++ h) c
-turn-after h bracket grows =
-    record { turn = λ x r. simp append_assoc (simp append_assoc at (bracket.turn _ (grows x r))) }
+turn-after h bracket grows = grind (arith, append_assoc)
 
 abbrev pub heading_label_of : CompileOptions → List ℕ
 heading_label_of options =
@@ -142,10 +134,8 @@ text_among footnotes identifier =
 pub texts-among : (Q : List ℕ → Type 0) → Q [] → (footnotes : List Footnote)
     (identifier : List ℕ) → AreTexts Q footnotes → Q (text_among footnotes identifier)
 texts-among Q none [] identifier h = none
-texts-among Q none (footnote ∷ others) identifier h = cond_both (bytes_eq footnote.identifier
-    identifier) (Some footnote) (find (λ footnote. bytes_eq footnote.identifier identifier) others)
-    (λ found. Q (option_map_or (λ (footnote : Footnote). footnote.text) found [])) (λ _. h.0) (λ _.
-    texts-among Q none others identifier h.1)
+texts-among Q none (footnote ∷ others) identifier h =
+    grind (arith, cond_both, texts-among Q none others identifier h.1)
 
 -- the id of a footnote, and the ways back from it
 abbrev pub note_id : Context → List ℕ → List ℕ

@@ -1,7 +1,7 @@
 -- What stands in a line of text: strings, spans, links and what prints nothing print phrasing
 -- content.
-use Rattle.std.proofs.Common.{Bool, List, ap, codes, false, refl, suc, sym, true, ℕ, ◌&&◌, ◌++◌}
-use Rattle.std.proofs.Common.{◌||◌, ◌∙◌, ◌∷◌, ◌≡◌, subst, [], not, cond}
+use Rattle.std.proofs.Common.{Bool, List, codes, false, refl, suc, sym, true, ℕ, ◌&&◌, ◌++◌}
+use Rattle.std.proofs.Common.{◌||◌, ◌∙◌, ◌∷◌, ◌≡◌, subst, [], not, cond, arith}
 use Rattle.std.proofs.lemmas.Bool.{and_parts, cond_both, not-true, or_parts}
 use Rattle.std.specs.Prelude.{None}
 use Rattle.md_base.specs.declared.event.Name.TheVariants as name_variants
@@ -17,7 +17,7 @@ use Rattle.md_meaning.specs.Meaning.At.{At, Target, identifier_of, text_in}
 use Rattle.md_meaning.specs.Meaning.Footnotes.{call_id, count_of, distinct, place_among}
 use Rattle.md_meaning.specs.Meaning.Layout.{Piece, Text, layout, said, when}
 use Rattle.md_meaning.specs.Meaning.Means.{prints}
-use Rattle.md_meaning.specs.Meaning.Media.{anchor, autolink, leads_to, literal}
+use Rattle.md_meaning.specs.Meaning.Media.{anchor, autolink, literal}
 use Rattle.md_meaning.specs.Meaning.Spans.{task_start}
 use Rattle.md_text.proofs.EncodeLaws.{is_escaped-encoded}
 use Rattle.md_text.specs.Encode.{encoded}
@@ -30,8 +30,7 @@ use Rattle.md_safe.proofs.Claims.{nothing, pair, plain_tag, says}
 use Rattle.md_safe.proofs.Elements.{adds-task, class-passes}
 use Rattle.md_safe.proofs.FlowNodes.{is_leaf, leaf-escaped}
 use Rattle.md_safe.proofs.Laid.{Adds, adds-alone, adds-text, adds-weaker}
-use Rattle.md_safe.proofs.Linking.{in_link, is_linked, is_spans, place-other, place_in}
-use Rattle.md_safe.proofs.Linking.{without_links}
+use Rattle.md_safe.proofs.Linking.{in_link, is_spans, place-other, place_in}
 use Rattle.md_safe.proofs.Media.{IsEscapedTitle, adds-image, adds-link}
 use Rattle.md_safe.proofs.SpanNodes.{is_shown, is_single}
 use Rattle.md_safe.proofs.SpanSorts.{by_pair, code-prints, code-text, code_opening, is_code}
@@ -40,7 +39,7 @@ use Rattle.md_safe.proofs.Spot.{target-title}
 use Rattle.md_safe.proofs.StringNodes.{is_text, text-node}
 use Rattle.md_safe.proofs.Tags.{Tagged, Turns, adds-flat, attribute}
 use Rattle.md_safe.proofs.Texts.{Escaped}
-use Rattle.md_safe.specs.Contents.{Characters, Content, Linked, Phrasing, may_say}
+use Rattle.md_safe.specs.Contents.{Characters, Content, Phrasing}
 use Rattle.md_safe.specs.Links.{prints_link}
 use Rattle.md_safe.specs.Placed.{place_of}
 use Rattle.md_safe.proofs.Insides.{is_blocks}
@@ -58,11 +57,7 @@ link m target label h r = adds-link m.s.test (a-tag m) target label h r
 
 -- a text in a link
 pub linked-text : (m : Claims) (x : List ℕ) → Escaped x → m.holds (in_link m.nested) x
-linked-text m x h = m.text (in_link m.nested) x h (by m.nested)
-  where
-    by : (nested : Bool) → may_say (in_link nested) x ≡ true
-    by true = refl
-    by false = refl
+linked-text m x h = grind arith
 
 autolinked : (m : Claims) {content : Content} → AreSpans m.nested content →
     (t : At) (plain : Bool) (prefix : List ℕ) → (plain ≡ false → content ≡ Phrasing) →
@@ -78,8 +73,7 @@ autolinked m {content} f t plain prefix free =
 literal-node : (m : Claims) {content : Content} → AreSpans m.nested content →
     (t : At) (prefix : List ℕ) → (t.around.in_link ≡ false → content ≡ Phrasing) →
     Prints m content (literal m.s.context t prefix)
-literal-node m f t prefix plain = autolinked m f t (t.around.in_image || t.around.in_link) prefix
-    (λ no. plain (or_parts _ _ no).1)
+literal-node m f t prefix plain = grind (arith, autolinked, or_parts)
 
 autolink-node : (m : Claims) (t : At) (content : Content) (name : Name) → is_autolink name ≡ true →
     SpanPrints m t content name
@@ -103,8 +97,7 @@ autolink-node m t content _ is inner k a = lie is
 -- in spans with tags around them blocks stand, and they are no links
 pair-blocks : (name : Name) →
     not (is_pair name) || (is_blocks (content_of name Blocks) && not (named Link name)) ≡ true
-pair-blocks Link = refl
-pair-blocks _ = refl
+pair-blocks name = grind arith
 
 pair-node : (m : Claims) (t : At) (content : Content) (name : Name) → is_pair name ≡ true →
     SpanPrints m t content name
@@ -143,12 +136,8 @@ break m t {content} f out =
 
 single-node : (m : Claims) (t : At) (content : Content) (name : Name) → is_single name ≡ true →
     SpanPrints m t content name
-single-node m t content Link is inner k a = rw (k.outside, a.free refl) (link m (leads_to
-    m.s.context t) (layout m.s.context.ending inner) (target-title m.s t k.resource) (adds-alone
-    (a.label refl)))
-single-node m t content Image is inner k a = rw k.outside (adds-image m.s.test (m.void content
-    (codes "img") a.spans.img) (leads_to m.s.context t) (layout m.s.context.ending inner)
-    (target-title m.s t k.resource) (adds-alone k.within))
+single-node m t content Link is inner k a = grind (arith, link, target-title, adds-alone)
+single-node m t content Image is inner k a = grind (arith, adds-image, target-title, adds-alone)
 single-node m t content HardBreakEscape is inner k a = break m t a.spans k.outside
 single-node m t content HardBreakTrailing is inner k a = break m t a.spans k.outside
 single-node m t content GfmTaskListItemCheck is inner k a = subst (λ b. Prints m content (cond b
@@ -174,31 +163,21 @@ is_inline name =
 
 spans-place : (name : Name) → is_hidden name ≡ false → is_inline name ≡ true →
     place_of name ≡ Phrasing
-spans-place Link h is = refl
-spans-place _ h is = cc
+spans-place name h is = grind arith
 
 -- spans stand in spans, of the same content but in a link
 spans-in : (nested : Bool) (content : Content) (name : Name) → is_spans content ≡ true →
     is_hidden name ≡ false → is_inline name ≡ true → named Link name ≡ false →
     place_in nested content name ≡ content
-spans-in nested content name spans shown is other = place-other _ _ _ other ∙ (ap
-    (λ c. cond (is_linked content) (without_links c) c) (spans-place _ shown is) ∙ by content spans)
-  where
-    by : (content : Content) → is_spans content ≡ true → cond (is_linked content) Linked
-        Phrasing ≡ content
-    by Phrasing h = refl
-    by Linked h = refl
-    by _ h = lie h
+spans-in nested content name spans shown is other = grind (arith, place-other, spans-place)
 
 link-in : (nested : Bool) (content : Content) (name : Name) → content ≡ Phrasing →
     named Link name ≡ true →
     place_in nested content name ≡ in_link nested
-link-in nested content Link same is = ap (λ c. cond (is_linked c) Linked (in_link nested)) same
-link-in nested content _ same is = lie is
+link-in nested content name same is = grind arith
 
 link-prints : (name : Name) → named Link name ≡ true → prints_link name ≡ true
-link-prints Link is = refl
-link-prints _ is = lie is
+link-prints name is = grind arith
 
 -- where spans stand, with links or without
 pub record Spanning (t : At) (content : Content) (name : Name) : Type 0 where

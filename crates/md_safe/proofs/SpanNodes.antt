@@ -1,6 +1,6 @@
 -- Spans that print something else than their children, and what they print in images.
-use Rattle.std.proofs.Common.{◌≡◌, ℕ, Bool, true, false, ◌||◌, List, []}
-use Rattle.std.proofs.Common.{refl, sym, subst, inl, inr, codes, ◌∙◌}
+use Rattle.std.proofs.Common.{◌≡◌, ℕ, Bool, true, false, ◌||◌, List, [], arith}
+use Rattle.std.proofs.Common.{codes}
 use Rattle.md_base.proofs.Lies.{lie}
 use Rattle.md_base.specs.declared.event.Name.{Name}
 use Rattle.md_base.specs.declared.event.Name.TheVariants as name_variants
@@ -9,7 +9,7 @@ use name_variants.{GfmFootnoteCall, AutolinkEmail, AutolinkProtocol, GfmAutolink
 use name_variants.{GfmAutolinkLiteralMailto, GfmAutolinkLiteralProtocol, GfmAutolinkLiteralWww}
 use name_variants.{GfmAutolinkLiteralXmpp}
 use Rattle.md_text.proofs.EncodeLaws.{is_escaped-encoded}
-use Rattle.md_meaning.specs.Meaning.At.{At, text_in}
+use Rattle.md_meaning.specs.Meaning.At.{At}
 use Rattle.md_meaning.specs.Meaning.Layout.{Piece, layout}
 use Rattle.md_meaning.specs.Meaning.Means.{prints}
 use Rattle.md_meaning.specs.Meaning.Media.{autolink}
@@ -18,7 +18,6 @@ use Rattle.md_safe.proofs.Spot.{Setting, Prints, Inside}
 use Rattle.md_safe.proofs.Cases.{either}
 use Rattle.md_safe.proofs.Texts.{Escaped}
 use Rattle.md_safe.proofs.Laid.{adds-text, adds-nothing, adds-weaker, adds-alone}
-use Rattle.md_safe.proofs.Elements.{IsDone}
 use Rattle.md_safe.proofs.SpanSorts.{is_pair, pair-prints, pair-inside, is_code}
 use Rattle.md_safe.proofs.SpanSorts.{code-prints, code-text, shown-escaped}
 use Rattle.std.proofs.lemmas.Bool.{or_left}
@@ -43,17 +42,8 @@ is_shown name = is_pair name || (is_code name || is_single name)
 single-in_image : (s : Setting) (t : At) (name : Name) → t.around.in_image ≡ true →
     is_single name ≡ true → (inner : List Piece) → Inside s t Spans name inner →
     Prints s Escaped (prints s.context t name inner)
-single-in_image s t Link image is inner a = rw image (adds-text (adds-alone {f = Escaped} a))
-single-in_image s t Image image is inner a = rw image (adds-text (adds-alone {f = Escaped} a))
-single-in_image s t HardBreakEscape image is inner a = rw image (adds-nothing refl)
-single-in_image s t HardBreakTrailing image is inner a = rw image (adds-nothing refl)
-single-in_image s t GfmTaskListItemCheck image is inner a = rw image (adds-weaker
-    {f = IsDone t.around.in_image} (λ x done. elim done [
-      | inl e ↦ subst Escaped (sym e) refl
-      | inr out ↦ lie (sym out.0 ∙ image)
-    ]) a)
-single-in_image s t GfmFootnoteCall image is inner a = rw image (adds-nothing refl)
-single-in_image s t _ image is inner a = lie is
+single-in_image s t name image is inner a =
+    grind (arith, adds-text, adds-alone, adds-nothing, adds-weaker)
 
 pub shown-in_image : (s : Setting) (t : At) (name : Name) → t.around.is_escaping ≡ true →
     t.around.in_image ≡ true → is_shown name ≡ true → (inner : List Piece) →
@@ -69,8 +59,7 @@ shown-in_image s t name e image is inner a = either (is_pair name) _ is
 -- an autolink, which is plain there
 plain-in_image : (s : Setting) (t : At) (plain : Bool) (prefix : List ℕ) → plain ≡ true →
     Prints s Escaped (autolink s.context t plain prefix)
-plain-in_image s t plain prefix is =
-    rw is (adds-text (is_escaped-encoded (text_in s.context.bytes t.place)))
+plain-in_image s t plain prefix is = grind (arith, adds-text, is_escaped-encoded)
 
 pub autolink-in_image : (s : Setting) (t : At) (name : Name) → t.around.in_image ≡ true →
     is_autolink name ≡ true → (inner : List Piece) → Prints s

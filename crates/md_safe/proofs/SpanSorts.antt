@@ -1,6 +1,6 @@
 -- Spans with tags around their children, and code: what is printed of each.
-use Rattle.std.proofs.Common.{◌≡◌, ℕ, Bool, true, false, cond, List, [], ◌∷◌, ◌++◌, refl, codes}
-use Rattle.md_base.proofs.Lies.{lie}
+use Rattle.std.proofs.Common.{arith}
+use Rattle.std.proofs.Common.{◌≡◌, ℕ, Bool, true, false, cond, List, [], ◌∷◌, ◌++◌, codes}
 use Rattle.md_base.specs.declared.event.Name.{Name}
 use Rattle.md_base.specs.declared.event.Name.TheVariants as name_variants
 use name_variants.{Emphasis, Strong, GfmStrikethrough, CodeText, MathText}
@@ -10,7 +10,6 @@ use Rattle.md_meaning.specs.Meaning.Means.{prints}
 use Rattle.md_meaning.specs.Meaning.Spans.{span, code, trimmed, without_escapes}
 use Rattle.md_content.specs.Built.{Content}
 use Rattle.md_safe.proofs.Texts.{Escaped, trimmed-escaped, pipes-escaped}
-use Rattle.md_safe.proofs.Laid.{adds-alone}
 use Rattle.md_safe.proofs.Spot.{Setting, Here, Prints, Inside}
 use Rattle.std.proofs.lemmas.Bool.{cond_both}
 
@@ -28,10 +27,7 @@ is_pair name = elim (pair_tag name) [ [] ↦ false | _ ↦ true ]
 
 pub by_pair : (Q : List ℕ → Type 0) → Q (codes "em") → Q (codes "strong") → Q (codes "del") →
     (name : Name) → is_pair name ≡ true → Q (pair_tag name)
-by_pair Q em strong del Emphasis is = em
-by_pair Q em strong del Strong is = strong
-by_pair Q em strong del GfmStrikethrough is = del
-by_pair Q em strong del _ is = lie is
+by_pair Q em strong del name is = grind arith
 
 -- code and math in a line
 abbrev pub is_code : Name → Bool
@@ -47,35 +43,27 @@ code_opening math =
 pub pair-prints : (context : Context) (t : At) (name : Name) → is_pair name ≡ true →
     (inner : List Piece) → prints context t name inner ≡ span t
     (said (60 ∷ (pair_tag name ++ (62 ∷ [])))) inner (said (60 ∷ 47 ∷ (pair_tag name ++ (62 ∷ []))))
-pair-prints context t Emphasis is inner = refl
-pair-prints context t _ is inner = cc
+pair-prints context t name is inner = grind arith
 
 -- a content that is allowed in a pair of tags is allowed around it too
 pub pair-inside : (s : Setting) (t : At) (content : Content) (name : Name) → is_pair name ≡ true →
     (inner : List Piece) → Inside s t content name inner → Prints s (Here s t content) inner
-pair-inside s t content Emphasis is inner a = a
-pair-inside s t content Strong is inner a = a
-pair-inside s t content GfmStrikethrough is inner a = a
-pair-inside s t content _ is inner a = lie is
+pair-inside s t content name is inner a = grind arith
 
 pub code-prints : (context : Context) (t : At) (name : Name) → is_code name ≡ true →
     (inner : List Piece) → prints context t name inner ≡ code t
     (code_opening (is_math name)) (layout context.ending inner)
-code-prints context t CodeText is inner = refl
-code-prints context t _ is inner = cc
+code-prints context t name is inner = grind arith
 
 -- the text of code as it is shown
 abbrev pub shown_in : At → List ℕ → List ℕ
 shown_in t x = trimmed (cond t.around.in_table (without_escapes x) x)
 
 pub shown-escaped : (t : At) (x : List ℕ) → Escaped x → Escaped (shown_in t x)
-shown-escaped t x h = trimmed-escaped (cond t.around.in_table (without_escapes x) x) (cond_both
-    t.around.in_table (without_escapes x) x Escaped (λ _. pipes-escaped x h) (λ _. h))
+shown-escaped t x h = grind (arith, trimmed-escaped, cond_both, pipes-escaped)
 
 -- the text in code
 pub code-text : (s : Setting) (t : At) (content : Content) (name : Name) →
     t.around.is_escaping ≡ true → is_code name ≡ true → (inner : List Piece) →
     Inside s t content name inner → Escaped (layout s.context.ending inner)
-code-text s t content CodeText e is inner a = adds-alone a e
-code-text s t content MathText e is inner a = adds-alone a e
-code-text s t content _ e is inner a = lie is
+code-text s t content name e is inner a = grind arith

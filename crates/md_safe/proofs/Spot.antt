@@ -1,7 +1,7 @@
 -- A node in its context: the facts about the document, and the node's meaning. The lemmas on nodes
 -- use this record.
-use Rattle.std.proofs.Common.{◌≡◌, ℕ, Bool, true, List, [], ◌∷◌, ◌++◌, codes, ◌&&◌}
-use Rattle.std.specs.Prelude.{Option, Some, None, find, bytes_eq, unwrap_or}
+use Rattle.std.proofs.Common.{◌≡◌, ℕ, Bool, true, List, [], ◌∷◌, ◌++◌, codes, ◌&&◌, arith}
+use Rattle.std.specs.Prelude.{Option, find, bytes_eq}
 use Rattle.std.specs.Option.{option_map_or}
 use Rattle.md_base.specs.declared.event.Name.{Name}
 use Rattle.md_text.specs.Html.{Attribute}
@@ -10,9 +10,9 @@ use Rattle.md_text.proofs.EncodeLaws.{is_escaped-encoded}
 use Rattle.md_pattern.specs.Looseness.{is_loose}
 use Rattle.md_meaning.specs.Meaning.Inherited.{inside}
 use Rattle.md_meaning.specs.Meaning.At.{Target, Defined, Context, At, nothing_found, target_in}
-use Rattle.md_meaning.specs.Meaning.At.{identifier_of, Before}
+use Rattle.md_meaning.specs.Meaning.At.{Before}
 use Rattle.md_meaning.specs.Meaning.Layout.{Piece}
-use Rattle.md_meaning.specs.Meaning.Media.{target_defined, leads_to}
+use Rattle.md_meaning.specs.Meaning.Media.{leads_to}
 use Rattle.md_meaning.specs.Meaning.Means.{prints}
 use Rattle.md_content.specs.Built.{Content, IsFit, content_of}
 use Rattle.md_safe.proofs.Texts.{Escaped}
@@ -96,19 +96,12 @@ defined-title : (definitions : List Defined) (identifier : List ℕ) → AreTitl
     (find (λ defined. bytes_eq defined.identifier identifier) definitions)
     (target_in nothing_found)).title
 defined-title [] identifier h = tt
-defined-title (defined ∷ others) identifier h = cond_both (bytes_eq defined.identifier identifier)
-    (Some defined) (find (λ one. bytes_eq one.identifier identifier) others) (λ found.
-    IsEscapedTitle (option_map_or (λ (defined : Defined). defined.target) found (target_in
-    nothing_found)).title) (λ _. h.0) (λ _. defined-title others identifier h.1)
+defined-title (defined ∷ others) identifier h =
+    grind (arith, cond_both, defined-title others identifier h.1)
 
 pub target-title : (s : Setting) (t : At) → IsGoodTarget t.found.resource →
     IsEscapedTitle (leads_to s.context t).title
-target-title s t good = elim t.found.resource as (λ resource. IsGoodTarget resource → IsEscapedTitle
-    (unwrap_or resource (target_defined s.context (identifier_of s.context.bytes
-    t.children))).title) [
-      | None ↦ λ h. defined-title _ _ s.titles
-      | Some target ↦ λ h. h
-    ] good
+target-title s t good = grind (arith, defined-title)
 
 -- a node in the document, by what its children mean
 abbrev pub at_in : Surroundings → Before → Point → Point → Forest → Forest → Outcome → At

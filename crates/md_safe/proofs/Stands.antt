@@ -11,7 +11,7 @@ use Rattle.md_base.proofs.Lies.{lie}
 use Rattle.md_text.specs.Laws.{is_line_ends}
 use Rattle.md_text.specs.Bytes.{is_one_of}
 use Rattle.md_text.specs.Html.{Attribute, Forest, Empty, Text, Void, Element, is_tag, elements}
-use Rattle.md_text.specs.Html.{void_tags, written_attributes, closing_tag, IsReading, any_attribute}
+use Rattle.md_text.specs.Html.{void_tags, written_attributes, IsReading, any_attribute}
 use Rattle.md_text.proofs.HtmlJoin.{text_before, joined, after_forest, opening-before}
 use Rattle.md_text.proofs.HtmlReading.{only_reading, all-any}
 use Rattle.md_text.proofs.HtmlWriting.{written_attributes-before}
@@ -51,16 +51,12 @@ contained-once nested x h =
 -- two texts that may stand somewhere may stand there as one
 say-append : (content : Content) (x y : List ℕ) → may_say content x ≡ true →
     may_say content y ≡ true → may_say content (x ++ y) ≡ true
-say-append Preformatted x y a b = a
-say-append content x y a b = grind (arith, list_all-append is_space x y)
+say-append content x y a b = grind (arith, list_all-append)
 
 contained-text_before : (nested : Bool) (content : Content) (bytes : List ℕ) (g : Forest) →
     may_say content bytes ≡ true → is_contained nested content g ≡ true →
     is_contained nested content (text_before bytes g) ≡ true
-contained-text_before nested content bytes Empty s h = and_from _ _ s refl
-contained-text_before nested content bytes (Text more rest) s h =
-    grind (arith, say-append content bytes more)
-contained-text_before nested content bytes g s h = and_from _ _ s h
+contained-text_before nested content bytes g s h = grind (arith, and_from, say-append)
 
 -- what an element holds stands where it may
 abbrev pub is_held : (nested : Bool) → Content → List ℕ → Forest → Bool
@@ -72,9 +68,7 @@ contained-joined : (nested : Bool) (content : Content) (f g : Forest) →
     is_contained nested content (joined f g) ≡ true
 contained-joined nested content Empty g a b = b
 contained-joined nested content (Text bytes rest) g a b =
-    let parts = and_parts _ _ a in
-    contained-text_before nested content bytes (joined rest g) parts.0
-    (contained-joined nested content rest g parts.1 b)
+    grind (arith, and_parts, contained-text_before, contained-joined nested content rest g)
 contained-joined nested content (Void name attributes rest) g a b =
     grind (arith, contained-joined nested content rest g)
 contained-joined nested content (Element name attributes children rest) g a b =
@@ -95,11 +89,7 @@ stands-join {nested} {content} x y a b =
     }
 
 pub stands-nothing : {nested : Bool} {content : Content} → Stands nested content []
-stands-nothing = record {
-  forest = Empty;
-  reading = record { in_grammar = refl; written_so = refl };
-  contained = refl;
-}
+stands-nothing = grind arith
 
 pub stands-text : {nested : Bool} {content : Content} {x : List ℕ} → Escaped x →
     may_say content x ≡ true → Stands nested content x
@@ -189,32 +179,19 @@ pub line_ends-white : (x : List ℕ) → is_line_ends x ≡ true → IsWhite x
 line_ends-white x h = (line_ends-escaped x h, line_ends-space x h)
 
 pub white_beside : IsBeside IsWhite
-white_beside = record {
-  none = (refl, refl);
-  both = λ x y a b. (
-    escaped-append x y a.0 b.0,
-    list_all-append is_space x y ∙ and_from (list_all is_space x) (list_all is_space y) a.1 b.1,
-  );
-}
+white_beside = grind (arith, escaped-append, list_all-append, and_from)
 
 -- white space may be beside it
 pub takes-white : {nested : Bool} {content : Content} → is_spaced content ≡ true →
     Takes IsWhite (Stands nested content)
-takes-white is = record {
-  take = λ w x v h r g. stands-join _ _ (stands-white is h) (stands-join _ _ r (stands-white is g));
-}
+takes-white is = grind (arith, stands-join, stands-white)
 
 -- ---- the tag of an element, which changes the content to another
 
 pub turns-tag : {nested : Bool} (held : Content) {content : Content} {name : List ℕ} →
     Opens nested content held name → TurnsTag any_attribute (Stands nested held)
     (Stands nested content) name
-turns-tag held {name = name} opens = record {
-  tag = λ attributes h a. record {
-    turn = λ x r. rw (opening-before name attributes (x ++ closing_tag name)) (stands-element _ _ x
-        h opens r);
-  };
-}
+turns-tag held opens = grind (arith, opening-before, stands-element)
 
 find-first : {A : Type 0} (test : A → Bool) (xs ys : List A) (x : A) → find test xs ≡ Some x →
     find test (xs ++ ys) ≡ Some x
@@ -251,8 +228,4 @@ contained-wider nested (Element name attributes inner rest) h =
     and_from _ _ (held-wider nested name inner parts.0) (contained-wider nested rest parts.1)
 
 pub stands-wider : {nested : Bool} (x : List ℕ) → Stands nested Phrasing x → Stands nested Flow x
-stands-wider {nested} x h = record {
-  forest = h.forest;
-  reading = h.reading;
-  contained = contained-wider nested h.forest h.contained;
-}
+stands-wider x h = grind (arith, contained-wider)

@@ -1,13 +1,13 @@
 -- Step by step: a run from a state, by a run from the state after its first step.
 use Rattle.std.proofs.Common.{◌≡◌, ℕ, ◌==◌, Bool, true, false, cond, List, [], ◌∷◌, ◌++◌, map, refl}
-use Rattle.std.proofs.Common.{sym, ap, ◌∙◌, Some, arith}
+use Rattle.std.proofs.Common.{ap, ◌∙◌, arith}
 use Rattle.std.proofs.lemmas.Bool.{eqb-false}
 use Rattle.md_text.specs.References.{is_escaped, read_back}
 use Rattle.md_text.proofs.EncodeLaws.{read_back-other}
 use Rattle.md_safe.specs.Token.{Token, Character, TokenAttribute}
 use Rattle.md_safe.specs.Tag.{Tag, with_value}
 use Rattle.md_safe.specs.TokenizerStates.{State, Data, AttributeValueDoubleQuoted, Goes, Rcdata}
-use Rattle.md_safe.specs.Tokenizer.{step, run, IsRun}
+use Rattle.md_safe.specs.Tokenizer.{step, IsRun}
 use Rattle.md_safe.proofs.EscapedCases.{IsPlain, by_escaped}
 use Rattle.md_safe.proofs.Joining.{run-back}
 
@@ -32,10 +32,7 @@ loud x e h = run-back _ _ _ _ (x ∷ []) _ e h
 -- the same run, of what is equal
 pub along : (state : State) (x y : List ℕ) (s t : List Token) → x ≡ y → s ≡ t →
     IsRun state x s → IsRun state y t
-along state x y s t e f h = record {
-  steps = h.steps;
-  emits = ap (run h.steps state) (sym e) ∙ h.emits ∙ ap (λ t. Some t) f;
-}
+along state x y s t e f h = grind arith
 
 pub plain-ne : (b : ℕ) → IsPlain b → b ≡ 38 → ⊥
 plain-ne b p = eqb-false b 38 p.no_and

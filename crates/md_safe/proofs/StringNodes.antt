@@ -1,5 +1,6 @@
 -- The nodes of strings print escaped texts.
-use Rattle.std.proofs.Common.{◌≡◌, ℕ, Bool, true, false, not, ◌&&◌, cond, List, [], ◌∷◌, refl, ap}
+use Rattle.std.proofs.Common.{arith}
+use Rattle.std.proofs.Common.{◌≡◌, ℕ, Bool, true, false, not, ◌&&◌, cond, List, [], ◌∷◌, refl}
 use Rattle.std.proofs.lemmas.Bool.{cond_both, and_from}
 use Rattle.md_base.proofs.Lies.{lie}
 use Rattle.md_base.specs.declared.event.Name.{Name}
@@ -16,7 +17,6 @@ use Rattle.md_content.specs.Built.{Content, is_string}
 use Rattle.md_safe.proofs.Spot.{NodeAdds, Setting, IsFitAt, Here, Prints, IsNarrow, encoded-escaped}
 use Rattle.md_safe.proofs.Texts.{Escaped, line_ends-escaped}
 use Rattle.md_safe.proofs.Laid.{adds-text, adds-nothing, adds-weaker}
-use Rattle.md_safe.proofs.Cases.{cases}
 
 -- marks print their content
 abbrev is_mark : Name → Bool
@@ -52,8 +52,7 @@ line_ending-escaped s t h =
 
 data-prints : (context : Context) (t : At) (name : Name) → is_data name ≡ true →
     (inner : List Piece) → prints context t name inner ≡ escaped t (text_in context.bytes t.place)
-data-prints context t LineEnding is inner = lie is
-data-prints context t _ is inner = cc
+data-prints context t name is inner = grind arith
 
 other-node : (s : Setting) (t : At) (holds : List ℕ → Type 0) (name : Name) →
     IsNarrow t.around.is_escaping holds → is_text name && not (is_data name) ≡ true →
@@ -67,21 +66,14 @@ other-node s t holds _ n is fit inner = lie is
 pub text-node : (s : Setting) (t : At) (holds : List ℕ → Type 0) (name : Name) →
     IsNarrow t.around.is_escaping holds → is_text name ≡ true → IsFitAt s t name →
     (inner : List Piece) → Prints s holds (prints s.context t name inner)
-text-node s t holds name n is fit inner = cases (is_data name)
-    (λ e. rw (data-prints s.context t name e inner) (data-node s t holds n (text_in s.context.bytes
-    t.place)))
-    (λ e. other-node s t holds name n (and_from _ _ is (ap not e)) fit inner)
+text-node s t holds name n is fit inner =
+    grind (arith, data-prints, data-node, other-node, and_from)
 
 mark-node : (s : Setting) (t : At) (content : Content) (name : Name) → is_mark name ≡ true →
     NodeAdds s t content name
-mark-node s t content CharacterReferenceMarker is inner a = a
-mark-node s t content CharacterReferenceMarkerNumeric is inner a = a
-mark-node s t content CharacterReferenceMarkerHexadecimal is inner a = a
-mark-node s t content _ is inner a = lie is
+mark-node s t content name is inner a = grind arith
 
 pub string-node : (s : Setting) (t : At) (content : Content) (name : Name) →
     IsNarrow t.around.is_escaping (Here s t content) → is_string name ≡ true → IsFitAt s t name →
     NodeAdds s t content name
-string-node s t content name n is fit inner a = cases (is_mark name)
-    (λ e. mark-node s t content name e inner a)
-    (λ e. text-node s t (Here s t content) name n (and_from _ _ is (ap not e)) fit inner)
+string-node s t content name n is fit inner a = grind (arith, mark-node, text-node, and_from)

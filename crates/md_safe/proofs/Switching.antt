@@ -1,14 +1,14 @@
 -- A start tag switches to the mode "text" if it is `title`, and otherwise not.
+use Rattle.std.proofs.Common.{arith}
 use Rattle.std.proofs.Common.{◌≡◌, ℕ, Bool, true, false, cond, List, refl, sym, ap, subst, codes}
 use Rattle.std.specs.Prelude.{Option, Some, None, option_and_then, bytes_eq}
 use Rattle.std.proofs.lemmas.Slice.Eq.{bytes_eq-Decides}
 use Rattle.md_safe.specs.Token.{StartTag, TokenAttribute}
-use Rattle.md_safe.specs.Node.{Mode, Initial, BeforeHtml, BeforeHead, InHead, InText, InTableText}
+use Rattle.md_safe.specs.Node.{Mode, InText, InTableText}
 use Rattle.md_safe.specs.Node.{is_text, Parser}
 use Rattle.md_safe.specs.AroundBody.{start_before_html, start_before_head, start_in_head}
 use Rattle.md_safe.specs.AroundBody.{start_after_head, with_root, with_head, with_body}
 use Rattle.md_safe.specs.InBody.{reconstructed, start_in_body}
-use Rattle.md_safe.specs.InTable.{end_table_text}
 use Rattle.md_safe.specs.Construction.{start, step}
 use Rattle.md_safe.proofs.Cases.{cases}
 
@@ -20,16 +20,11 @@ nowhere : (text : Bool) → Tokenizes text None
 nowhere text = record { holds = λ next e. cc }
 
 to : (text : Bool) (parser : Parser) → is_text parser.mode ≡ text → Tokenizes text (Some parser)
-to text parser is = record { holds = λ next e. subst (λ o. Leaves o) e is }
-  where
-    Leaves : Option Parser → Type 0
-    Leaves None = Unit {0}
-    Leaves (Some parser) = is_text parser.mode ≡ text
+to text parser is = grind arith
 
 either : (text : Bool) (b : Bool) (x y : Option Parser) → Tokenizes text x → Tokenizes text y →
     Tokenizes text (cond b x y)
-either text true x y p q = p
-either text false x y p q = q
+either text b x y p q = grind arith
 
 -- ---- no other tag
 
@@ -79,35 +74,19 @@ starts _ name attributes parser e none = search (entering, ap is_text e)
 
 titles : (mode : Mode) (attributes : List TokenAttribute) (parser : Parser) →
     Tokenizes true (start mode (codes "title") attributes parser)
-titles Initial attributes parser = to true _ refl
-titles BeforeHtml attributes parser = to true _ refl
-titles BeforeHead attributes parser = to true _ refl
-titles InHead attributes parser = to true _ refl
-titles _ attributes parser = nowhere true
+titles mode attributes parser = grind arith
 
 -- ---- after the characters of a table that were pending
 
 after-text : (text : Bool) (tag : Parser → Option Parser) →
     ((parser : Parser) → Tokenizes text (tag parser)) →
     (reached : Option Parser) → Tokenizes text (option_and_then tag reached)
-after-text text tag all None = nowhere text
-after-text text tag all (Some parser) = all parser
+after-text text tag all reached = grind arith
 
 steps : (text : Bool) (name : List ℕ) (attributes : List TokenAttribute) (flag : Bool) →
     ((parser : Parser) → Tokenizes text (start parser.mode name attributes parser)) →
     (parser : Parser) → Tokenizes text (step parser (StartTag name attributes flag))
-steps text name attributes flag all parser = by parser.mode
-  where
-    tag : Parser → Option Parser
-    tag parser = start parser.mode name attributes parser
-
-    by : (mode : Mode) → Tokenizes text (elim mode [
-      | InTableText original ↦ option_and_then tag (end_table_text original
-          (record parser { skips_line_feed = false }))
-      | _ ↦ tag (record parser { skips_line_feed = false })
-    ])
-    by (InTableText original) = after-text _ _ all _
-    by _ = all (record parser { skips_line_feed = false })
+steps text name attributes flag all parser = grind (arith, after-text)
 
 pub switched :
     (parser next : Parser) (name : List ℕ) (attributes : List TokenAttribute) (flag : Bool) →

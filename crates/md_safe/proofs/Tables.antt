@@ -2,7 +2,7 @@
 -- as it is; what stands in a part of one, by what each element of it does; and their parts, rows
 -- and cells.
 use Rattle.std.proofs.Common.{◌≡◌, ℕ, Bool, true, false, List, [], ◌∷◌, ◌++◌, refl, sym, ap, ◌∙◌}
-use Rattle.std.proofs.Common.{subst, map, append_assoc, append-nil, arith, ◌≤◌, codes, eqb-true}
+use Rattle.std.proofs.Common.{map, append_assoc, append-nil, arith, ◌≤◌, codes, eqb-true}
 use Rattle.std.proofs.Common.{suc}
 use Rattle.std.specs.Prelude.{Option, Some, None, option_and_then}
 use Rattle.std.specs.List.{list_all}
@@ -18,8 +18,8 @@ use Rattle.md_safe.specs.Contents.{is_space, Content, Parts, Rows, Cells, voids_
 use Rattle.md_safe.specs.Contents.{is_contained, elements_in, Phrasing}
 use Rattle.md_safe.specs.Node.{Open, Entry, Mode, InTable, InTableBody, InRow, InTableText, Parser}
 use Rattle.md_safe.specs.Node.{with_character, Nodes, with_element, Empty as NoNode, Marker, InCell}
-use Rattle.md_safe.specs.InTable.{is_tabular, say_all, end_table_text, character_in_table, mode_for}
-use Rattle.md_safe.specs.Construction.{character, start, end, step, run, after_table_text}
+use Rattle.md_safe.specs.InTable.{is_tabular, say_all, end_table_text, mode_for}
+use Rattle.md_safe.specs.Construction.{start, end, step, run, after_table_text}
 use Rattle.md_safe.specs.Built.{with_characters, at, has_whole_texts, put, AreCreated, is_body}
 use Rattle.md_safe.proofs.Steps.{past, here}
 use Rattle.md_safe.proofs.TreeSteps.{after-one, is_character, Position, parser_of, with_children}
@@ -82,10 +82,6 @@ tagged : (mode : Mode) → is_tables mode ≡ true → (p : Parser) (tag : Parse
     after_table_text (record p { mode = mode }) tag ≡ tag (record p { mode = mode })
 tagged mode is p tag = grind (arith, is)
 
-said : (mode : Mode) → is_tables mode ≡ true → (byte : ℕ) (p : Parser) →
-    character mode byte p ≡ character_in_table byte p
-said mode is byte p = grind (arith, is)
-
 pub settled : (mode : Mode) → is_tables mode ≡ true →
     (node : Open) (others : List Open) (active : List Entry)
     (created : ℕ) (bytes : List ℕ) → list_all is_space bytes ≡ true →
@@ -115,12 +111,8 @@ more-waits : (mode : Mode) (stack : List Open) (active : List Entry) (created : 
 more-waits mode stack active created before [] h = ap
     (λ x. Some (waiting mode stack active created x)) (sym (append-nil before))
 more-waits mode stack active created before (b ∷ bytes) h =
-    let parts = and_parts _ _ h in
-    after-one (waiting mode stack active created before)
-    (waiting mode stack active created (before ++ (b ∷ []))) (Character b) (map Character bytes)
-    (past _ (not-true _ parts.0) refl) ∙ (more-waits mode stack active created (before ++ (b ∷ []))
-    bytes parts.1 ∙ ap (λ x. Some (waiting mode stack active created x))
-    (append_assoc before (b ∷ []) bytes))
+    let later = more-waits mode stack active created (before ++ (b ∷ [])) bytes in
+    grind (arith, and_parts, after-one, not-true, append_assoc, later)
 
 -- a text in a table waits
 pub text-waits : (mode : Mode) → is_tables mode ≡ true → (node : Open) (others : List Open)
@@ -128,13 +120,8 @@ pub text-waits : (mode : Mode) → is_tables mode ≡ true → (node : Open) (ot
     is_nonempty bytes ≡ true → list_all is_character bytes ≡ true → run
     (at mode (node ∷ others) active created) (map Character bytes)
     ≡ Some (waiting mode (node ∷ others) active created bytes)
-text-waits mode is node others active created [] t f h = lie f
-text-waits mode is node others active created (b ∷ bytes) t f h =
-    let parts = and_parts _ _ h in
-    after-one (at mode (node ∷ others) active created)
-    (waiting mode (node ∷ others) active created (b ∷ [])) (Character b) (map Character bytes) (past
-    _ (not-true _ parts.0) (said mode is b (at mode (node ∷ others) active created) ∙ here None t
-    refl)) ∙ more-waits mode (node ∷ others) active created (b ∷ []) bytes parts.1
+text-waits mode is node others active created bytes t f h =
+    grind (arith, and_parts, after-one, not-true, more-waits)
 
 -- the tokens of a part of a table, up to characters that still wait
 pub record Set (x : Position) (forest : Forest) : Type 0 where
@@ -183,24 +170,17 @@ Puts mode parent name held =
 
 -- something is read of a text
 fed : (x : List ℕ) → begins_with_line_feed x ≡ true → is_nonempty (with_line_feeds x) ≡ true
-fed [] h = lie h
-fed (b ∷ x) h =
-    subst (λ b. is_nonempty (with_line_feeds (b ∷ x)) ≡ true) (sym (eqb-true b 10 h)) refl
+fed x h = grind (arith, eqb-true)
 
 lines-filled : (x : List ℕ) → is_nonempty x ≡ true → is_nonempty (with_line_feeds x) ≡ true
-lines-filled [] h = lie h
-lines-filled (b ∷ x) h = grind (arith, fed x)
+lines-filled x h = grind (arith, fed)
 
 read-filled : (x : List ℕ) → is_nonempty x ≡ true → is_nonempty (read_back x) ≡ true
-read-filled [] h = lie h
-read-filled (b ∷ x) h = grind arith
+read-filled x h = grind arith
 
 filled : (bytes : List ℕ) (rest : Forest) → has_whole_texts (Text bytes rest) ≡ true →
     is_nonempty (seen bytes) ≡ true
-filled bytes rest h =
-    let all = and_parts _ _ h in
-    let own = and_parts _ _ all.0 in
-    read-filled (with_line_feeds bytes) (lines-filled bytes (and_parts _ _ own.0).0)
+filled bytes rest h = grind (arith, and_parts, read-filled, lines-filled)
 
 pub set-all : (f : Forest) (content : Content) → is_tabled content ≡ true → (mode : Mode) →
     is_tables mode ≡ true → (parent : List ℕ) → is_one_of (codes "table" ∷ codes "tbody" ∷ codes

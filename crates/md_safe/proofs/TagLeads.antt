@@ -41,8 +41,7 @@ good_parts b h = grind arith
 
 pub good-no_return : (name : List ℕ) → list_all is_good_byte name ≡ true →
     list_all no_return name ≡ true
-good-no_return name h =
-    all-weaker is_good_byte no_return (λ b good. ap not (good_parts b good).no_return) name h
+good-no_return name h = grind (arith, all-weaker, good_parts)
 
 pub tag_name_step : (tag : Tag) (b : ℕ) (rest : List ℕ) → IsGoodByte b →
     step (TagName tag) (b ∷ rest) ≡ Goes [] (TagName (with_tag_name tag (b ∷ []))) rest
@@ -101,12 +100,8 @@ pub line_feeds-attributes : (x : List Attribute) (r : List ℕ) → are_good x �
     with_line_feeds (attributes_before x r) ≡ attributes_before (lined x) (with_line_feeds r)
 line_feeds-attributes [] r g = refl
 line_feeds-attributes (a ∷ x) r g =
-    let p = good_attribute a x g in
-    let n = and_parts _ _ p.0 in
-    ap (λ y. 32 ∷ y) (line_feeds-name a.name (61 ∷ 34 ∷ (a.value ++ (34 ∷ attributes_before x r)))
-    (good-no_return a.name n.1) ∙ ap (λ y. a.name ++ (61 ∷ 34 ∷ y)) (line_feeds-append a.value
-    (34 ∷ attributes_before x r) refl ∙ ap (λ y. with_line_feeds a.value ++ (34 ∷ y))
-    (line_feeds-attributes x r p.3)))
+    let later = line_feeds-attributes x r in
+    grind (arith, good_attribute, line_feeds-name, good-no_return, line_feeds-append, later)
 
 -- more attributes, the last one first
 abbrev pub onto : List TokenAttribute → List Attribute → List TokenAttribute
@@ -181,13 +176,11 @@ tag-begins is_end name r t g h =
 
 pub opens : (name r : List ℕ) → begins_tag name ≡ true →
     step TagOpen (name ++ r) ≡ Goes [] (TagName (tag_with false [] [])) (name ++ r)
-opens [] r g = lie g
-opens (b ∷ name) r g = grind arith
+opens name r g = grind arith
 
 pub closes : (name r : List ℕ) → begins_tag name ≡ true →
     step EndTagOpen (name ++ r) ≡ Goes [] (TagName (tag_with true [] [])) (name ++ r)
-closes [] r g = lie g
-closes (b ∷ name) r g = grind arith
+closes name r g = grind arith
 
 start-leads : {left : List ℕ} (name : List ℕ) (x : List Attribute) (r : List ℕ) (t : List Token) →
     is_good_name name ≡ true → are_good x ≡ true →

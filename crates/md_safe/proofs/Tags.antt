@@ -2,7 +2,7 @@
 -- one or between other pieces: a text between them keeps the claim.
 use Rattle.std.specs.List.{list_all}
 use Rattle.std.proofs.Common.{◌≡◌, ℕ, Bool, true, List, [], ◌∷◌, ◌++◌, codes, false, not, ◌&&◌}
-use Rattle.std.proofs.Common.{refl, ap, subst, append_assoc, append-nil}
+use Rattle.std.proofs.Common.{refl, ap, subst, append_assoc, append-nil, arith}
 use Rattle.md_text.specs.Laws.{is_line_ends}
 use Rattle.md_text.specs.Html.{Attribute, HasReadingWith, is_tag, elements, written_attributes}
 use Rattle.md_text.specs.Html.{opening_tag, closing_tag, void_tags}
@@ -88,8 +88,7 @@ bracket-tag p name = record {
 
 pub turns-two : {Q R S : List ℕ → Type 0} {o c o' c' : List ℕ} → Turns R S o c → Turns Q R o' c' →
     Turns Q S (o ++ o') (c' ++ c)
-turns-two a b =
-    record { turn = λ x r. simp append_assoc (simp append_assoc at (a.turn _ (b.turn x r))) }
+turns-two a b = grind (arith, append_assoc)
 
 -- the same of the whole element, attribute by attribute, and of a void tag
 pub record Tagged (test : Attribute → Bool) (Q R : List ℕ → Type 0) (name : List ℕ) : Type 0 where

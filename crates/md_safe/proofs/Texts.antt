@@ -3,7 +3,6 @@
 use Rattle.std.proofs.Common.{◌≡◌, ℕ, ◌-◌, ◌<◌, ◌/◌, ◌%◌, ◌==◌, zero, suc, Bool, true, false}
 use Rattle.std.proofs.Common.{not, ◌&&◌, ◌||◌, cond, List, [], ◌∷◌, ◌++◌, length, take, drop, refl}
 use Rattle.std.proofs.Common.{sym, ap, subst, arith, append_assoc, append-nil, eqb-true}
-use Rattle.std.specs.Prelude.{nat_lt}
 use Rattle.std.specs.Fmt.{decimal, digits, digits_onto, digit_glyph}
 use Rattle.std.specs.List.{list_all}
 use Rattle.std.proofs.lemmas.Bool.{and_parts, cond_both, agree_below_at, and_from}
@@ -48,9 +47,7 @@ digits-escaped (b ∷ text) h = grind (arith, plain_first b text, digit-plain b,
 -- digits without the zeros before them are digits
 pub zeros-escaped : (text : List ℕ) → list_all is_digit text ≡ true → Escaped (without_zeros text)
 zeros-escaped [] h = refl
-zeros-escaped (b ∷ text) h = cond_both (b == 48 && nat_lt 0 (length text)) (without_zeros text)
-    (b ∷ text) Escaped (λ _. zeros-escaped text (and_parts _ _ h).1)
-    (λ _. digits-escaped (b ∷ text) h)
+zeros-escaped (b ∷ text) h = grind (arith, cond_both, and_parts, digits-escaped, zeros-escaped text)
 
 pub glyph-digit : (d : ℕ) → d < 10 → is_digit (digit_glyph false d) ≡ true
 glyph-digit d l = agree_below_at (λ d. is_digit (digit_glyph false d)) (λ d. true) 10 d refl l
@@ -59,12 +56,8 @@ onto-digits : (k n : ℕ) (acc : List ℕ) → list_all is_digit acc ≡ true �
     list_all is_digit (digits_onto k 10 false n acc) ≡ true
 onto-digits zero n acc h = h
 onto-digits (suc k) n acc h =
-    let l : n % 10 < 10 = omega arith in
-    let first : list_all is_digit (digit_glyph false (n % 10) ∷ acc) ≡ true = and_from _ _
-    (glyph-digit (n % 10) l) h in
-    cond_both (n / 10 == 0) (digit_glyph false (n % 10) ∷ acc) (digits_onto k 10 false (n / 10)
-    (digit_glyph false (n % 10) ∷ acc)) (λ x. list_all is_digit x ≡ true) (λ _. first) (λ _.
-    onto-digits k (n / 10) (digit_glyph false (n % 10) ∷ acc) first)
+    let later = onto-digits k (n / 10) (digit_glyph false (n % 10) ∷ acc) in
+    grind (arith, and_from, glyph-digit, cond_both, later)
 
 pub decimal-digits : (n : ℕ) → list_all is_digit (decimal n) ≡ true
 unfolding digits
@@ -76,13 +69,9 @@ decimal-escaped n = digits-escaped (decimal n) (decimal-digits n)
 -- the pipes' backslashes go
 pipes : (text front : List ℕ) → Escaped (front ++ text) → Escaped (front ++ without_escapes text)
 pipes [] front h = h
-pipes (b ∷ text) front h = cond_both (b == 92 && is_at 124 text 0) [] (b ∷ [])
-    (λ own. Escaped (front ++ (own ++ without_escapes text))) (λ escapes.
-    let is : b ≡ 92 = eqb-true _ _ (and_parts _ _ escapes).0 in
-    pipes text front (escaped-without 92 front text refl
-    (subst (λ b. Escaped (front ++ (b ∷ text))) is h))) (λ _. subst Escaped
-    (append_assoc front (b ∷ []) (without_escapes text)) (pipes text (front ++ (b ∷ []))
-    (subst Escaped (sym (append_assoc front (b ∷ []) text)) h)))
+pipes (b ∷ text) front h =
+    let more = pipes text (front ++ (b ∷ [])) in
+    grind (arith, cond_both, eqb-true, escaped-without, append_assoc, pipes text front, more)
 
 pub pipes-escaped : (text : List ℕ) → Escaped text → Escaped (without_escapes text)
 pipes-escaped text h = pipes text [] h
@@ -95,9 +84,7 @@ record Trim (b : ℕ) (text : List ℕ) : Type 0 where
 
 trim_last : (b : ℕ) (text : List ℕ) → is_at 32 (b ∷ text) (length text) ≡ true → Trim b text
 trim_last b [] h = record { front = []; whole = ap (λ b. b ∷ []) (eqb-true b 32 h); cut = refl }
-trim_last b (c ∷ text) h =
-    let r = trim_last c text h in
-    record { front = b ∷ r.front; whole = ap (λ x. b ∷ x) r.whole; cut = ap (λ x. b ∷ x) r.cut }
+trim_last b (c ∷ text) h = grind (arith, trim_last c text h)
 
 cut_last : (c : ℕ) (text : List ℕ) → is_at 32 (c ∷ text) (length text) ≡ true → Escaped (c ∷ text) →
     Escaped (take (length text) (c ∷ text))

@@ -50,16 +50,9 @@ all-tokens p q o Empty h k = refl
 all-tokens p q o (Text bytes rest) h k = all-append p _ _ (all-characters p q o (seen bytes))
     (all-tokens p q o rest (and_parts _ _ h).1 k)
 all-tokens p q o (Void name attributes rest) h k =
-    let r = and_parts _ _ h in
-    let s = and_parts _ _ k in
-    and_from _ _ (o.voids name attributes r.0 s.0) (all-tokens p q o rest r.1 s.1)
+    grind (arith, and_parts, and_from, all-tokens p q o rest)
 all-tokens p q o (Element name attributes children rest) h k =
-    let r = and_parts _ _ h in
-    let u = and_parts _ _ r.0 in
-    let s = and_parts _ _ k in
-    let v = and_parts _ _ s.0 in
-    and_from _ _ (o.starts name attributes u.0 v.0) (all-append p _ _ (all-tokens p q o children u.1
-    v.1) (and_from _ _ (o.ends name attributes u.0) (all-tokens p q o rest r.1 s.1)))
+    grind (arith, and_parts, and_from, all-append, all-tokens p q o children, all-tokens p q o rest)
 
 -- and the same for any tokens of a text
 pub all-tokenized : (p : Token → Bool) (q : Attribute → Bool) → PassesTags p q →

@@ -1,10 +1,9 @@
 -- What a parser in a body or a cell does at a token of the grammar.
 use Rattle.std.proofs.Common.{◌≡◌, ℕ, ◌==◌, Bool, true, false, not, List, [], ◌∷◌, ◌++◌, refl, suc}
-use Rattle.std.proofs.Common.{ap, ◌∙◌, map, codes}
+use Rattle.std.proofs.Common.{ap, ◌∙◌, map, codes, arith}
 use Rattle.std.specs.Prelude.{Some, None, option_and_then}
 use Rattle.std.specs.List.{list_all}
 use Rattle.std.proofs.lemmas.Bool.{and_parts, not-true}
-use Rattle.md_base.proofs.Lies.{lie}
 use Rattle.md_text.specs.Bytes.{is_one_of}
 use Rattle.md_text.specs.References.{is_escaped, read_back}
 use Rattle.md_safe.specs.Input.{with_line_feeds}
@@ -17,7 +16,6 @@ use Rattle.md_safe.specs.Node.{Nodes, Open, Entry, Marker, Formatting, Mode, InB
 use Rattle.md_safe.specs.Node.{with_character, Empty as NoNode}
 use Rattle.md_safe.specs.Stack.{say}
 use Rattle.md_safe.specs.Elements.{parts, cells, sections}
-use Rattle.md_safe.specs.Formatting.{needs_reconstruction}
 use Rattle.md_safe.specs.InBody.{start_in_body, end_in_body, reconstructed, character_in_body}
 use Rattle.md_safe.specs.Construction.{character, step, run}
 use Rattle.md_safe.specs.Built.{at, is_body, AreOpen, with_characters}
@@ -75,9 +73,7 @@ within x name those active = record {
 
 -- what holds in a body and in a cell
 by_mode : (P : Mode → Type 0) → P InBody → P InCell → (mode : Mode) → is_body mode ≡ true → P mode
-by_mode P body cell InBody is = body
-by_mode P body cell InCell is = cell
-by_mode P body cell _ is = lie is
+by_mode P body cell mode is = grind arith
 
 -- ---- tags
 
@@ -85,30 +81,17 @@ pub start-in-body : (x : Position) → is_body x.mode ≡ true →
     (name : List ℕ) (attributes : List TokenAttribute) (flag : Bool) →
     is_one_of parts name ≡ false →
     step (parser_of x) (StartTag name attributes flag) ≡ start_in_body name attributes (parser_of x)
-start-in-body x is name attributes flag none = by_mode (λ mode. step (parser_of (record x {
-  mode =
-      mode;
-})) (StartTag name attributes flag) ≡ start_in_body name attributes (parser_of (record x {
-  mode = mode;
-}))) refl (past _ none refl) x.mode is
+start-in-body x is name attributes flag none = grind arith
 
 pub end-in-body : (x : Position) → is_body x.mode ≡ true → (name : List ℕ) →
     is_one_of cells name ≡ false → is_one_of (codes "table" ∷ codes "tr" ∷ sections) name ≡ false →
     step (parser_of x) (EndTag name) ≡ end_in_body name (parser_of x)
-end-in-body x is name uncelled none = by_mode (λ mode. step (parser_of (record x { mode = mode }))
-    (EndTag name) ≡ end_in_body name (parser_of (record x { mode = mode }))) refl (past _ uncelled
-    (past _ none refl)) x.mode is
+end-in-body x is name uncelled none = grind arith
 
 -- nothing is to be reconstructed where all is open
 pub reconstructs : (x : Position) (change : Parser → Parser) → AreOpen (x.node ∷ x.others)
     x.active → reconstructed (parser_of x) change ≡ Some (change (parser_of x))
-reconstructs x change opened = past _ (by x.active opened) refl
-  where
-    by : (active : List Entry) → AreOpen (x.node ∷ x.others) active →
-        needs_reconstruction (parser_of (record x { active = active })) ≡ false
-    by [] o = refl
-    by (Marker ∷ active) o = refl
-    by (Formatting identity name attributes ∷ active) o = ap not o.0
+reconstructs x change opened = grind arith
 
 -- ---- characters
 

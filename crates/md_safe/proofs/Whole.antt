@@ -1,6 +1,6 @@
 -- The meaning of a document has a reading in which each attribute passes a test: the theorems from
 -- the induction over forests.
-use Rattle.std.proofs.Common.{ℕ, Bool, List, ◌++◌, refl, bytes_eq, codes, not}
+use Rattle.std.proofs.Common.{ℕ, Bool, List, ◌++◌, refl, arith}
 use Rattle.std.proofs.lemmas.Bool.{and_parts, not-true}
 use Rattle.md_text.specs.Html.{Attribute, any_attribute, HasReadingWith, HasOneReadingWith}
 use Rattle.md_text.specs.Safe.{is_safe_link, is_safe_image}
@@ -54,26 +54,11 @@ meaning-reads p bytes names options document test ids built keeps =
 
 -- a safe link passes
 link-test : (options : CompileOptions) → KeepsLinks options → IsTest is_safe_link options
-link-test options keeps = record {
-  other = λ name value h. rw (not-true (bytes_eq name (codes "href")) (and_parts _ _ h).0) refl;
-  link = λ destination. rw keeps.permitted_links (kept-link destination);
-  anchor = λ rest. refl;
-  image = λ destination. refl;
-  html = keeps.grammar.escapes_html;
-}
+link-test options keeps = grind (arith, not-true, and_parts, kept-link)
 
 -- a safe image passes
 image-test : (options : CompileOptions) → KeepsImages options → IsTest is_safe_image options
-image-test options keeps = record {
-  other = λ name value h.
-      let src = (and_parts (not (bytes_eq name (codes "src"))) _ (and_parts _ _ h).1).0 in
-      rw (not-true (bytes_eq name (codes "src")) src) refl;
-  link = λ destination. refl;
-  anchor = λ rest. refl;
-  image = λ destination. rw (keeps.permitted_images, keeps.links.permitted_links) (kept-image
-      destination);
-  html = keeps.links.grammar.escapes_html;
-}
+image-test options keeps = grind (arith, and_parts, not-true, kept-image)
 
 pub one-reading : (bytes : List ℕ) (names : List (List ℕ × List ℕ)) (options : CompileOptions)
     (document : Forest) → IsBuilt bytes Blocks document → KeepsGrammar options →

@@ -18,17 +18,16 @@ use Rattle.md_text.proofs.HtmlReading.{one_reading}
 use Rattle.md_meaning.proofs.Identifiers.{itself}
 use Rattle.std.proofs.lemmas.List.{length-append}
 use Rattle.md_base.specs.Is.{is as named}
-use Rattle.md_base.specs.Tree.{Forest, Empty, Node, flatten, exiting}
-use Rattle.md_pattern.specs.Looseness.{is_loose}
+use Rattle.md_base.specs.Tree.{Forest, Empty, Node, flatten}
 use Rattle.md_text.specs.Ids.{ids, HasDistinctIds}
 use Rattle.md_content.specs.Underlined.{IsUnderlined}
 use Rattle.md_text.specs.declared.options.CompileOptions.{CompileOptions}
 use Rattle.md_meaning.specs.Meaning.{meaning}
-use Rattle.md_meaning.specs.Meaning.Inherited.{outermost, inside}
-use Rattle.md_meaning.specs.Meaning.At.{Context, At, Before, identifier_of}
-use Rattle.md_meaning.specs.Meaning.Before.{nothing_before, before_children}
+use Rattle.md_meaning.specs.Meaning.Inherited.{outermost}
+use Rattle.md_meaning.specs.Meaning.At.{Context, Before, identifier_of}
+use Rattle.md_meaning.specs.Meaning.Before.{nothing_before}
 use Rattle.md_meaning.specs.Meaning.Layout.{when}
-use Rattle.md_meaning.specs.Meaning.Nodes.{Outcome, node, before_next, outcome}
+use Rattle.md_meaning.specs.Meaning.Nodes.{outcome}
 use Rattle.md_meaning.specs.declared.surroundings.Surroundings.{Surroundings}
 use Rattle.md_safe.proofs.Prepared.{document_of, alone_of}
 use Rattle.md_safe.specs.Options.{KeepsIds}
@@ -37,7 +36,6 @@ use Rattle.md_safe.proofs.Costs.{Document}
 use Rattle.md_safe.specs.Apart.{prefix_of, are_apart, ShareNoId}
 use Rattle.md_safe.proofs.CountedSection.{document-counts, document-counted}
 use Rattle.md_safe.proofs.IdsOnce.{IsNote, IsCall, document-known}
-use Rattle.md_safe.proofs.Spot.{at_in}
 
 -- begins with `n`
 abbrev begins_n : List ℕ → Bool
@@ -63,10 +61,7 @@ same-prefix [] (c ∷ q) x y h g e =
 same-prefix (b ∷ p) [] x y h g e =
     let after : 110 ∷ y ≡ p ++ (102 ∷ 110 ∷ x) = cc (sym e) in
     lie (sym g ∙ ap has_fn after ∙ fn-inside p x)
-same-prefix (b ∷ p) (c ∷ q) x y h g e =
-    let first : b ≡ c = cc e in
-    let after : p ++ (102 ∷ 110 ∷ x) ≡ q ++ (102 ∷ 110 ∷ y) = cc e in
-    ap (λ n. n ∷ p) first ∙ ap (λ z. c ∷ z) (same-prefix p q x y h g after)
+same-prefix (b ∷ p) (c ∷ q) x y h g e = grind (arith, same-prefix p q x y h g)
 
 -- digits and what follows them
 digit-no_f : (b : ℕ) → is_digit b ≡ true → (b == 102) ≡ false
@@ -84,9 +79,7 @@ pub note-once : (n : ℕ) → has_fn (45 ∷ decimal n) ≡ false
 note-once n = fn-digits (decimal n) (decimal-digits n)
 
 pub call-once : (n k : ℕ) → has_fn (codes "ref-" ++ (decimal n ++ (45 ∷ decimal k))) ≡ false
-call-once n k =
-    fn-past (decimal n) (45 ∷ decimal k) (decimal-digits n)
-    ∙ fn-digits (decimal k) (decimal-digits k)
+call-once n k = grind (arith, fn-past, decimal-digits, fn-digits)
 
 -- what is found among some texts stands there once or more
 pub any-occurs : (x : List ℕ) (ys : List (List ℕ)) → list_any (λ y. bytes_eq y x) ys ≡ true →
@@ -106,36 +99,14 @@ calls-same : (context : Context) (forest : Forest) (around : Surroundings) (befo
     (outcome context around before forest).calls ≡ calls_in context.bytes forest
 calls-same context Empty around before = refl
 calls-same context (Node name start end children rest) around before =
-    let around' : Surroundings = inside context.options (is_loose children) name around in
-    let before' : Before = before_children name children before in
-    let inner : Outcome = outcome context around' before' children in
-    let t : At = at_in around before start end children rest inner in
-    let next : Before = before_next t name (node context t name inner) in
-    let own : List (List ℕ) = when (named GfmFootnoteCall name)
-    (identifier_of context.bytes children ∷ []) in
-    ap (λ calls. (calls ++ own) ++ (outcome context around next rest).calls)
-    (calls-same context children around' before') ∙ ap
-    (λ calls. (calls_in context.bytes children ++ own) ++ calls)
-    (calls-same context rest around next)
+    grind (arith, calls-same context children, calls-same context rest around)
 
 -- a document has at most half as many calls as events
 calls-fewer : (bytes : List ℕ) (forest : Forest) →
     length (calls_in bytes forest) + length (calls_in bytes forest) ≤ length (flatten forest)
 calls-fewer bytes Empty = omega arith
 calls-fewer bytes (Node name start end children rest) =
-    let below : List (List ℕ) = calls_in bytes children in
-    let own : List (List ℕ) =
-    when (named GfmFootnoteCall name) (identifier_of bytes children ∷ []) in
-    let one : length own ≤ 1 = grind arith in
-    omega (
-      length-append (below ++ own) (calls_in bytes rest),
-      length-append below own,
-      one,
-      length-append (flatten children) (exiting name end ∷ flatten rest),
-      calls-fewer bytes children,
-      calls-fewer bytes rest,
-      arith,
-    )
+    grind (arith, length-append, calls-fewer bytes children, calls-fewer bytes rest)
 
 pub distinct-ids : (bytes : List ℕ) (names : List (List ℕ × List ℕ)) (options : CompileOptions)
     (document : Forest) →
@@ -175,9 +146,7 @@ known-id bytes names options document built underlined keeps f reading w some =
 -- what follows the prefix in the id of a footnote or of a call
 tail_of : (options : CompileOptions) (w : List ℕ) → IsNote options w ⊎ IsCall options w →
     (tail : List ℕ) × (has_fn tail ≡ false) × (w ≡ prefix_of options ++ (102 ∷ 110 ∷ tail))
-tail_of options w (inl n) = (45 ∷ decimal n.0, note-once n.0, n.1)
-tail_of options w (inr n) =
-    (codes "ref-" ++ (decimal n.0 ++ (45 ∷ decimal n.1)), call-once n.0 n.1, n.2)
+tail_of options w h = grind (arith, note-once, call-once)
 
 -- what follows two prefixes of one id proves that they are equal
 one-prefix : (options other : CompileOptions) (w : List ℕ) → IsNote options w ⊎ IsCall options w →

@@ -1,20 +1,14 @@
 -- A text that is contained without a link in a link is built as it is read.
-use Rattle.std.proofs.Common.{◌≡◌, ℕ, true, false, not, ◌&&◌, List, [], ◌∷◌, ◌++◌, codes, refl, ap}
-use Rattle.std.proofs.Common.{◌∙◌, subst}
+use Rattle.std.proofs.Common.{◌≡◌, ℕ, true, false, List, ◌∷◌, codes, refl, ap}
+use Rattle.std.proofs.Common.{◌∙◌, arith}
 use Rattle.std.specs.Prelude.{Some, None}
 use Rattle.md_text.specs.Html.{Forest, Empty, Text, Void, Element, is_forest, any_attribute}
-use Rattle.md_text.specs.Html.{begins_with_text}
-use Rattle.md_text.specs.References.{is_escaped}
-use Rattle.md_base.specs.Identifier.{is_nonempty}
 use Rattle.std.proofs.lemmas.Bool.{and_parts, and_from}
 use Rattle.md_text.proofs.HtmlReading.{all-any}
 use Rattle.md_base.proofs.Lies.{lie}
-use Rattle.md_safe.specs.Token.{EndOfFile}
-use Rattle.md_safe.specs.Tokenizer.{IsTokenized}
-use Rattle.md_safe.specs.Tokens.{tokens}
 use Rattle.md_safe.proofs.Tokenized.{read-tokenized}
 use Rattle.md_safe.specs.Contents.{Flow, is_contained, IsUnnested}
-use Rattle.md_safe.specs.Node.{Open, Entry, Marker, Formatting, Mode}
+use Rattle.md_safe.specs.Node.{Open, Entry, Mode}
 use Rattle.md_safe.specs.Formatting.{last_active}
 use Rattle.md_safe.specs.Built.{has_whole_texts, put, at, IsPlace, Builds, IsBuiltAsRead, AreOpen}
 use Rattle.md_safe.specs.Built.{has_none_active}
@@ -23,23 +17,16 @@ use Rattle.md_safe.proofs.Flow.{flow-done, kept-none}
 
 none-open : (node : Open) (others : List Open) (active : List Entry) →
     has_none_active active ≡ true → AreOpen (node ∷ others) active
-none-open node others [] h = tt
-none-open node others (Marker ∷ active) h = tt
-none-open node others (Formatting identity name attributes ∷ active) h = lie h
+none-open node others active h = grind arith
 
 none-linked : (active : List Entry) → has_none_active active ≡ true →
     last_active (codes "a") active ≡ None
-none-linked [] h = refl
-none-linked (Marker ∷ active) h = refl
-none-linked (Formatting identity name attributes ∷ active) h = lie h
+none-linked active h = grind arith
 
 -- the texts of a reading
 pub reading-texts : (forest : Forest) → is_forest forest ≡ true → has_whole_texts forest ≡ true
 reading-texts Empty h = refl
-reading-texts (Text bytes rest) h =
-    let own = is_nonempty bytes && is_escaped bytes && not (begins_with_text rest) in
-    let parts = and_parts _ _ h in
-    and_from _ _ parts.0 (reading-texts rest parts.1)
+reading-texts (Text bytes rest) h = grind (arith, and_parts, and_from, reading-texts rest)
 reading-texts (Void name attributes rest) h = reading-texts rest (and_parts _ _ h).1
 reading-texts (Element name attributes inner rest) h =
     let all = and_parts _ _ h in
@@ -88,10 +75,6 @@ text-built text h =
       reading = h.reading;
       only = h.only;
       contained = h.contained;
-      tokenized = subst (λ forest. IsTokenized text (tokens forest ++ (EndOfFile ∷ [])))
-          (h.only read.forest read.reading)
-          read.tokenized;
-      builds = λ mode node others active created place.
-          forest-built h.forest (reading-texts h.forest h.reading.in_grammar) h.contained mode node
-          others active created place;
+      tokenized = grind arith;
+      builds = grind (arith, forest-built, reading-texts);
     }
