@@ -10,7 +10,7 @@ use Rattle.md_base.specs.declared.event.AlignKind.{AlignKind}
 use Rattle.md_base.specs.declared.event.Event.{Event}
 use Rattle.md_base.specs.declared.event.Name.{Name}
 use Rattle.md_base.specs.declared.event.Name.TheVariants as name_variants
-use name_variants.{GfmTable, GfmTableRow, Data, GfmTableDelimiterCellValue}
+use name_variants.{GfmTable, GfmTableRow, GfmTableDelimiterCellValue}
 use Rattle.md_base.specs.declared.event.Point.{Point}
 use Rattle.md_base.specs.Is.{is}
 use Rattle.md_base.specs.NameTests.{leads_to_values}
@@ -50,17 +50,12 @@ is_unrowed content name = not (is GfmTable name)
 
 tableless : (content : Content) (name : Name) →
     (if is_inner content && is_allowed content name then is_tableless content name else true) ≡ true
-tableless Blocks name = refl
-tableless _ Data = refl
-tableless _ _ = refl
+tableless content name = grind arith
 
 unrowed : (content : Content) (name : Name) →
     (if is_rowless content && is_allowed content name then is_unrowed content name else true)
     ≡ true
-unrowed Blocks name = refl
-unrowed Rows name = refl
-unrowed _ Data = refl
-unrowed _ _ = refl
+unrowed content name = grind arith
 
 inner-name : (content : Content) (name : Name) → is_inner content ≡ true →
     is_allowed content name ≡ true →

@@ -1,6 +1,6 @@
 -- The events of a definition: those of its children, before the next event of a definition.
 use Rattle.std.proofs.Common.{◌≡◌, ℕ, zero, suc, true, false, List, ◌∷◌, [], ◌++◌, drop, refl}
-use Rattle.std.proofs.Common.{ap, sym, ◌∙◌, append_assoc, arith}
+use Rattle.std.proofs.Common.{sym, ◌∙◌, append_assoc, arith}
 use Rattle.md_base.proofs.Lies.{lie}
 use Rattle.md_base.specs.declared.event.Event.{Event}
 use Rattle.md_base.specs.declared.event.Name.{Name}
@@ -23,9 +23,7 @@ not-defining _ h = refl
 pub node-events : (name : Name) (start end : Point) (children rest : Forest) (tail : List Event) →
     flatten (Node name start end children rest) ++ tail
     ≡ entering name start ∷ (flatten children ++ exiting name end ∷ (flatten rest ++ tail))
-node-events name start end children rest tail =
-    ap (λ events. entering name start ∷ events)
-    (append_assoc (flatten children) (exiting name end ∷ flatten rest) tail)
+node-events name start end children rest tail = grind (arith, append_assoc)
 
 -- no definition stands in one
 pub before-low : (content : Content) (forest : Forest) (tail : List Event) →
@@ -56,8 +54,7 @@ pub inside_node : (events : List Event) (index : ℕ) (name : Name) (start end :
     drop index events ≡ flatten (Node name start end children rest) ++ tail →
     drop (suc index) events ≡ flatten children ++ exiting name end ∷ (flatten rest ++ tail)
 inside_node events index name start end children rest tail split =
-    dropped events index (entering name start) _
-    (split ∙ node-events name start end children rest tail)
+    grind (arith, dropped, node-events)
 
 behind : (events : List Event) (index : ℕ) (forest : Forest) (tail : List Event) →
     drop index events ≡ flatten forest ++ tail → drop (index_after index forest) events ≡ tail

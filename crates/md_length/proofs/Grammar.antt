@@ -1,9 +1,8 @@
 -- What the lengths ask of a document holds of each document of the grammar.
-use Rattle.std.proofs.Common.{◌≡◌, ℕ, ◌≤◌, true, List, [], ◌∷◌, length, arith, Option, Some, None}
+use Rattle.std.proofs.Common.{◌≡◌, ℕ, ◌≤◌, true, List, length, arith, Option, Some, None}
 use Rattle.std.proofs.Common.{lit≤}
 use Rattle.std.specs.Prelude.{if◌then◌else◌}
 use Rattle.std.specs.Option.{option_map_or}
-use Rattle.std.proofs.lemmas.Slice.Eq.{bytes_eq-Decides}
 use Rattle.md_base.specs.declared.event.Name.{Name}
 use Rattle.md_base.specs.declared.event.Name.TheVariants as name_variants
 use name_variants.{Link, Image, HeadingAtx, LineEnding, BlankLineEnding}
@@ -59,13 +58,7 @@ grammatical-sound bytes names document is =
 
 -- ---- line endings
 ending-few : (text : List ℕ) → is_line_ending text ≡ true → length text ≤ 2
-ending-few text h =
-    grind (
-      arith,
-      (bytes_eq-Decides (13 ∷ 10 ∷ []) text).0,
-      (bytes_eq-Decides (13 ∷ []) text).0,
-      (bytes_eq-Decides (10 ∷ []) text).0,
-    )
+ending-few text h = grind arith
 
 -- the text of a line ending has at most two bytes
 abbrev HasShortEnding : List ℕ → Name → Point → Point → Forest → Type 0
@@ -80,9 +73,7 @@ found_length bytes found = option_map_or (λ at. length (text_in bytes at)) foun
 own-ending : (bytes : List ℕ) (name : Name) (start end : Point) (children : Forest) →
     HasShortEnding bytes name start end children →
     found_length bytes (if is_ending name then Some (place start end) else None) ≤ 2
-own-ending bytes LineEnding start end children h = h
-own-ending bytes BlankLineEnding start end children h = h
-own-ending bytes _ start end children h = lit≤ tt
+own-ending bytes name start end children h = grind arith
 
 first-few : (bytes : List ℕ) (forest : Forest) → Everywhere (HasShortEnding bytes) forest →
     found_length bytes (first_ending forest) ≤ 2

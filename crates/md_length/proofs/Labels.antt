@@ -47,9 +47,7 @@ node-left : (bytes : List ℕ) (name : Name) (start end : Point) (children : For
     (if is GfmFootnoteCall name then length (identifier_of bytes children) else 0) + inside
     + 12 * label_span (target_after (standing_of name) left (target_of children) (place start end))
     ≤ 12 * own name (place start end) + 12 * spent + 12 * label_span left
-node-left bytes GfmFootnoteCall start end children left inside spent h k =
-    omega (arith, referred-short bytes (target_of children referral.Missing))
-node-left bytes _ start end children left inside spent h k = omega arith
+node-left bytes name start end children left inside spent h k = grind (arith, referred-short)
 
 labels-left : (bytes : List ℕ) (forest : Forest) (left : Referral) →
     called (λ identifier. length identifier) bytes forest

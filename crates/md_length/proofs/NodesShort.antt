@@ -7,7 +7,6 @@ use Rattle.std.specs.Fmt.{decimal}
 use Rattle.std.proofs.lemmas.Fmt.{length-decimal-le}
 use Rattle.md_base.specs.declared.event.Name.{Name}
 use Rattle.md_base.specs.declared.event.Name.TheVariants as name_variants
-use name_variants.{Link}
 use Rattle.md_base.specs.NameTests.{is_transparent}
 use Rattle.md_tree.specs.declared.mention.Referral.TheVariants as referral
 use Rattle.md_tree.specs.Rules.{target_of}
@@ -63,19 +62,5 @@ pub node-short : (context : Context) (at : At) (waits : Bool) (content : Content
     (inner : Outcome) (name : Name) (spent : ℕ) →
     Known context at waits content inner name spent →
     IsNodeShort context at waits inner name spent
-node-short context at waits content inner Link spent known =
-    omega (
-      arith,
-      notes-append,
-      known,
-      media-leads context at at.found.resource known.sound known.resource,
-    )
-node-short context at waits content inner _ spent known =
-    grind (
-      arith,
-      notes-append,
-      rank-short,
-      target-kept at.found,
-      media-leads context at at.found.resource,
-      known,
-    )
+node-short context at waits content inner name spent known =
+    grind (arith, notes-append, media-leads, rank-short, target-kept)

@@ -62,9 +62,7 @@ numbers-own : (bytes : List ℕ) (name : Name) (start end : Point) (children : F
     + long bytes (unwrap_or (prefix_at name children) None)
     + long bytes (unwrap_or (item_at name children) None)
     ≤ suc (own name (place start end)) + spent
-numbers-own bytes ListItemValue start end children spent h =
-    omega (arith, text-short bytes start end)
-numbers-own bytes _ start end children spent h = omega arith
+numbers-own bytes name start end children spent h = grind (arith, text-short)
 
 numbers-all : (bytes : List ℕ) (forest : Forest) →
     numbers bytes forest + value bytes forest + in_prefix bytes forest

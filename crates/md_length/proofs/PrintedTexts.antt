@@ -1,7 +1,6 @@
 -- How long the texts and the tags are that nodes print, by what they read.
 use Rattle.std.proofs.Common.{ℕ, suc, ◌+◌, ◌-◌, ◌*◌, ◌≤◌, Bool, List, [], ◌∷◌, ◌++◌}
-use Rattle.std.proofs.Common.{length, arith, codes, lit≤, lit<, true, Option, Some, None}
-use Rattle.std.specs.Prelude.{if◌then◌else◌, slice_get}
+use Rattle.std.proofs.Common.{length, arith, codes, lit≤, true, Option, Some, None}
 use Rattle.std.specs.Option.{option_map_or}
 use Rattle.std.specs.List.{flat_map}
 use Rattle.std.specs.Fmt.{decimal}
@@ -14,7 +13,7 @@ use Rattle.md_text.specs.declared.options.CompileOptions.{CompileOptions}
 use Rattle.md_meaning.specs.Meaning.At.{Target, Context, At, text_in}
 use Rattle.md_meaning.specs.Meaning.Blocks.{without_zeros, underline_rank}
 use Rattle.md_meaning.specs.Meaning.Media.{title_attribute, anchor, picture, autolink}
-use Rattle.md_meaning.specs.Meaning.Spans.{escaped, reference, line_ending, html, marker, code}
+use Rattle.md_meaning.specs.Meaning.Spans.{escaped, reference, line_ending, html, code}
 use Rattle.md_meaning.specs.Meaning.Spans.{trimmed, without_escapes}
 use Rattle.md_meaning.specs.Meaning.Tables.{cell_of, align_attribute}
 use Rattle.md_length.specs.Longest.{longest}
@@ -32,12 +31,7 @@ place-short bytes place = text-short bytes place.start place.end
 pub escaped-short : (context : Context) (at : At) →
     size (escaped at (text_in context.bytes at.place))
     ≤ 6 + 6 * span at.place.start at.place.end
-escaped-short context at =
-    omega (
-      arith,
-      encoded-short at.around.is_escaping (text_in context.bytes at.place),
-      place-short context.bytes at.place,
-    )
+escaped-short context at = grind (arith, encoded-short, place-short)
 
 pub line_ending-short : (context : Context) (at : At) →
     size (line_ending context at) ≤ 1 + span at.place.start at.place.end
@@ -45,23 +39,11 @@ line_ending-short context at = omega (sizes, place-short context.bytes at.place)
 
 pub raw-short : (context : Context) (at : At) →
     size (escaped at (html context at)) ≤ 24 + 24 * span at.place.start at.place.end
-raw-short context at =
-    omega (
-      sizes,
-      encoded-short at.around.is_escaping (html context at),
-      filtered-short (text_in context.bytes at.place),
-      place-short context.bytes at.place,
-    )
+raw-short context at = grind (arith, encoded-short, filtered-short, place-short)
 
 pub reference-short : (context : Context) (at : At) →
     size (escaped at (reference context at)) ≤ 24 + 6 * longest context.names
-reference-short context at =
-    let last = slice_get at.before.spine (length at.before.spine - 1) in
-    omega (
-      arith,
-      encoded-short at.around.is_escaping (reference context at),
-      decoded-short context.names (option_map_or marker last 38) (text_in context.bytes at.place),
-    )
+reference-short context at = grind (arith, encoded-short, decoded-short)
 
 -- ---- targets
 title-short : (title : Option (List ℕ)) →
@@ -104,12 +86,7 @@ pub number-short : (bytes : List ℕ) (found : Option Position) →
 number-short bytes found = grind (arith, zeros-short)
 
 pub rank-one : (context : Context) (at : At) → length (decimal (underline_rank context at)) ≤ 1
-rank-one context at =
-    grind (
-      arith,
-      length-decimal-le 1 2 (lit< tt) (lit< tt) (lit< tt),
-      length-decimal-le 1 1 (lit< tt) (lit< tt) (lit< tt),
-    )
+rank-one context at = grind (arith, length-decimal-le)
 
 -- ---- code
 trimmed-short : (text : List ℕ) → length (trimmed text) ≤ length text
@@ -121,12 +98,7 @@ unescaped-short (byte ∷ bytes) = omega (sizes, unescaped-short bytes)
 
 pub code-short : (at : At) (tag text : List ℕ) →
     size (code at tag text) ≤ length tag + length text + 7
-code-short at tag text =
-    omega (
-      sizes,
-      trimmed-short (if at.around.in_table then without_escapes text else text),
-      unescaped-short text,
-    )
+code-short at tag text = grind (arith, trimmed-short, unescaped-short)
 
 -- ---- cells
 align-short : (kind : AlignKind) → length (align_attribute kind) ≤ 15

@@ -53,13 +53,7 @@ chunk-short : (context : Context) (at : At) →
     length (encoded true
     (unwrap_or (serialized_between context.bytes at.place.start at.place.end) []))
     ≤ 48 + 6 * span at.place.start at.place.end
-chunk-short context at =
-    omega (
-      arith,
-      encoded-short true
-          (unwrap_or (serialized_between context.bytes at.place.start at.place.end) []),
-      serialized-short context.bytes at.place.start at.place.end,
-    )
+chunk-short context at = grind (arith, encoded-short, serialized-short)
 
 pub prints-short : (context : Context) (at : At) (inner : List Piece) (name : Name) →
     length context.ending ≤ 2 → IsShort context at inner name

@@ -104,13 +104,7 @@ attributes-short attributes = grind arith
 
 start-short : (options : CompileOptions) →
     size (section_start options) ≤ for_document options - 32
-start-short options =
-    omega (
-      arith,
-      option-short options.gfm_footnote_label_tag_name (codes "h2"),
-      option-short options.gfm_footnote_label (codes "Footnotes"),
-      attributes-short options.gfm_footnote_label_attributes,
-    )
+start-short options = grind (arith, option-short, attributes-short)
 
 -- the section, for its calls and its footnotes
 pub section-short : (context : Context) (footnotes : List Footnote) → length context.calls < 2 ^

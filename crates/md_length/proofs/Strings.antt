@@ -5,7 +5,7 @@ use Rattle.std.proofs.Common.{length, refl, ap, arith, ◌∙◌, false}
 use Rattle.std.specs.Prelude.{if◌then◌else◌}
 use Rattle.md_base.proofs.Lies.{lie}
 use Rattle.md_base.specs.declared.event.Name.{Name}
-use Rattle.md_base.specs.declared.event.Name.TheVariants.{Data, GfmFootnoteDefinition}
+use Rattle.md_base.specs.declared.event.Name.TheVariants.{GfmFootnoteDefinition}
 use Rattle.md_base.specs.Is.{is}
 use Rattle.md_base.specs.Children.{is_empty}
 use Rattle.md_base.specs.Tree.{Forest, Empty, Node}
@@ -36,15 +36,7 @@ around_in context around name children =
 plain-short : (context : Context) (at : At) (inner : List Piece) (name : Name) →
     size (if is_plain name then prints context at name inner else [])
     ≤ size inner + (24 + 6 * longest context.names + 6 * own name at.place)
-plain-short context at inner Data =
-    omega (arith, escaped-short context at)
-plain-short context at inner _ =
-    omega (
-      sizes,
-      escaped-short context at,
-      reference-short context at,
-      line_ending-short context at,
-    )
+plain-short context at inner name = grind (arith, escaped-short, reference-short, line_ending-short)
 
 not-noted : (name : Name) → is_plain name ≡ true → is GfmFootnoteDefinition name ≡ false
 not-noted GfmFootnoteDefinition h = lie h

@@ -228,12 +228,4 @@ pub cells-of-table : (children : Forest) (before : Option Symbol) (tail : List E
     5 * cells (alignments children) children + counted (values children) tail
     ≤ counted 0 (flatten children ++ tail) + 5 * values children
 cells-of-table children before tail fits shaped matches =
-    let columns : List AlignKind = alignments children in
-    let most = paid-most (length columns) (spine children) in
-    omega (
-      arith,
-      table-rows columns children role.Table before 0 (values children) tail fits shaped
-          (table-ordered (spine children) matches) (omega (arith, most)) (omega arith),
-      most,
-      aligned-few children,
-    )
+    grind (arith, paid-most, table-rows, table-ordered, aligned-few)

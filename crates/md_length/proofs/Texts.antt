@@ -1,6 +1,6 @@
 -- How long the texts are that are printed of what is read: escaped, as URLs, and as identifiers.
-use Rattle.std.proofs.Common.{inl, inr, ℕ, zero, suc, ◌+◌, ◌-◌, ◌*◌, ◌/◌, ◌%◌, ◌≤◌, Bool, true}
-use Rattle.std.proofs.Common.{false, List, [], ◌∷◌, length, refl, ap, arith, lit≤, filter}
+use Rattle.std.proofs.Common.{ℕ, zero, suc, ◌+◌, ◌-◌, ◌*◌, ◌≤◌, Bool, true}
+use Rattle.std.proofs.Common.{List, [], ◌∷◌, length, ap, arith, lit≤, filter}
 use Rattle.std.specs.Prelude.{if◌then◌else◌, encode_utf8, encode_utf8_all}
 use Rattle.std.specs.List.{flat_map, slice_split, join_with_byte, onto_first}
 use Rattle.std.specs.Str.{chars, chars_after, continuation_len, lead_bits}
@@ -8,7 +8,7 @@ use Rattle.std.proofs.lemmas.Bool.{cases_lt}
 use Rattle.std.proofs.lemmas.Bool.Decides.{nat_tests}
 use Rattle.std.proofs.lemmas.Grind.{flat_map-append}
 use Rattle.std.proofs.lemmas.Str.{length-encode}
-use Rattle.ucd_case.specs.CaseFolding.{full_fold, full_folding}
+use Rattle.ucd_case.specs.CaseFolding.{full_fold}
 use Rattle.caseless.specs.Caseless.{default_case_fold}
 use Rattle.caseless.proofs.CaselessLemmas.{full_folding_short, full_fold-none, full_fold-some}
 use Rattle.md_base.specs.Identifier.{is_white, is_nonempty, collapsed, normalized}
@@ -35,11 +35,7 @@ digit-one d = grind (arith, nat_tests)
 
 escaped-one : (b : ℕ) (rest : List ℕ) →
     length (encoded true (if stays b rest then b ∷ [] else percent b)) ≤ 6
-escaped-one b rest = elim (stays b rest) as
-    (λ s. length (encoded true (if s then b ∷ [] else percent b)) ≤ 6) [
-      | true ↦ encoded-short true (b ∷ [])
-      | false ↦ omega (arith, bytes-append, digit-one (b / 16), digit-one (b % 16))
-    ]
+escaped-one b rest = grind (arith, encoded-short, bytes-append, digit-one)
 
 pub sanitized-short : (text : List ℕ) → length (sanitized text) ≤ 6 * length text
 sanitized-short [] = lit≤ tt
@@ -78,11 +74,7 @@ spelled-short [] = lit≤ tt
 spelled-short (c ∷ cs) = omega (arith, bytes-append, character-short c, spelled-short cs)
 
 folded_one-short : (c : ℕ) → length (full_fold c) ≤ 3
-folded_one-short c = elim (cases_lt (length (full_folding c)) 1) [
-  | inl none ↦ omega (arith, ap length (full_fold-none c (full_folding c) refl none))
-  | inr some ↦
-      omega (arith, ap length (full_fold-some c (full_folding c) refl some), full_folding_short c)
-]
+folded_one-short c = grind (arith, full_fold-none, full_fold-some, full_folding_short, cases_lt)
 
 -- the pieces of a text and what is between them
 total : List (List ℕ) → ℕ
