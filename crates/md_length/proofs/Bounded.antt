@@ -1,13 +1,11 @@
 -- The text of a document is bounded by its events, its work and what it uses again.
 use Rattle.std.proofs.Common.{◌≡◌, ℕ, ◌+◌, ◌^◌, ◌≤◌, ◌<◌, Bool, List, []}
 use Rattle.std.proofs.Common.{◌∷◌, ◌++◌, length, refl, arith}
-use Rattle.std.specs.Prelude.{if◌then◌else◌}
 use Rattle.std.proofs.Math.Nat.{mul-le-mul_left}
 use Rattle.md_base.specs.declared.event.Event.{Event}
 use Rattle.md_base.specs.declared.event.Name.{Name}
-use Rattle.md_base.specs.declared.event.Name.TheVariants.{GfmFootnoteCall}
 use Rattle.md_base.specs.Is.{is}
-use Rattle.md_base.specs.Tree.{Forest, Empty, Node, flatten, exiting}
+use Rattle.md_base.specs.Tree.{Forest, Empty, Node, flatten}
 use Rattle.md_text.specs.declared.options.CompileOptions.{CompileOptions}
 use Rattle.md_tree.specs.Grammar.{IsGrammatical}
 use Rattle.md_meaning.specs.Meaning.{meaning}
@@ -29,24 +27,11 @@ entries-append : (test : Name → Bool) (xs ys : List Event) →
 entries-append test [] ys = omega arith
 entries-append test (x ∷ xs) ys = omega (arith, entries-append test xs ys)
 
-abbrev one : Bool → ℕ
-one holds = if holds then 1 else 0
-
 calls-entered : (bytes : List ℕ) (forest : Forest) →
     called (λ identifier. 1) bytes forest ≡ entries is_call (flatten forest)
 calls-entered bytes Empty = refl
 calls-entered bytes (Node name start end children rest) =
-    omega (
-      arith,
-      own name,
-      calls-entered bytes children,
-      calls-entered bytes rest,
-      entries-append is_call (flatten children) (exiting name end ∷ flatten rest),
-    )
-  where
-    own : (name : Name) → one (is GfmFootnoteCall name) ≡ one (is_call name)
-    own GfmFootnoteCall = refl
-    own _ = refl
+    grind (arith, calls-entered bytes children, calls-entered bytes rest, entries-append)
 
 pub text-bounded : (options : CompileOptions) (names : List (List ℕ × List ℕ)) (bytes : List ℕ)
     (document : Forest) → IsGrammatical bytes names document →

@@ -1,22 +1,20 @@
 -- The cells of tables' rows are bounded by what work counts for them: after a table's columns are
 -- known, each row counts all of them, and its head has one row before.
-use Rattle.std.proofs.Common.{◌≡◌, ℕ, ◌+◌, ◌*◌, ◌≤◌, Bool, true, false, ◌&&◌, not, List, [], ◌∷◌}
-use Rattle.std.proofs.Common.{◌++◌, length, refl, sym, ap, ◌∙◌, arith, append_assoc}
+use Rattle.std.proofs.Common.{◌≡◌, ℕ, ◌+◌, ◌*◌, ◌≤◌, Bool, true, false, List, ◌∷◌}
+use Rattle.std.proofs.Common.{◌++◌, length, refl, ap, ◌∙◌, arith, append_assoc}
 use Rattle.std.specs.Prelude.{if◌then◌else◌}
 use Rattle.std.proofs.Math.Nat.{add-zero}
 use Rattle.std.proofs.lemmas.List.{length-append}
-use Rattle.md_base.proofs.Lies.{lie}
 use Rattle.md_base.specs.declared.event.AlignKind.{AlignKind}
 use Rattle.md_base.specs.declared.event.Event.{Event}
 use Rattle.md_base.specs.declared.event.Name.{Name}
 use Rattle.md_base.specs.declared.event.Name.TheVariants as name_variants
-use name_variants.{GfmTable, GfmTableRow, GfmTableDelimiterCellValue}
+use name_variants.{GfmTable, GfmTableRow}
 use Rattle.md_base.specs.declared.event.Point.{Point}
 use Rattle.md_base.specs.Is.{is}
-use Rattle.md_base.specs.NameTests.{leads_to_values}
 use Rattle.md_base.specs.Tree.{Forest, Empty, Node, flatten, entering, exiting}
-use Rattle.md_pattern.specs.Alignments.{alignments, alignment_of}
-use Rattle.md_steps.specs.Content.{Content, Blocks, BeforeLabel, Rows, Fits, is_allowed}
+use Rattle.md_pattern.specs.Alignments.{alignments}
+use Rattle.md_steps.specs.Content.{Content, Blocks, Rows, Fits, is_allowed}
 use Rattle.md_steps.specs.Content.{content_inside, content_past, content_after_node}
 use Rattle.md_steps.proofs.Staying.{node-same}
 use Rattle.md_length.specs.Costs.{nodes}
@@ -33,40 +31,21 @@ abbrev pub is_rowless : Content → Bool
 is_rowless content = elim content [ Blocks ↦ false | Rows ↦ false | _ ↦ true ]
 
 past-inner : (content : Content) → is_inner (content_past content) ≡ is_inner content
-past-inner BeforeLabel = refl
-past-inner _ = refl
+past-inner content = grind arith
 
 past-rowless : (content : Content) → is_rowless (content_past content) ≡ is_rowless content
-past-rowless BeforeLabel = refl
-past-rowless _ = refl
-
--- what stands there is neither a table nor a row, and the same holds in it
-abbrev is_tableless : Content → Name → Bool
-is_tableless content name = not (is GfmTable name) && is_inner (content_inside content name)
-
-abbrev is_unrowed : Content → Name → Bool
-is_unrowed content name = not (is GfmTable name)
-    && (not (is GfmTableRow name) && is_rowless (content_inside content name))
-
-tableless : (content : Content) (name : Name) →
-    (if is_inner content && is_allowed content name then is_tableless content name else true) ≡ true
-tableless content name = grind arith
-
-unrowed : (content : Content) (name : Name) →
-    (if is_rowless content && is_allowed content name then is_unrowed content name else true)
-    ≡ true
-unrowed content name = grind arith
+past-rowless content = grind arith
 
 inner-name : (content : Content) (name : Name) → is_inner content ≡ true →
     is_allowed content name ≡ true →
     (is GfmTable name ≡ false) × (is_inner (content_inside content name) ≡ true)
-inner-name content name h may = grind (arith, tableless content name)
+inner-name content name h may = grind arith
 
 rowless-name : (content : Content) (name : Name) → is_rowless content ≡ true →
     is_allowed content name ≡ true →
     (is GfmTable name ≡ false) × (is GfmTableRow name ≡ false)
     × (is_rowless (content_inside content name) ≡ true)
-rowless-name content name h may = grind (arith, unrowed content name)
+rowless-name content name h may = grind arith
 
 -- ---- how many columns are entered
 abbrev pub values : Forest → ℕ
@@ -82,34 +61,19 @@ values-few (Node name start end children rest) =
 pub aligned-few : (forest : Forest) → length (alignments forest) ≤ values forest
 aligned-few Empty = omega arith
 aligned-few (Node name start end children rest) =
-    omega (
-      arith,
-      own name (aligned-few children),
-      aligned-few rest,
-      length-append {A = AlignKind},
-    )
-  where
-    own : (name : Name) → length (alignments children) ≤ values children →
-        length (if is GfmTableDelimiterCellValue name
-        then alignment_of children ∷ []
-        else (if leads_to_values name then alignments children else []))
-        ≤ (if is_column name then 1 else 0) + values children
-    own GfmTableDelimiterCellValue few = omega arith
-    own _ few = omega arith
+    grind (arith, aligned-few children, aligned-few rest, length-append)
 
 -- ---- rows after their columns are known
 -- a row counts what it has
 own-row : (name : Name) (columns : List AlignKind) (k : ℕ) (end : Point) → length columns ≤ k →
     5 * (if is GfmTableRow name then length columns else 0)
     ≤ (if exits is_row (exiting name end) then 5 * k else 0)
-own-row GfmTableRow columns k end few = omega arith
-own-row _ columns k end few = omega arith
+own-row name columns k end few = grind arith
 
 -- the columns that are known after a node is entered that is no table
 entered-columns : (name : Name) (start : Point) (k : ℕ) → is GfmTable name ≡ false →
     columns_after k (entering name start) ≡ (if is_column name then 1 else 0) + k
-entered-columns GfmTable start k other = lie (sym other)
-entered-columns _ start k other = omega arith
+entered-columns name start k other = grind arith
 
 pub same-columns : (columns : List AlignKind) (name : Name) (children : Forest) →
     is GfmTable name ≡ false → columns_in columns name children ≡ columns
@@ -146,10 +110,8 @@ pub no-cells : (content : Content) (columns : List AlignKind) (forest : Forest) 
 no-cells content columns Empty h fits = refl
 no-cells content columns (Node name start end children rest) h fits =
     let known = rowless-name content name h fits.0 in
-    omega (
+    grind (
       arith,
-      ap (λ b. if b then length columns else 0) known.1,
-      ap (λ cs. cells cs children) (same-columns columns name children known.0),
       no-cells (content_inside content name) columns children known.2 fits.1,
       no-cells (content_after_node content name children) columns rest
           (node-same is_rowless past-rowless content name children ∙ h) fits.2,

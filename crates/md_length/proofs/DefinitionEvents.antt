@@ -1,10 +1,8 @@
 -- The events of a definition: those of its children, before the next event of a definition.
 use Rattle.std.proofs.Common.{◌≡◌, ℕ, zero, suc, true, false, List, ◌∷◌, [], ◌++◌, drop, refl}
 use Rattle.std.proofs.Common.{sym, ◌∙◌, append_assoc, arith}
-use Rattle.md_base.proofs.Lies.{lie}
 use Rattle.md_base.specs.declared.event.Event.{Event}
 use Rattle.md_base.specs.declared.event.Name.{Name}
-use Rattle.md_base.specs.declared.event.Name.TheVariants.{Definition}
 use Rattle.md_base.specs.declared.event.Point.{Point}
 use Rattle.md_base.specs.Tree.{Forest, Empty, Node, flatten, entering, exiting}
 use Rattle.md_pattern.specs.Partners.{index_after}
@@ -16,8 +14,7 @@ use Rattle.md_steps.proofs.Staying.{node-same}
 use Rattle.md_length.specs.Work.{before_definition, is_definition}
 
 not-defining : (name : Name) → is_plain name ≡ true → is_definition name ≡ false
-not-defining Definition h = lie h
-not-defining _ h = refl
+not-defining name h = grind arith
 
 -- the events of a node with its children, and those after it
 pub node-events : (name : Name) (start end : Point) (children rest : Forest) (tail : List Event) →
@@ -31,13 +28,16 @@ pub before-low : (content : Content) (forest : Forest) (tail : List Event) →
     before_definition (flatten forest ++ tail) ≡ flatten forest ++ before_definition tail
 before-low content Empty tail low fits = refl
 before-low content (Node name start end children rest) tail low fits =
-    let other = not-defining name (plain content name low fits.0) in
-    let inner = before-low (content_inside content name) children
-    (exiting name end ∷ (flatten rest ++ tail)) ((allowed-facts content name fits.0).callless low).0
-    fits.1 in
-    let later = before-low (content_after_node content name children) rest tail
-    (node-same is_callless past-callless content name children ∙ low) fits.2 in
-    grind (arith, append_assoc, other, inner, later)
+    let inside = ((allowed-facts content name fits.0).callless low).0 in
+    let later = node-same is_callless past-callless content name children ∙ low in
+    grind (
+      arith,
+      append_assoc,
+      not-defining name (plain content name low fits.0),
+      before-low (content_inside content name) children (exiting name end ∷ (flatten rest ++ tail))
+          inside fits.1,
+      before-low (content_after_node content name children) rest tail later fits.2,
+    )
 
 -- one event further
 dropped : (events : List Event) (index : ℕ) (event : Event) (following : List Event) →

@@ -1,14 +1,12 @@
 -- What the lengths ask of a document holds of each document of the grammar.
-use Rattle.std.proofs.Common.{◌≡◌, ℕ, ◌≤◌, true, List, length, arith, Option, Some, None}
+use Rattle.std.proofs.Common.{◌≡◌, ℕ, ◌≤◌, true, List, length, arith, Option, None}
 use Rattle.std.proofs.Common.{lit≤}
-use Rattle.std.specs.Prelude.{if◌then◌else◌}
 use Rattle.std.specs.Option.{option_map_or}
 use Rattle.md_base.specs.declared.event.Name.{Name}
 use Rattle.md_base.specs.declared.event.Name.TheVariants as name_variants
 use name_variants.{Link, Image, HeadingAtx, LineEnding, BlankLineEnding}
 use Rattle.md_base.specs.declared.event.Point.{Point}
 use Rattle.md_base.specs.declared.event.Position.{Position}
-use Rattle.md_base.specs.NameTests.{is_line_ending as is_ending}
 use Rattle.md_base.specs.Place.{text_between}
 use Rattle.md_base.specs.Tree.{Forest, Empty, Node}
 use Rattle.md_pattern.specs.declared.kinds.Role.TheVariants as role
@@ -33,7 +31,6 @@ use Rattle.md_content.proofs.Fitting.{fit}
 use Rattle.md_content.proofs.RanksAndNumbers.{text_fits}
 use Rattle.md_content.proofs.TextsThere.{everywhere}
 use Rattle.md_length.specs.Sound.{IsSound}
-use Rattle.md_length.proofs.Pieces.{either-some}
 
 -- ---- targets and ranks
 media-target : (target : Referral) → broken_by_target target ≡ None →
@@ -70,22 +67,11 @@ HasShortEnding bytes _ start end children = Unit {0}
 abbrev found_length : List ℕ → Option Position → ℕ
 found_length bytes found = option_map_or (λ at. length (text_in bytes at)) found 0
 
-own-ending : (bytes : List ℕ) (name : Name) (start end : Point) (children : Forest) →
-    HasShortEnding bytes name start end children →
-    found_length bytes (if is_ending name then Some (place start end) else None) ≤ 2
-own-ending bytes name start end children h = grind arith
-
 first-few : (bytes : List ℕ) (forest : Forest) → Everywhere (HasShortEnding bytes) forest →
     found_length bytes (first_ending forest) ≤ 2
 first-few bytes Empty all = lit≤ tt
 first-few bytes (Node name start end children rest) all =
-    omega (
-      arith,
-      either-some {A = Position},
-      own-ending bytes name start end children all.0,
-      first-few bytes children all.1,
-      first-few bytes rest all.2,
-    )
+    grind (arith, first-few bytes children all.1, first-few bytes rest all.2)
 
 default-few : (ending : Ending) → length (ending_text ending) ≤ 2
 default-few ending = grind arith

@@ -5,7 +5,7 @@ use Rattle.std.specs.Prelude.{if◌then◌else◌}
 use Rattle.md_base.specs.declared.event.Event.{Event}
 use Rattle.md_base.specs.declared.event.Name.{Name}
 use Rattle.md_base.specs.declared.event.Name.TheVariants as name_variants
-use name_variants.{GfmTable, GfmTableRow, GfmTableDelimiterCellValue}
+use name_variants.{GfmTable, GfmTableRow}
 use Rattle.md_base.specs.Is.{is}
 use Rattle.md_base.specs.Tree.{Forest, Empty, Node, flatten, entering, exiting}
 use Rattle.md_pattern.specs.declared.kinds.Symbol.{Symbol}
@@ -68,8 +68,7 @@ document-cells content (Node name start end children rest) around before k tail 
           cells-of-table children _ (exiting GfmTable end ∷ (flatten rest ++ tail)) inside shaped
               stands,
         )
-    own GfmTableDelimiterCellValue inside shaped stands later inner = omega (arith, inner (suc k))
-    own _ inside shaped stands later inner = omega (arith, inner k)
+    own name inside shaped stands later inner = grind (arith, inner k, inner (suc k))
 
 -- the cells of a document's tables are bounded by what work counts for them, and by its columns
 pub grammatical-cells : (bytes : List ℕ) (names : List (List ℕ × List ℕ)) (document : Forest) →

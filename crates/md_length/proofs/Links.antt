@@ -1,9 +1,8 @@
 -- The reuse bounds the length of definitions for the links and images that refer to them.
-use Rattle.std.proofs.Common.{◌≡◌, ℕ, ◌+◌, ◌*◌, ◌≤◌, List, [], ◌∷◌, ◌++◌, refl, sym, ap, subst}
+use Rattle.std.proofs.Common.{◌≡◌, ℕ, ◌+◌, ◌*◌, ◌≤◌, List, [], ◌∷◌, ◌++◌, sym, ap, subst}
 use Rattle.std.proofs.Common.{arith, append-nil, Option}
 use Rattle.std.specs.Prelude.{if◌then◌else◌}
 use Rattle.md_base.specs.declared.event.Name.{Name}
-use Rattle.md_base.specs.declared.event.Name.TheVariants.{Link, Image}
 use Rattle.md_base.specs.declared.event.Position.{Position}
 use Rattle.md_base.specs.Tree.{Forest, Empty, Node, flatten}
 use Rattle.md_pattern.specs.Standing.{standing_of}
@@ -15,7 +14,6 @@ use Rattle.md_tree.specs.Numbers.{definition_for}
 use Rattle.md_tree.specs.Rules.{target_of, reading_of}
 use Rattle.md_tree.specs.declared.mention.Mention.{Mention}
 use Rattle.md_tree.specs.declared.mention.Mention.TheVariants.{Reference}
-use Rattle.md_tree.specs.declared.mention.Referral.{Referral}
 use Rattle.md_tree.specs.declared.mention.Referral.TheVariants as referral
 use Rattle.md_meaning.specs.Meaning.At.{Context, identifier_of}
 use Rattle.md_meaning.specs.Meaning.Inherited.{outermost}
@@ -58,7 +56,7 @@ target-led : (bytes : List ℕ) (names : List (List ℕ × List ℕ)) (options :
     ≡ first_of (defined_in bytes document) (identifier_of bytes children)) →
     IsLed bytes names options document children
 target-led bytes names options document grammatical children same =
-    by (target_of children referral.Missing) same
+    grind (arith, found, same)
   where
     called : Context
     called = called_in options names bytes document
@@ -81,17 +79,6 @@ target-led bytes names options document grammatical children same =
         (definitions-below called outermost nothing_before Blocks document (flatten document) 0 []
         (grammatical-ending options bytes names document grammatical)
         (shaped-fits document grammatical.shape) (sym (append-nil (flatten document)))))
-
-    by : (left : Referral) → ((label : Position) → left ≡ referral.Label label →
-        definition_for bytes (mentions_of document) (Reference label)
-        ≡ first_of (defined_in bytes document) identifier) →
-        (elim left [ referral.Label at ↦ taken | _ ↦ 0 ])
-        ≤ half_unit names * length_at (definition_lengths document)
-        (definition_for bytes (mentions_of document) (mention_of reading.Media left))
-    by (referral.Label label) same =
-        subst (λ place. taken ≤ half_unit names * length_at (definition_lengths document) place)
-        (sym (same label refl)) found
-    by _ same = omega arith
 
 links-led : (bytes : List ℕ) (names : List (List ℕ × List ℕ)) (options : CompileOptions)
     (document : Forest) → IsGrammatical bytes names document → (forest : Forest) →
@@ -119,9 +106,7 @@ links-led bytes names options document is (Node name start end children rest) al
         ≤ half_unit names * length_at (definition_lengths document)
         (definition_for bytes (mentions_of document)
         (mention_of (reading_of (standing_of name)) (target_of children referral.Missing)))
-    own Link h = h
-    own Image h = h
-    own _ h = omega arith
+    own name h = grind arith
 
 pub referred-short : (options : CompileOptions) (names : List (List ℕ × List ℕ)) (bytes : List ℕ)
     (document : Forest) → IsGrammatical bytes names document →

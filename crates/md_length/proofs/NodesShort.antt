@@ -6,7 +6,6 @@ use Rattle.std.specs.Prelude.{if◌then◌else◌, is_some}
 use Rattle.std.specs.Fmt.{decimal}
 use Rattle.std.proofs.lemmas.Fmt.{length-decimal-le}
 use Rattle.md_base.specs.declared.event.Name.{Name}
-use Rattle.md_base.specs.declared.event.Name.TheVariants as name_variants
 use Rattle.md_base.specs.NameTests.{is_transparent}
 use Rattle.md_tree.specs.declared.mention.Referral.TheVariants as referral
 use Rattle.md_tree.specs.Rules.{target_of}

@@ -1,6 +1,6 @@
 -- How long the texts and the tags are that nodes print, by what they read.
 use Rattle.std.proofs.Common.{ℕ, suc, ◌+◌, ◌-◌, ◌*◌, ◌≤◌, Bool, List, [], ◌∷◌, ◌++◌}
-use Rattle.std.proofs.Common.{length, arith, codes, lit≤, true, Option, Some, None}
+use Rattle.std.proofs.Common.{length, arith, codes, lit≤, Option, Some, None}
 use Rattle.std.specs.Option.{option_map_or}
 use Rattle.std.specs.List.{flat_map}
 use Rattle.std.specs.Fmt.{decimal}
@@ -8,7 +8,6 @@ use Rattle.std.proofs.lemmas.Fmt.{length-decimal-le}
 use Rattle.std.proofs.lemmas.List.{length-drop, length-take}
 use Rattle.md_base.specs.declared.event.AlignKind.{AlignKind}
 use Rattle.md_base.specs.declared.event.Position.{Position}
-use Rattle.md_text.specs.Encode.{encoded}
 use Rattle.md_text.specs.declared.options.CompileOptions.{CompileOptions}
 use Rattle.md_meaning.specs.Meaning.At.{Target, Context, At, text_in}
 use Rattle.md_meaning.specs.Meaning.Blocks.{without_zeros, underline_rank}
@@ -67,12 +66,7 @@ pub autolink-short : (context : Context) (at : At) (plain : Bool) (prefix : List
 autolink-short context at plain prefix few =
     let text = text_in context.bytes at.place in
     let target : Target = record { destination = prefix ++ text; title = None } in
-    omega (
-      sizes,
-      anchor-short context.options target (encoded true text),
-      encoded-short true text,
-      place-short context.bytes at.place,
-    )
+    omega (sizes, anchor-short context.options target, encoded-short, place-short)
 
 -- ---- blocks
 pub zeros-short : (digits : List ℕ) → length (without_zeros digits) ≤ length digits

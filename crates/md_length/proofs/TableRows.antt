@@ -1,7 +1,7 @@
 -- The rows of a table: the columns are known before each but the one of its head.
 use Rattle.std.proofs.Common.{◌≡◌, ◌⊎◌, inl, inr, ℕ, ◌+◌, ◌*◌, ◌≤◌, Bool, true, List, []}
 use Rattle.std.proofs.Common.{◌∷◌, ◌++◌, length, refl, ap, ◌∙◌, subst, arith, append_assoc}
-use Rattle.std.proofs.Common.{append-nil, Option}
+use Rattle.std.proofs.Common.{Option}
 use Rattle.std.specs.Prelude.{if◌then◌else◌}
 use Rattle.std.specs.List.{list_all}
 use Rattle.std.proofs.Math.Nat.{add-zero}
@@ -12,8 +12,8 @@ use Rattle.md_base.specs.declared.event.AlignKind.{AlignKind}
 use Rattle.md_base.specs.declared.event.Event.{Event}
 use Rattle.md_base.specs.declared.event.Name.{Name}
 use Rattle.md_base.specs.declared.event.Name.TheVariants as name_variants
-use name_variants.{GfmTableRow, GfmTableHead, LineEnding}
-use name_variants.{SpaceOrTab, GfmTableDelimiterRow, GfmTableDelimiterCellValue}
+use name_variants.{GfmTableRow, GfmTableHead}
+use name_variants.{SpaceOrTab, GfmTableDelimiterCellValue}
 use Rattle.md_base.specs.Is.{is}
 use Rattle.md_base.specs.NameTests.{leads_to_values}
 use Rattle.md_base.specs.Tree.{Forest, Empty, Node, flatten, entering, exiting}
@@ -24,13 +24,13 @@ use Rattle.md_pattern.specs.declared.kinds.Role.TheVariants as role
 use Rattle.md_pattern.specs.Spine.{spine, shown, Matches}
 use Rattle.md_pattern.specs.Shape.{AreShaped, IsStanding, inner_role, inner_before}
 use Rattle.md_pattern.specs.Standing.{standing_of}
-use Rattle.md_steps.specs.Content.{Rows, Cells, Parts, Childless, Fits, is_allowed}
+use Rattle.md_steps.specs.Content.{Rows, Fits, is_allowed}
 use Rattle.md_steps.specs.Content.{content_inside, content_after_node}
 use Rattle.md_steps.proofs.Staying.{node-stays}
 use Rattle.md_length.specs.Uses.{cells, columns_in}
 use Rattle.md_length.specs.Work.{is_column, cells as counted}
 use Rattle.md_length.proofs.Cells.{values, aligned-few, rows-counted, no-cells}
-use Rattle.md_length.proofs.Spined.{in_table, in_head, is_head, is_ordered, for_rows}
+use Rattle.md_length.proofs.Spined.{in_table, in_head, is_ordered, for_rows}
 use Rattle.md_length.proofs.Spined.{for_rows-append, table-ordered, head-letters, head-row}
 
 -- what a node shows of its children, and the columns that it gives to the table around it
@@ -74,13 +74,8 @@ head-rows columns (Node name start end children rest) around before fits shaped 
         (if is GfmTableRow name then length columns else 0)
         + cells (columns_in columns name children) children
         ≤ for_rows (length columns) (shows name children)
-    own GfmTableRow may inside stands h inner =
-        omega (arith, no-cells Cells columns children refl inside)
-    own GfmTableDelimiterRow may inside stands h inner =
-        omega (arith, no-cells Parts columns children refl inside)
-    own LineEnding may inside stands h inner =
-        omega (arith, no-cells Childless columns children refl inside)
-    own _ may inside stands h inner = grind (arith, inner)
+    own name may inside stands h inner =
+        grind (arith, inner, no-cells (content_inside Rows name) columns children)
 
 -- ---- the rows of a table
 -- after a head no columns follow
@@ -90,24 +85,23 @@ none-aligned : (forest : Forest) (around : Role) (before : Option Symbol) → Fi
 none-aligned Empty around before fits shaped h = refl
 none-aligned (Node name start end children rest) around before fits shaped h =
     let parts = all-parts in_table (shows name children) (spine rest) h in
-    ap (λ xs. own_alignments name children ++ xs)
-    (none-aligned rest _ _ (next-rows name children rest fits.2) shaped.2 parts.1)
-    ∙ append-nil (own_alignments name children)
-    ∙ own name fits.0 fits.1 shaped.0.1 parts.0
-    (λ inside. none-aligned children _ _ inside shaped.1)
+    grind (
+      arith,
+      none-aligned rest _ _ (next-rows name children rest fits.2) shaped.2 parts.1,
+      own name fits.0 fits.1 shaped.0.1 parts.0
+          (λ inside. none-aligned children _ _ inside shaped.1),
+    )
   where
     own : (name : Name) → is_allowed Rows name ≡ true → Fits (content_inside Rows name) children →
         IsStanding (standing_of name) around before children →
         list_all in_table (shows name children) ≡ true →
         (Fits Rows children → list_all in_table (spine children) ≡ true →
         alignments children ≡ []) → own_alignments name children ≡ []
-    own SpaceOrTab may inside stands h inner = ap alignments stands
-    own _ may inside stands h inner = grind (arith, inner)
+    own name may inside stands h inner = grind (arith, inner)
 
 aligned-node : (name : Name) (children : Forest) → length (own_alignments name children)
     ≤ (if is_column name then 1 else 0) + values children
-aligned-node GfmTableDelimiterCellValue children = omega arith
-aligned-node _ children = omega (arith, aligned-few children)
+aligned-node name children = grind (arith, aligned-few)
 
 -- an amount once, if the head has come
 abbrev paid : ℕ → List Symbol → ℕ
@@ -126,11 +120,8 @@ Comes xs ys = ((xs ≡ []) × (is_ordered ys ≡ true))
 comes : (xs ys : List Symbol) → is_ordered (xs ++ ys) ≡ true → (is_ordered xs ≡ true) × Comes xs ys
 comes [] ys h = (refl, inl (refl, h))
 comes (x ∷ xs) ys h =
-    let head = and_parts (is_head x) (list_all in_table (xs ++ ys)) h in
-    let parts = all-parts in_table xs ys head.1 in (
-      and_from (is_head x) (list_all in_table xs) head.0 parts.0,
-      inr (λ amount. (refl, refl), parts.1),
-    )
+    let parts = all-parts in_table xs ys (and_parts _ _ h).1 in
+    (and_from _ _ (and_parts _ _ h).0 parts.0, inr (λ amount. (refl, refl), parts.1))
 
 table-rows : (columns : List AlignKind) (forest : Forest) (around : Role) (before : Option Symbol)
     (k after : ℕ) (tail : List Event) → Fits Rows forest → AreShaped forest around before →
