@@ -3,7 +3,6 @@
 use Rattle.std.proofs.Common.{◌≡◌, ℕ, ◌+◌, ◌*◌, ◌≤◌, Bool, true, false, List, ◌∷◌}
 use Rattle.std.proofs.Common.{◌++◌, length, refl, ap, ◌∙◌, arith, append_assoc}
 use Rattle.std.specs.Prelude.{if◌then◌else◌}
-use Rattle.std.proofs.Math.Nat.{add-zero}
 use Rattle.std.proofs.lemmas.List.{length-append}
 use Rattle.md_base.specs.declared.event.AlignKind.{AlignKind}
 use Rattle.md_base.specs.declared.event.Event.{Event}
@@ -84,25 +83,21 @@ pub rows-counted : (content : Content) (columns : List AlignKind) (k after : ℕ
     (tail : List Event) → is_inner content ≡ true → Fits content forest → length columns ≤ k →
     after ≡ k + values forest →
     5 * cells columns forest + counted after tail ≤ counted k (flatten forest ++ tail)
-rows-counted content columns k after Empty tail inner fits few e =
-    omega (arith, ap (λ n. counted n tail) (e ∙ add-zero k))
+rows-counted content columns k after Empty tail inner fits few e = grind arith
 rows-counted content columns k after (Node name start end children rest) tail inner fits few e =
     let known = inner-name content name inner fits.0 in
     let begun : ℕ = (if is_column name then 1 else 0) + k in
     let middle : ℕ = begun + values children in
-    omega (
+    grind (
       arith,
-      ap (λ n. counted n ((flatten children ++ exiting name end ∷ flatten rest) ++ tail))
-          (entered-columns name start k known.0)
-          ∙ ap (λ events. counted begun events)
-          (append_assoc (flatten children) (exiting name end ∷ flatten rest) tail),
+      append_assoc,
+      entered-columns name start k known.0,
       rows-counted (content_inside content name) columns begun middle children
           (exiting name end ∷ (flatten rest ++ tail)) known.1 fits.1 (omega arith) refl,
       rows-counted (content_after_node content name children) columns middle after rest tail
           (node-same is_inner past-inner content name children ∙ inner) fits.2 (omega arith)
           (omega arith),
-      own-row name columns middle end (omega arith),
-      ap (λ cs. cells cs children) (same-columns columns name children known.0),
+      own-row name columns middle end,
     )
 
 pub no-cells : (content : Content) (columns : List AlignKind) (forest : Forest) →

@@ -28,16 +28,13 @@ pub before-low : (content : Content) (forest : Forest) (tail : List Event) →
     before_definition (flatten forest ++ tail) ≡ flatten forest ++ before_definition tail
 before-low content Empty tail low fits = refl
 before-low content (Node name start end children rest) tail low fits =
-    let inside = ((allowed-facts content name fits.0).callless low).0 in
-    let later = node-same is_callless past-callless content name children ∙ low in
-    grind (
-      arith,
-      append_assoc,
-      not-defining name (plain content name low fits.0),
-      before-low (content_inside content name) children (exiting name end ∷ (flatten rest ++ tail))
-          inside fits.1,
-      before-low (content_after_node content name children) rest tail later fits.2,
-    )
+    let other = not-defining name (plain content name low fits.0) in
+    let inner = before-low (content_inside content name) children
+    (exiting name end ∷ (flatten rest ++ tail)) ((allowed-facts content name fits.0).callless low).0
+    fits.1 in
+    let later = before-low (content_after_node content name children) rest tail
+    (node-same is_callless past-callless content name children ∙ low) fits.2 in
+    grind (arith, append_assoc, other, inner, later)
 
 -- one event further
 dropped : (events : List Event) (index : ℕ) (event : Event) (following : List Event) →

@@ -3,7 +3,6 @@ use Rattle.std.proofs.Common.{◌≡◌, ℕ, ◌+◌, ◌*◌, ◌≤◌, Bool,
 use Rattle.std.proofs.Common.{refl, arith, Option, unwrap_or}
 use Rattle.std.specs.Prelude.{if◌then◌else◌, is_some}
 use Rattle.std.specs.Option.{option_map_or}
-use Rattle.md_base.specs.declared.event.Name.TheVariants as name_variants
 use Rattle.md_base.specs.Children.{or_else}
 use Rattle.md_base.specs.Tree.{Forest, Empty, Node}
 use Rattle.md_tree.specs.declared.mention.Referral.TheVariants as referral

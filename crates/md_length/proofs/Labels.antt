@@ -1,7 +1,6 @@
 -- The identifiers of footnote calls are at most twelve times as long as their labels, each of which
 -- is read once.
 use Rattle.std.proofs.Common.{ℕ, ◌+◌, ◌*◌, ◌≤◌, List, [], length, arith, unwrap_or}
-use Rattle.md_base.specs.declared.event.Name.TheVariants as name_variants
 use Rattle.md_base.specs.declared.event.Position.{Position}
 use Rattle.md_base.specs.Tree.{Forest, Empty, Node}
 use Rattle.md_pattern.specs.Standing.{standing_of}

@@ -59,13 +59,12 @@ one-more : (own : List ℕ) (amount most : ℕ) (now before : List ℕ → ℕ)
     ≤ (if bytes_eq own identifier then amount else 0) + before identifier) →
     sum_of before identifiers ≤ most → sum_of now identifiers ≤ amount + most
 one-more own amount most now before identifiers apart each h =
+    let own_amount = λ (identifier : List ℕ). if bytes_eq own identifier then amount else 0 in
     omega (
       arith,
-      sum-le now (λ identifier. (if bytes_eq own identifier then amount else 0)
-          + before identifier) identifiers each,
-      sum-add (λ identifier. if bytes_eq own identifier then amount else 0) before identifiers,
+      sum-le now (λ identifier. own_amount identifier + before identifier) identifiers each,
+      sum-add own_amount before identifiers,
       once own amount identifiers apart,
-      h,
     )
 
 -- what is taken for each call of an identifier
