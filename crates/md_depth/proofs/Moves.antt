@@ -3,7 +3,7 @@ use Rattle.std.specs.List.{list_all}
 use Rattle.std.proofs.Common.{◌≡◌, ℕ, ◌+◌, ◌≤◌, suc, max, Bool, true, false, cond, List, []}
 use Rattle.std.proofs.Common.{◌∷◌, ◌++◌, refl, ap, ◌∙◌, arith}
 use Rattle.md_text.proofs.HtmlNames.{no_angle, escaped-angle}
-use Rattle.md_meaning.specs.Meaning.Layout.{Piece, Text, Needed, Forced, begins_line, laid_after}
+use Rattle.md_meaning.specs.Meaning.Layout.{Piece, Text, Needed, Forced, laid_after}
 use Rattle.md_meaning.specs.Meaning.Layout.{layout, on_own_line}
 use Rattle.md_safe.proofs.Texts.{Escaped}
 use Rattle.md_safe.proofs.Laid.{Adds, adds-weaker, laid-append}
@@ -41,14 +41,9 @@ forced {e} {n} {a} h = record {
 
 pub needed : {e : List ℕ} {n a : ℕ} → Escaped e → Moves e n a a (Needed ∷ [])
 needed {e} {n} {a} h = record {
-  moves = λ s text l t few before. by s text l t (begins_line text) before;
+  moves = λ s text l t few before.
+      grind (arith, run-append s text e, before, quiet e (escaped-angle e h) (l + a) t);
 }
-  where
-    by : (s : State) (text : List ℕ) (l t : ℕ) (starts : Bool) → run s text ≡ at (l + a) t →
-        run s (cond starts text (text ++ e)) ≡ at (l + a) t
-    by s text l t true before = before
-    by s text l t false before =
-        run-append s text e ∙ ap (λ s. run s e) before ∙ quiet e (escaped-angle e h) (l + a) t
 
 -- one or the other
 pub choose : {e : List ℕ} {n a b : ℕ} (test : Bool) {xs ys : List Piece} → Moves e n a b xs →

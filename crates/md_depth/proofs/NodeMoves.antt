@@ -1,6 +1,6 @@
 -- A node among blocks leaves no element open, and opens two at most beside what its children open.
 use Rattle.std.proofs.Common.{◌≡◌, ℕ, ◌≤◌, suc, Bool, true, false, not, ◌||◌, List, refl, sym}
-use Rattle.std.proofs.Common.{◌∙◌, ap, subst, arith}
+use Rattle.std.proofs.Common.{◌∙◌, ap, arith}
 use Rattle.md_base.proofs.Lies.{lie}
 use Rattle.md_base.specs.declared.event.Name.{Name}
 use Rattle.md_base.specs.NameTests.{is_transparent}
@@ -41,7 +41,7 @@ node-moves s t m n room name e solid whole fit head good inner a below = by (is_
         Moves ending n 0 0 (prints s.context t name inner)
     by false h =
         let is : is_silent name ≡ true = ap not h in
-        subst (Moves ending n 0 0) (sym (silent-prints s.context t name is inner))
+        rw (silent-prints s.context t name is inner)
         (more (omega arith) (below (silent-block name is).0))
     by true h = pick (is_transparent name) _ h (λ is. lie (sym solid ∙ is)) (λ c.
         pick (is_part name || is_source name) _ c (λ is. lie (sym whole ∙ is)) (λ c.
@@ -53,5 +53,5 @@ node-moves s t m n room name e solid whole fit head good inner a below = by (is_
         pick (is_leaf name) _ c (λ is. adds-escaped (prints s.context t name inner)
         (leaf-escaped s t name e is fit inner)) (λ c.
         pick (is_hidden name) (is_tabular name) c
-        (λ is. subst (Moves ending n 0 0) (sym (hidden-prints s.context t name is inner)) none)
+        (λ is. rw (hidden-prints s.context t name is inner) none)
         (λ is. table-moves s t m n room name is inner below))))))))

@@ -3,8 +3,7 @@
 use Rattle.std.proofs.Common.{◌≡◌, ℕ, ◌+◌, ◌-◌, ◌≤◌, ◌==◌, zero, suc, Bool, true, false, not, cond}
 use Rattle.std.proofs.Common.{List, [], ◌∷◌, ◌++◌, length, take, drop, refl, ap, sym, ◌∙◌, subst}
 use Rattle.std.proofs.Common.{arith, append_assoc, codes, length-drop}
-use Rattle.std.specs.Prelude.{Option, Some, None, option_map, find, bytes_eq, string_bytes}
-use Rattle.std.specs.Option.{option_map_or}
+use Rattle.std.specs.Prelude.{None, option_map, bytes_eq, string_bytes}
 use Rattle.std.specs.List.{flat_map}
 use Rattle.std.specs.Fmt.{decimal}
 use Rattle.std.proofs.lemmas.List.{take-append-drop, drop-append-le}
@@ -35,11 +34,7 @@ use Rattle.md_depth.proofs.ForestMoves.{TextsLead}
 back-escaped : (options : CompileOptions) →
     Escaped (option_or (option_map string_bytes options.gfm_footnote_back_label)
     (codes "Back to content"))
-back-escaped options = by (option_map string_bytes options.gfm_footnote_back_label)
-  where
-    by : (label : Option (List ℕ)) → Escaped (option_or label (codes "Back to content"))
-    by None = refl
-    by (Some x) = is_escaped-encoded x
+back-escaped options = grind (arith, is_escaped-encoded)
 
 back-leads : (options : CompileOptions) (identifier : List ℕ) (number occurrence : ℕ) →
     Leads 0 0 2 (backreference options identifier number occurrence)
@@ -149,14 +144,8 @@ item-moves e n a k h context footnotes identifier f room =
 found-leads : (k : ℕ) (footnotes : List Footnote) (identifier : List ℕ) → TextsLead k footnotes →
     Leads 0 0 k (text_among footnotes identifier)
 found-leads k [] identifier h = leads-quiet [] refl
-found-leads k (footnote ∷ others) identifier h = by (bytes_eq footnote.identifier identifier)
-    (found-leads k others identifier h.1)
-  where
-    by : (is : Bool) → Leads 0 0 k (text_among others identifier) →
-        Leads 0 0 k (option_map_or (λ footnote. footnote.text) (cond is (Some footnote)
-        (find (λ footnote. bytes_eq footnote.identifier identifier) others)) [])
-    by true later = h.0
-    by false later = later
+found-leads k (footnote ∷ others) identifier h =
+    grind (arith, h, found-leads k others identifier h.1)
 
 items-move : (e : List ℕ) (n a k : ℕ) → Escaped e → (context : Context)
     (footnotes : List Footnote) →
@@ -197,16 +186,10 @@ start-moves : (e : List ℕ) (n : ℕ) → 2 ≤ n → Escaped e → (options : 
     options.gfm_footnote_label_tag_name ≡ None → options.gfm_footnote_label_attributes ≡ None →
     Moves e n 0 2 (section_start options)
 start-moves e n room h options no_tag no_attributes =
-    let tag : tag_of options ≡ codes "h2" =
-    ap (λ o. option_or (option_map string_bytes o) (codes "h2")) no_tag in
-    let attributes : attributes_of options ≡ codes "class=\"sr-only\"" =
-    ap (λ o. option_map_or string_bytes o (codes "class=\"sr-only\"")) no_attributes in
     let head : Moves e n 0 1 (head_of (tag_of options) (attributes_of options)
     (heading_label_of options)) =
-    subst (λ tag. Moves e n 0 1 (head_of tag (attributes_of options) (heading_label_of options)))
-    (sym tag) (subst (λ attributes. Moves e n 0 1 (head_of (codes "h2") attributes
-    (heading_label_of options))) (sym attributes)
-    (head-moves e n room (heading_label_of options) (label-escaped options))) in
+    rw (no_tag, no_attributes)
+    (head-moves e n room (heading_label_of options) (label-escaped options)) in
     needed h ▸ head ▸ forced h
     ▸ open_tag (codes "<ol>") (λ l t. refl) room
 

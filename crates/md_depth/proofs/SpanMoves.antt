@@ -1,7 +1,7 @@
 -- Spans leave no element open, and open two at most beside what their children open.
 use Rattle.std.specs.List.{list_all}
-use Rattle.std.proofs.Common.{◌≡◌, ℕ, ◌≤◌, suc, Bool, true, false, not, ◌||◌, cond}
-use Rattle.std.proofs.Common.{List, [], ◌∷◌, ◌++◌, refl, sym, subst, inl, inr, arith, codes}
+use Rattle.std.proofs.Common.{◌≡◌, ℕ, ◌≤◌, suc, Bool, true, not, ◌||◌, cond}
+use Rattle.std.proofs.Common.{List, [], ◌∷◌, ◌++◌, refl, inl, inr, arith, codes}
 use Rattle.std.specs.Prelude.{Option, Some, None}
 use Rattle.std.specs.Fmt.{decimal}
 use Rattle.std.proofs.lemmas.Bool.{cond_both, or_cases}
@@ -14,7 +14,7 @@ use name_variants.{GfmAutolinkLiteralMailto, GfmAutolinkLiteralProtocol, GfmAuto
 use name_variants.{GfmAutolinkLiteralXmpp}
 use Rattle.md_text.specs.declared.options.CompileOptions.{CompileOptions}
 use Rattle.md_text.specs.Encode.{encoded}
-use Rattle.md_text.specs.Url.{sanitized, sanitized_with, link_protocols, image_protocols}
+use Rattle.md_text.specs.Url.{link_protocols, image_protocols}
 use Rattle.md_text.proofs.HtmlNames.{no_angle}
 use Rattle.md_text.proofs.EncodeLaws.{is_escaped-encoded}
 use Rattle.md_text.proofs.EscapedLemmas.{sanitized-escaped, sanitized_with-escaped}
@@ -57,8 +57,7 @@ around e m n room in_image o c opens closes inner a =
 url-escaped : (any : Bool) (protocols : List (List ℕ)) (destination : List ℕ) →
     Escaped (url any protocols destination)
 url-escaped any protocols destination =
-    cond_both any (sanitized destination) (sanitized_with protocols destination) Escaped
-    (λ _. sanitized-escaped destination) (λ _. sanitized_with-escaped protocols destination)
+    grind (arith, sanitized-escaped, sanitized_with-escaped)
 
 title-moves : {e : List ℕ} {n a : ℕ} (title : Option (List ℕ)) → IsEscapedTitle title →
     Moves e n a a (title_attribute title)
@@ -92,23 +91,14 @@ picture-moves e m n room options target title label h =
 code-moves : (e : List ℕ) (m n : ℕ) → Room m n → (t : At) (math : Bool) (x : List ℕ) → Escaped x →
     Moves e n 0 0 (code t (code_opening math) x)
 code-moves e m n room t math x h =
+    let unescaped : List ℕ = cond t.around.in_table (without_escapes x) x in
+    let shown : List ℕ = trimmed unescaped in
+    let all : Escaped shown =
+    trimmed-escaped unescaped (cond_both t.around.in_table (without_escapes x) x Escaped
+    (λ _. pipes-escaped x h) (λ _. h)) in
     choose t.around.in_image (plain shown all)
-    (open_tag (code_opening math) (opens math) (omega arith) ▸ plain shown all
+    (open_tag (code_opening math) (λ l t. grind arith) (omega arith) ▸ plain shown all
     ▸ close_tag (codes "</code>") (λ l t. refl))
-  where
-    unescaped : List ℕ
-    unescaped = cond t.around.in_table (without_escapes x) x
-
-    shown : List ℕ
-    shown = trimmed unescaped
-
-    all : Escaped shown
-    all = trimmed-escaped unescaped (cond_both t.around.in_table (without_escapes x) x Escaped
-        (λ _. pipes-escaped x h) (λ _. h))
-
-    opens : (math : Bool) → IsOpening (code_opening math)
-    opens true = λ l t. refl
-    opens false = λ l t. refl
 
 -- ---- calls, breaks and tasks
 
@@ -129,8 +119,7 @@ call-moves e m n room options identifier number occurrence =
     ▹ leads-close (codes "</sup>") (λ l t. refl))
 
 done-quiet : (in_image : Bool) (x : List ℕ) → IsDone in_image x → list_all no_angle x ≡ true
-done-quiet in_image x (inl is) = subst (λ x. list_all no_angle x ≡ true) (sym is) refl
-done-quiet in_image x (inr is) = subst (λ x. list_all no_angle x ≡ true) (sym is.1) refl
+done-quiet in_image x done = grind arith
 
 task-moves : (s : Setting) (t : At) (m n : ℕ) → Room m n → (inner : List Piece) →
     Prints s (IsDone t.around.in_image) inner →
@@ -155,18 +144,14 @@ pair-moves : (s : Setting) (t : At) (m n : ℕ) → Room m n → (name : Name) �
 pair-moves s t m n room name is inner below =
     let e : List ℕ = s.context.ending in
     let tag : List ℕ = pair_tag name in
-    subst (Moves e n 0 0) (sym (pair-prints s.context t name is inner))
-    (around e m n room t.around.in_image (60 ∷ (tag ++ (62 ∷ []))) (60 ∷ 47 ∷ (tag ++ (62 ∷ [])))
+    rw (pair-prints s.context t name is inner) (around e m n room t.around.in_image (60 ∷ (tag ++ (62 ∷ []))) (60 ∷ 47 ∷ (tag ++ (62 ∷ [])))
     (by_pair (λ tag. IsOpening (60 ∷ (tag ++ (62 ∷ [])))) (λ l t. refl) (λ l t. refl)
     (λ l t. refl) name is)
     (by_pair (λ tag. IsClosing (60 ∷ 47 ∷ (tag ++ (62 ∷ [])))) (λ l t. refl) (λ l t. refl)
     (λ l t. refl) name is) inner (below (blocks name is)))
   where
     blocks : (name : Name) → is_pair name ≡ true → is_blocks (content_of name Blocks) ≡ true
-    blocks name_variants.Emphasis is = refl
-    blocks name_variants.Strong is = refl
-    blocks name_variants.GfmStrikethrough is = refl
-    blocks _ is = lie is
+    blocks name is = grind arith
 
 single-moves : (s : Setting) (t : At) (m n : ℕ) → Room m n → (name : Name) →
     is_single name ≡ true → IsGoodTarget t.found.resource → (inner : List Piece) →
@@ -204,7 +189,7 @@ pub span-moves : (s : Setting) (t : At) (m n : ℕ) → Room m n → (name : Nam
 span-moves s t m n room name e is good inner a below = elim (or_cases (is_pair name) _ is) [
   | inl is ↦ pair-moves s t m n room name is inner below
   | inr c ↦ elim (or_cases (is_code name) (is_single name) c) [
-    | inl is ↦ subst (Moves s.context.ending n 0 0) (sym (code-prints s.context t name is inner))
+    | inl is ↦ rw (code-prints s.context t name is inner)
         (code-moves s.context.ending m n room t (is_math name) (layout s.context.ending inner)
         (code-text s t Blocks name e is inner a))
     | inr is ↦ single-moves s t m n room name is good inner a below
