@@ -1,7 +1,7 @@
 -- The text of blocks leaves no element open, and opens at most twice as many as the nesting of the
 -- nodes: one induction over them. Other contents are known to open none.
 use Rattle.std.proofs.Common.{◌≡◌, ℕ, ◌-◌, ◌*◌, ◌≤◌, suc, Bool, true, false, ◌||◌, cond, List}
-use Rattle.std.proofs.Common.{[], ◌∷◌, ◌++◌, refl, ap, ◌∙◌, subst, arith, append-nil, inl, inr}
+use Rattle.std.proofs.Common.{[], ◌∷◌, ◌++◌, refl, ap, ◌∙◌, arith, append-nil, inl, inr}
 use Rattle.std.specs.Prelude.{Option, Some, None, unwrap_or}
 use Rattle.std.proofs.lemmas.Bool.{cond_both, cases_Bool}
 use Rattle.md_base.specs.declared.event.Name.{Name}
@@ -161,10 +161,8 @@ opens d (Node name start end children rest) around before n f =
     let below : (k : ℕ) → 2 * height children ≤ k → Waits k (inner_before p name).heading →
     is_blocks (content_inside Blocks name) ≡ true → Opens d k (inner_of d p name) =
     λ k room waits is. opens d children (inner_around d p name) (inner_before p name) k (record {
-      built = subst (λ c. IsBuilt d.context.bytes c children)
-          (is_blocks-same (content_inside Blocks name) is) f.built.2;
-      ready = subst (Ready (read_in d) (inner_around d p name) (inner_before p name))
-          (is_blocks-same (content_inside Blocks name) is) within;
+      built = rw (is_blocks-same (content_inside Blocks name) is) at f.built.2;
+      ready = rw (is_blocks-same (content_inside Blocks name) is) at within;
       waits = waits;
       room = room;
     }) in
@@ -177,8 +175,8 @@ opens d (Node name start end children rest) around before n f =
           (λ is. below (n - 2) (omega (arith, f.room)) (rw e (leads-quiet [] refl)) (ap kind e ∙ is))
     ] in
     let later : Opens d n others = opens d rest around next n (record {
-      built = subst (λ c. IsBuilt d.context.bytes c rest) (after-blocks name children) f.built.3;
-      ready = subst (Ready (read_in d) around next) (after-blocks name children)
+      built = rw (after-blocks name children) at f.built.3;
+      ready = rw (after-blocks name children) at
           (ready-after t name here f.built.0 f.built.2 found f.ready);
       waits = waits-next n here.found.heading before.heading one.heading f.waits;
       room = omega (arith, f.room);

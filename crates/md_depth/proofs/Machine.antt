@@ -2,7 +2,7 @@
 -- and a void tag with `<br`, `<hr` or `<i`. No other part of a tag has a `<`.
 use Rattle.std.specs.List.{list_all}
 use Rattle.std.proofs.Common.{◌≡◌, ℕ, ◌+◌, ◌≤◌, ◌==◌, zero, suc, max, Bool, true, false, cond}
-use Rattle.std.proofs.Common.{List, [], ◌∷◌, ◌++◌, refl, ap, ◌∙◌, arith}
+use Rattle.std.proofs.Common.{List, [], ◌∷◌, ◌++◌, refl, arith}
 use Rattle.md_text.proofs.HtmlNames.{no_angle}
 
 -- the state of reading a text: anywhere, after `<`, after `<b`, after `<h`, or after `<` twice
@@ -85,8 +85,7 @@ leads-quiet {a} x h = record { leads = λ l t few. quiet x h (l + a) t }
 infixr 4 ◌▹◌
 pub ◌▹◌ : {a b c n : ℕ} {x y : List ℕ} → Leads a b n x → Leads b c n y → Leads a c n (x ++ y)
 ◌▹◌ {a} {b} {c} {n} {x} {y} f g = record {
-  leads = λ l t few.
-      run-append (at (l + a) t) x y ∙ ap (λ s. run s y) (f.leads l t few) ∙ g.leads l t few;
+  leads = λ l t few. rw (run-append, f.leads l t few) (g.leads l t few);
 }
 
 -- one or the other

@@ -8,11 +8,10 @@ use Rattle.std.proofs.Common.{◌∷◌, ◌++◌, refl, ap, ◌∙◌, subst, a
 use Rattle.std.proofs.lemmas.Bool.{and_parts, or_cases}
 use Rattle.std.proofs.lemmas.List.Folds.{list_all-append}
 use Rattle.md_base.proofs.Lies.{lie}
-use Rattle.md_base.specs.Identifier.{is_nonempty}
 use Rattle.md_text.specs.Html.{Forest, Empty, Text, Void, Element, Attribute, written}
 use Rattle.md_text.specs.Html.{written_attributes, are_attributes, elements, void_tags, is_tag}
 use Rattle.md_text.specs.Html.{is_forest, IsReading}
-use Rattle.md_text.proofs.HtmlNames.{no_angle, is_name_byte, escaped-angle, element-tidy, void-tidy}
+use Rattle.md_text.proofs.HtmlNames.{no_angle, escaped-angle, element-tidy, void-tidy}
 use Rattle.md_text.proofs.HtmlAngles.{name-angle, tag-angle}
 use Rattle.md_depth.specs.Levels.{levels}
 use Rattle.md_depth.proofs.Machine.{State, at, Begun, to, run, run-append, quiet, Leads}
@@ -41,21 +40,11 @@ Opens name = (l t : ℕ) → run (to Begun (at l t)) name ≡ at (suc l) (max t 
 abbrev Voids : List ℕ → Type 0
 Voids name = (l t : ℕ) → run (to Begun (at l t)) name ≡ at l (max t (suc l))
 
-infixr 4 ◌⊗◌
-◌⊗◌ : {A B : Type 0} → A → B → A × B
-a ⊗ b = (a, b)
-
 elements-open : Each Opens elements
-elements-open =
-    (λ l t. refl) ⊗ (λ l t. refl) ⊗ (λ l t. refl) ⊗ (λ l t. refl) ⊗ (λ l t. refl) ⊗ (λ l t. refl)
-    ⊗ (λ l t. refl) ⊗ (λ l t. refl) ⊗ (λ l t. refl) ⊗ (λ l t. refl) ⊗ (λ l t. refl)
-    ⊗ (λ l t. refl) ⊗ (λ l t. refl) ⊗ (λ l t. refl) ⊗ (λ l t. refl) ⊗ (λ l t. refl)
-    ⊗ (λ l t. refl) ⊗ (λ l t. refl) ⊗ (λ l t. refl) ⊗ (λ l t. refl) ⊗ (λ l t. refl)
-    ⊗ (λ l t. refl) ⊗ (λ l t. refl) ⊗ (λ l t. refl) ⊗ (λ l t. refl) ⊗ tt
+elements-open = grind arith
 
 tags-void : Each Voids void_tags
-tags-void =
-    (λ l t. refl) ⊗ (λ l t. refl) ⊗ (λ l t. refl) ⊗ (λ l t. refl) ⊗ tt
+tags-void = grind arith
 
 -- the parts of a text without `<`
 parts : (x y : List ℕ) → list_all no_angle (x ++ y) ≡ true →
@@ -99,13 +88,12 @@ opens (Void name attributes rest) h l t low =
     ∙ opens rest p.1 l (max t (suc l)) (omega arith)
     ∙ ap (λ top. at l top) (levels-void l t (levels rest))
 opens (Element name attributes inner rest) h l t low =
-    let p = and_parts (is_tag elements name attributes && is_forest inner) (is_forest rest) h in
-    let q = and_parts (is_tag elements name attributes) (is_forest inner) p.0 in
+    let p = and_parts _ _ h in
+    let q = and_parts _ _ p.0 in
     let tidy = element-tidy name attributes q.0 in
     let end : List ℕ = 62 ∷ [] in
     let close : List ℕ = 60 ∷ 47 ∷ (name ++ (62 ∷ written rest)) in
-    let letters : list_all no_angle name ≡ true =
-    name-angle name (and_parts (is_nonempty name) (list_all is_name_byte name) tidy.0).1 in
+    let letters : list_all no_angle name ≡ true = name-angle name (and_parts _ _ tidy.0).1 in
     let top : ℕ = max (max t (suc l)) (suc l + levels inner) in
     tag name attributes end (written inner ++ close) l t (at (suc l) (max t (suc l))) (suc l)
     (max t (suc l)) refl (of-tag Opens elements name attributes elements-open q.0 l t)

@@ -1,6 +1,6 @@
 -- Spans leave no element open, and open two at most beside what their children open.
 use Rattle.std.specs.List.{list_all}
-use Rattle.std.proofs.Common.{◌≡◌, ℕ, ◌≤◌, suc, Bool, true, not, ◌||◌, cond}
+use Rattle.std.proofs.Common.{◌≡◌, ℕ, ◌≤◌, suc, Bool, true, not, cond}
 use Rattle.std.proofs.Common.{List, [], ◌∷◌, ◌++◌, refl, inl, inr, arith, codes}
 use Rattle.std.specs.Prelude.{Option, Some, None}
 use Rattle.std.specs.Fmt.{decimal}
@@ -212,18 +212,13 @@ link-moves s t m n room prefix plainly =
 pub autolink-moves : (s : Setting) (t : At) (m n : ℕ) → Room m n → (name : Name) →
     is_autolink name ≡ true → (inner : List Piece) →
     Moves s.context.ending n 0 0 (prints s.context t name inner)
-autolink-moves s t m n room AutolinkEmail is inner =
-    link-moves s t m n room (codes "mailto:") t.around.in_image
-autolink-moves s t m n room AutolinkProtocol is inner =
-    link-moves s t m n room [] t.around.in_image
+autolink-moves s t m n room AutolinkEmail is inner = link-moves s t m n room (codes "mailto:") _
+autolink-moves s t m n room AutolinkProtocol is inner = link-moves s t m n room [] _
 autolink-moves s t m n room GfmAutolinkLiteralEmail is inner =
-    link-moves s t m n room (codes "mailto:") (t.around.in_image || t.around.in_link)
-autolink-moves s t m n room GfmAutolinkLiteralMailto is inner =
-    link-moves s t m n room [] (t.around.in_image || t.around.in_link)
-autolink-moves s t m n room GfmAutolinkLiteralProtocol is inner =
-    link-moves s t m n room [] (t.around.in_image || t.around.in_link)
+    link-moves s t m n room (codes "mailto:") _
+autolink-moves s t m n room GfmAutolinkLiteralMailto is inner = link-moves s t m n room [] _
+autolink-moves s t m n room GfmAutolinkLiteralProtocol is inner = link-moves s t m n room [] _
 autolink-moves s t m n room GfmAutolinkLiteralWww is inner =
-    link-moves s t m n room (codes "http://") (t.around.in_image || t.around.in_link)
-autolink-moves s t m n room GfmAutolinkLiteralXmpp is inner =
-    link-moves s t m n room [] (t.around.in_image || t.around.in_link)
+    link-moves s t m n room (codes "http://") _
+autolink-moves s t m n room GfmAutolinkLiteralXmpp is inner = link-moves s t m n room [] _
 autolink-moves s t m n room _ is inner = lie is
