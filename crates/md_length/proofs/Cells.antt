@@ -1,7 +1,7 @@
 -- The cells of tables' rows are bounded by what work counts for them: after a table's columns are
 -- known, each row counts all of them, and its head has one row before.
 use Rattle.std.proofs.Common.{◌≡◌, ℕ, ◌+◌, ◌*◌, ◌≤◌, Bool, true, false, List, ◌∷◌}
-use Rattle.std.proofs.Common.{◌++◌, length, refl, ap, ◌∙◌, arith, append_assoc}
+use Rattle.std.proofs.Common.{◌++◌, length, refl, ◌∙◌, arith, append_assoc}
 use Rattle.std.specs.Prelude.{if◌then◌else◌}
 use Rattle.std.proofs.lemmas.List.{length-append}
 use Rattle.md_base.specs.declared.event.AlignKind.{AlignKind}
@@ -9,17 +9,16 @@ use Rattle.md_base.specs.declared.event.Event.{Event}
 use Rattle.md_base.specs.declared.event.Name.{Name}
 use Rattle.md_base.specs.declared.event.Name.TheVariants as name_variants
 use name_variants.{GfmTable, GfmTableRow}
-use Rattle.md_base.specs.declared.event.Point.{Point}
 use Rattle.md_base.specs.Is.{is}
-use Rattle.md_base.specs.Tree.{Forest, Empty, Node, flatten, entering, exiting}
+use Rattle.md_base.specs.Tree.{Forest, Empty, Node, flatten, exiting}
 use Rattle.md_pattern.specs.Alignments.{alignments}
 use Rattle.md_steps.specs.Content.{Content, Blocks, Rows, Fits, is_allowed}
 use Rattle.md_steps.specs.Content.{content_inside, content_past, content_after_node}
 use Rattle.md_steps.proofs.Staying.{node-same}
 use Rattle.md_length.specs.Costs.{nodes}
 use Rattle.md_length.proofs.Pieces.{either-number}
-use Rattle.md_length.specs.Uses.{cells, columns_in}
-use Rattle.md_length.specs.Work.{is_row, is_column, exits, columns_after, cells as counted}
+use Rattle.md_length.specs.Uses.{cells}
+use Rattle.md_length.specs.Work.{is_column, cells as counted}
 
 -- ---- where no table stands
 abbrev pub is_inner : Content → Bool
@@ -63,22 +62,6 @@ aligned-few (Node name start end children rest) =
     grind (arith, aligned-few children, aligned-few rest, length-append)
 
 -- ---- rows after their columns are known
--- a row counts what it has
-own-row : (name : Name) (columns : List AlignKind) (k : ℕ) (end : Point) → length columns ≤ k →
-    5 * (if is GfmTableRow name then length columns else 0)
-    ≤ (if exits is_row (exiting name end) then 5 * k else 0)
-own-row name columns k end few = grind arith
-
--- the columns that are known after a node is entered that is no table
-entered-columns : (name : Name) (start : Point) (k : ℕ) → is GfmTable name ≡ false →
-    columns_after k (entering name start) ≡ (if is_column name then 1 else 0) + k
-entered-columns name start k other = grind arith
-
-pub same-columns : (columns : List AlignKind) (name : Name) (children : Forest) →
-    is GfmTable name ≡ false → columns_in columns name children ≡ columns
-same-columns columns name children other =
-    ap (λ b. if b then alignments children else columns) other
-
 pub rows-counted : (content : Content) (columns : List AlignKind) (k after : ℕ) (forest : Forest)
     (tail : List Event) → is_inner content ≡ true → Fits content forest → length columns ≤ k →
     after ≡ k + values forest →
@@ -91,13 +74,12 @@ rows-counted content columns k after (Node name start end children rest) tail in
     grind (
       arith,
       append_assoc,
-      entered-columns name start k known.0,
+      known,
       rows-counted (content_inside content name) columns begun middle children
           (exiting name end ∷ (flatten rest ++ tail)) known.1 fits.1 (omega arith) refl,
       rows-counted (content_after_node content name children) columns middle after rest tail
           (node-same is_inner past-inner content name children ∙ inner) fits.2 (omega arith)
           (omega arith),
-      own-row name columns middle end,
     )
 
 pub no-cells : (content : Content) (columns : List AlignKind) (forest : Forest) →

@@ -11,19 +11,19 @@ use Rattle.md_base.specs.declared.event.Name.TheVariants as name_variants
 use name_variants.{Definition}
 use Rattle.md_base.specs.Is.{is}
 use Rattle.md_base.specs.Children.{is_empty}
-use Rattle.md_base.specs.NameTests.{is_transparent, is_link_definition}
+use Rattle.md_base.specs.NameTests.{is_link_definition}
 use Rattle.md_base.specs.Tree.{Forest, Empty, Node, flatten, exiting}
 use Rattle.md_meaning.specs.declared.surroundings.Surroundings.{Surroundings}
-use Rattle.md_meaning.specs.Meaning.At.{Context, At, Before, Defined, target_in}
+use Rattle.md_meaning.specs.Meaning.At.{Context, Before, Defined, target_in}
 use Rattle.md_meaning.specs.Meaning.At.{identifier_of, nothing_found}
 use Rattle.md_meaning.specs.Meaning.Before.{before_children}
 use Rattle.md_meaning.specs.Meaning.Layout.{when}
-use Rattle.md_meaning.specs.Meaning.Nodes.{outcome, found_at}
+use Rattle.md_meaning.specs.Meaning.Nodes.{outcome}
 use Rattle.md_pattern.specs.Partners.{index_after, definition_entries}
 use Rattle.md_content.specs.References.{first_of}
 use Rattle.md_steps.specs.Claim.{inner_of, next_before}
 use Rattle.md_steps.specs.Content.{Content, Sources, Fits, content_inside, content_after_node}
-use Rattle.md_steps.proofs.AlikeStrings.{is_plain, plain}
+use Rattle.md_steps.proofs.AlikeStrings.{plain}
 use Rattle.md_steps.proofs.Quiet.{past-callless}
 use Rattle.md_steps.proofs.Standing.{allowed-facts, is_callless}
 use Rattle.md_steps.proofs.Staying.{node-same}
@@ -38,12 +38,6 @@ use Rattle.md_length.proofs.Strings.{around_in, strings-short}
 use Rattle.md_length.proofs.Units.{half_unit, inner_length, cost-short}
 
 -- ---- the content of a definition
--- what is kept of a node in a definition
-source-kept : (at : At) (name : Name) (text : List ℕ) (spent : ℕ) → is_plain name ≡ true →
-    6 * length text ≤ spent → (is_transparent name ≡ true → kept at.found ≤ spent) →
-    kept (found_at at name text) ≤ spent
-source-kept at name text spent is few clear = grind (arith, clear)
-
 sources-short : (context : Context) (around : Surroundings) (before : Before) (content : Content)
     (forest : Forest) →
     length context.ending ≤ 2 → is_callless content ≡ true → Fits content forest →
@@ -55,7 +49,6 @@ sources-short context around before content (Node name start end children rest) 
     let inside = ((allowed-facts content name fits.0).callless low).0 in
     grind (
       arith,
-      source-kept,
       is,
       both-kept,
       layout-short context.ending,

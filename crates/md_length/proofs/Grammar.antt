@@ -14,13 +14,9 @@ use Rattle.md_pattern.specs.declared.kinds.Symbol.{Symbol}
 use Rattle.md_pattern.specs.declared.kinds.Role.{Role}
 use Rattle.md_pattern.specs.Standing.{standing_of}
 use Rattle.md_text.specs.declared.options.CompileOptions.{CompileOptions}
-use Rattle.md_text.specs.declared.line_ending.LineEnding.{LineEnding as Ending}
-use Rattle.md_text.specs.LineEnding.{ending_text}
-use Rattle.md_tree.specs.declared.mention.Referral.{Referral}
-use Rattle.md_tree.specs.declared.mention.Referral.TheVariants as referral
 use Rattle.md_tree.specs.declared.rule.Rule.TheVariants as rule
 use Rattle.md_tree.specs.Grammar.{IsGrammatical}
-use Rattle.md_tree.specs.Rules.{place, is_line_ending, broken_by_target}
+use Rattle.md_tree.specs.Rules.{place, is_line_ending}
 use Rattle.md_pattern.specs.Shape.{inner_role, inner_before}
 use Rattle.md_meaning.specs.Meaning.{ending_at}
 use Rattle.md_meaning.specs.Meaning.At.{text_in}
@@ -33,10 +29,6 @@ use Rattle.md_content.proofs.TextsThere.{everywhere}
 use Rattle.md_length.specs.Sound.{IsSound}
 
 -- ---- targets and ranks
-media-target : (target : Referral) → broken_by_target target ≡ None →
-    target ≡ referral.Missing → ⊥
-media-target target e h = cc
-
 pub grammatical-sound : (bytes : List ℕ) (names : List (List ℕ × List ℕ)) (document : Forest) →
     IsGrammatical bytes names document → Everywhere IsSound document
 grammatical-sound bytes names document is =
@@ -47,8 +39,8 @@ grammatical-sound bytes names document is =
         (children : Forest) → IsFine bytes names around before name start end children →
         AreFine bytes names children (inner_role (standing_of name) around before)
         (inner_before (standing_of name) before) → IsSound name start end children
-    each around before Link start end children here inside = media-target _ here.1
-    each around before Image start end children here inside = media-target _ here.1
+    each around before Link start end children here inside = λ missing. cc (here.1, missing)
+    each around before Image start end children here inside = λ missing. cc (here.1, missing)
     each around before HeadingAtx start end children here inside =
         (fit bytes names HeadingAtx around before start end children here inside).1
     each around before _ start end children here inside = tt
@@ -73,16 +65,12 @@ first-few bytes Empty all = lit≤ tt
 first-few bytes (Node name start end children rest) all =
     grind (arith, first-few bytes children all.1, first-few bytes rest all.2)
 
-default-few : (ending : Ending) → length (ending_text ending) ≤ 2
-default-few ending = grind arith
-
 pub grammatical-ending : (options : CompileOptions) (bytes : List ℕ)
     (names : List (List ℕ × List ℕ)) (document : Forest) → IsGrammatical bytes names document →
     length (ending_at options bytes (first_ending document)) ≤ 2
 grammatical-ending options bytes names document is =
     grind (
       arith,
-      default-few options.default_line_ending,
       first-few bytes document (everywhere bytes names (HasShortEnding bytes) each document
           role.Flow None (fine bytes names document role.Flow None is.shape.0 is.rules)),
     )

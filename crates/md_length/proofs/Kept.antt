@@ -10,7 +10,6 @@ use Rattle.md_tree.specs.Rules.{target_of}
 use Rattle.md_meaning.specs.declared.surroundings.Surroundings.{Surroundings}
 use Rattle.md_meaning.specs.Meaning.At.{Target, Context, At, Before, Found}
 use Rattle.md_meaning.specs.Meaning.At.{target_in, identifier_of}
-use Rattle.md_meaning.specs.Meaning.Layout.{when}
 use Rattle.md_meaning.specs.Meaning.Media.{target_defined}
 use Rattle.md_meaning.specs.Meaning.Nodes.{outcome}
 use Rattle.md_length.specs.Costs.{nodes}
@@ -47,10 +46,6 @@ sum-append : (f : List ℕ → ℕ) (xs ys : List (List ℕ)) →
 sum-append f [] ys = omega arith
 sum-append f (x ∷ xs) ys = omega (arith, sum-append f xs ys)
 
-one-sum : (f : List ℕ → ℕ) (b : Bool) (identifier : List ℕ) →
-    sum_of f (when b (identifier ∷ [])) ≡ (if b then f identifier else 0)
-one-sum f b identifier = grind arith
-
 pub calls-sum : (f : List ℕ → ℕ) (context : Context) (around : Surroundings) (before : Before)
     (forest : Forest) →
     sum_of f (outcome context around before forest).calls ≡ called f context.bytes forest
@@ -59,7 +54,6 @@ calls-sum f context around before (Node name start end children rest) =
     grind (
       arith,
       sum-append,
-      one-sum,
       λ (around : Surroundings) (before : Before). calls-sum f context around before children,
       λ (around : Surroundings) (before : Before). calls-sum f context around before rest,
     )

@@ -1,5 +1,5 @@
 -- How long the texts and the tags are that nodes print, by what they read.
-use Rattle.std.proofs.Common.{ℕ, suc, ◌+◌, ◌-◌, ◌*◌, ◌≤◌, Bool, List, [], ◌∷◌, ◌++◌}
+use Rattle.std.proofs.Common.{ℕ, ◌+◌, ◌-◌, ◌*◌, ◌≤◌, Bool, List, [], ◌∷◌, ◌++◌}
 use Rattle.std.proofs.Common.{length, arith, codes, lit≤, Option, Some, None}
 use Rattle.std.specs.Option.{option_map_or}
 use Rattle.std.specs.List.{flat_map}
@@ -14,7 +14,7 @@ use Rattle.md_meaning.specs.Meaning.Blocks.{without_zeros, underline_rank}
 use Rattle.md_meaning.specs.Meaning.Media.{title_attribute, anchor, picture, autolink}
 use Rattle.md_meaning.specs.Meaning.Spans.{escaped, reference, line_ending, html, code}
 use Rattle.md_meaning.specs.Meaning.Spans.{trimmed, without_escapes}
-use Rattle.md_meaning.specs.Meaning.Tables.{cell_of, align_attribute}
+use Rattle.md_meaning.specs.Meaning.Tables.{cell_of}
 use Rattle.md_length.specs.Longest.{longest}
 use Rattle.md_length.specs.Costs.{span}
 use Rattle.md_length.specs.Uses.{weight}
@@ -23,22 +23,18 @@ use Rattle.md_length.proofs.Places.{text-short, decoded-short}
 use Rattle.md_length.proofs.Texts.{encoded-short, filtered-short, sanitized-short}
 
 -- ---- texts
-pub place-short : (bytes : List ℕ) (place : Position) →
-    length (text_in bytes place) ≤ suc (span place.start place.end)
-place-short bytes place = text-short bytes place.start place.end
-
 pub escaped-short : (context : Context) (at : At) →
     size (escaped at (text_in context.bytes at.place))
     ≤ 6 + 6 * span at.place.start at.place.end
-escaped-short context at = grind (arith, encoded-short, place-short)
+escaped-short context at = grind (arith, encoded-short, text-short)
 
 pub line_ending-short : (context : Context) (at : At) →
     size (line_ending context at) ≤ 1 + span at.place.start at.place.end
-line_ending-short context at = omega (sizes, place-short context.bytes at.place)
+line_ending-short context at = omega (sizes, text-short)
 
 pub raw-short : (context : Context) (at : At) →
     size (escaped at (html context at)) ≤ 24 + 24 * span at.place.start at.place.end
-raw-short context at = grind (arith, encoded-short, filtered-short, place-short)
+raw-short context at = grind (arith, encoded-short, filtered-short, text-short)
 
 pub reference-short : (context : Context) (at : At) →
     size (escaped at (reference context at)) ≤ 24 + 6 * longest context.names
@@ -66,7 +62,7 @@ pub autolink-short : (context : Context) (at : At) (plain : Bool) (prefix : List
 autolink-short context at plain prefix few =
     let text = text_in context.bytes at.place in
     let target : Target = record { destination = prefix ++ text; title = None } in
-    omega (sizes, anchor-short context.options target, encoded-short, place-short)
+    omega (sizes, anchor-short context.options target, encoded-short, text-short)
 
 -- ---- blocks
 pub zeros-short : (digits : List ℕ) → length (without_zeros digits) ≤ length digits
@@ -95,12 +91,9 @@ pub code-short : (at : At) (tag text : List ℕ) →
 code-short at tag text = grind (arith, trimmed-short, unescaped-short)
 
 -- ---- cells
-align-short : (kind : AlignKind) → length (align_attribute kind) ≤ 15
-align-short kind = grind arith
-
 pub cell-short : (in_head : Bool) (text : List ℕ) (found : Option AlignKind) →
     size (option_map_or (λ kind. cell_of in_head text kind) found []) ≤ 32 + length text
-cell-short in_head text found = grind (arith, align-short)
+cell-short in_head text found = grind arith
 
 pub filled-short : (in_head : Bool) (columns : List AlignKind) →
     size (flat_map (cell_of in_head []) columns) ≤ 32 * length columns

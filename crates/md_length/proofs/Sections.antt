@@ -1,9 +1,7 @@
 -- The section of footnotes is no longer than its texts and what its calls take.
 use Rattle.std.proofs.Common.{ℕ, zero, suc, ◌+◌, ◌-◌, ◌*◌, ◌^◌, ◌≤◌, ◌<◌, Bool, List, [], ◌∷◌}
-use Rattle.std.proofs.Common.{length, arith, codes, lit≤, Option, string_bytes}
-use Rattle.std.specs.Prelude.{filter, String}
-use Rattle.std.specs.declared.alloc.Global.{Global}
-use Rattle.std.specs.Option.{option_map_or}
+use Rattle.std.proofs.Common.{length, arith, codes, lit≤}
+use Rattle.std.specs.Prelude.{filter}
 use Rattle.std.specs.List.{flat_map}
 use Rattle.std.proofs.lemmas.List.{length-take, length-drop}
 use Rattle.md_text.specs.declared.options.CompileOptions.{CompileOptions}
@@ -12,7 +10,6 @@ use Rattle.md_meaning.specs.Meaning.Footnotes.{distinct, place_among, count_of, 
 use Rattle.md_meaning.specs.Meaning.Footnotes.{backreferences, body, item, section_start, section}
 use Rattle.md_meaning.proofs.Identifiers.{distinct-apart}
 use Rattle.md_length.specs.Uses.{back_cost, item_cost, sum_of}
-use Rattle.md_length.specs.Reuse.{option_length}
 use Rattle.md_length.specs.Bound.{for_document}
 use Rattle.md_length.proofs.Calls.{id-short, call_id-short, option-short, decimal-short, number-few}
 use Rattle.md_length.proofs.Calls.{count-few}
@@ -74,14 +71,9 @@ distinct-sum : (f : List ℕ → ℕ) (calls : List (List ℕ)) →
 distinct-sum f [] = omega arith
 distinct-sum f (call ∷ calls) = grind (arith, filter-sum, distinct-sum f calls)
 
-attributes-short : (attributes : Option (String Global)) →
-    length (option_map_or string_bytes attributes (codes "class=\"sr-only\""))
-    ≤ 16 + option_length attributes
-attributes-short attributes = grind arith
-
 start-short : (options : CompileOptions) →
     size (section_start options) ≤ for_document options - 32
-start-short options = grind (arith, option-short, attributes-short)
+start-short options = grind (arith, option-short)
 
 -- the section, for its calls and its footnotes
 pub section-short : (context : Context) (footnotes : List Footnote) → length context.calls < 2 ^

@@ -1,9 +1,8 @@
 -- What stands in a destination or a title prints little: seven times what it prints is no longer
 -- than its nodes may print.
 use Rattle.std.proofs.Common.{◌≡◌, ℕ, ◌+◌, ◌*◌, ◌≤◌, true, List, [], ◌∷◌, ◌++◌}
-use Rattle.std.proofs.Common.{length, arith, ◌∙◌, false}
+use Rattle.std.proofs.Common.{length, arith, ◌∙◌}
 use Rattle.md_base.specs.declared.event.Name.{Name}
-use Rattle.md_base.specs.declared.event.Name.TheVariants.{GfmFootnoteDefinition}
 use Rattle.md_base.specs.Is.{is}
 use Rattle.md_base.specs.Tree.{Forest, Empty, Node}
 use Rattle.md_meaning.specs.declared.surroundings.Surroundings.{Surroundings}
@@ -33,9 +32,6 @@ plain-short : (context : Context) (at : At) (inner : List Piece) (name : Name) �
     ≤ size inner + (24 + 6 * longest context.names + 6 * own name at.place)
 plain-short context at inner name is = grind (arith, escaped-short, reference-short, line_ending-short)
 
-not-noted : (name : Name) → is_plain name ≡ true → is GfmFootnoteDefinition name ≡ false
-not-noted name h = grind arith
-
 -- the lengths of the texts of footnotes
 abbrev pub notes : List Footnote → ℕ
 notes [] = 0
@@ -59,7 +55,6 @@ strings-short context around before c (Node name start end children rest) string
       notes-append,
       is,
       plain-short,
-      not-noted name is,
       λ (around : Surroundings) (before : Before).
           strings-short context around before (content_inside c name) children inside fits.1,
       λ (around : Surroundings) (before : Before).

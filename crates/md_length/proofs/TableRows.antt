@@ -145,15 +145,13 @@ table-rows columns (Node name start end children rest) around before k after tai
     let rest_fits = next-rows name children rest fits.2 in
     let sum = length-append own_columns (alignments rest) in
     let aligned = aligned-node name children in
-    let split = ap (λ events. counted k (entering name start ∷ events))
-    (append_assoc (flatten children) (exiting name end ∷ flatten rest) tail) in
-    elim parts.1 [
+    let split = append_assoc (flatten children) (exiting name end ∷ flatten rest) tail in
+    rw split (elim parts.1 [
       | inl silent ↦
           let none = ap (paid n) silent.0 in
           let later = ap (λ xs. paid n (xs ++ spine rest)) silent.0 in
           omega (
             arith,
-            split,
             none,
             later,
             here (omega (arith, none)) inner,
@@ -165,13 +163,12 @@ table-rows columns (Node name start end children rest) around before k after tai
           let all = begun.0 n in
           omega (
             arith,
-            split,
             all,
             here (omega (arith, all, few, sum, none)) inner,
             rows-counted Rows columns next after rest tail refl rest_fits
                 (omega (arith, all, few, sum, none, aligned)) (omega arith),
           )
-    ]
+    ])
   where
     own : (name : Name) → is_allowed Rows name ≡ true → Fits (content_inside Rows name) children →
         AreShaped children (inner_role (standing_of name) around before)
