@@ -58,24 +58,14 @@ head-rows : (columns : List AlignKind) (forest : Forest) (around : Role) (before
 head-rows columns Empty around before fits shaped h = omega arith
 head-rows columns (Node name start end children rest) around before fits shaped h =
     let parts = all-parts in_head (shows name children) (spine rest) h in
-    omega (
+    grind (
       arith,
       for_rows-append,
-      own name fits.0 fits.1 shaped.0.1 parts.0
-          (λ inside. head-rows columns children _ _ inside shaped.1),
+      parts,
+      no-cells (content_inside Rows name) columns children,
+      λ (inside : Fits Rows children). head-rows columns children _ _ inside shaped.1,
       head-rows columns rest _ _ (next-rows name children rest fits.2) shaped.2 parts.1,
     )
-  where
-    own : (name : Name) → is_allowed Rows name ≡ true → Fits (content_inside Rows name) children →
-        IsStanding (standing_of name) around before children →
-        list_all in_head (shows name children) ≡ true →
-        (Fits Rows children → list_all in_head (spine children) ≡ true →
-        cells columns children ≤ for_rows (length columns) (spine children)) →
-        (if is GfmTableRow name then length columns else 0)
-        + cells (columns_in columns name children) children
-        ≤ for_rows (length columns) (shows name children)
-    own name may inside stands h inner =
-        grind (arith, inner, no-cells (content_inside Rows name) columns children)
 
 -- ---- the rows of a table
 -- after a head no columns follow
@@ -87,17 +77,10 @@ none-aligned (Node name start end children rest) around before fits shaped h =
     let parts = all-parts in_table (shows name children) (spine rest) h in
     grind (
       arith,
+      parts,
+      λ (inside : Fits Rows children). none-aligned children _ _ inside shaped.1,
       none-aligned rest _ _ (next-rows name children rest fits.2) shaped.2 parts.1,
-      own name fits.0 fits.1 shaped.0.1 parts.0
-          (λ inside. none-aligned children _ _ inside shaped.1),
     )
-  where
-    own : (name : Name) → is_allowed Rows name ≡ true → Fits (content_inside Rows name) children →
-        IsStanding (standing_of name) around before children →
-        list_all in_table (shows name children) ≡ true →
-        (Fits Rows children → list_all in_table (spine children) ≡ true →
-        alignments children ≡ []) → own_alignments name children ≡ []
-    own name may inside stands h inner = grind (arith, inner)
 
 aligned-node : (name : Name) (children : Forest) → length (own_alignments name children)
     ≤ (if is_column name then 1 else 0) + values children
