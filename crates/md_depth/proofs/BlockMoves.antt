@@ -1,13 +1,12 @@
 -- Blocks leave no element open, and open two at most beside what their children open.
-use Rattle.std.specs.List.{list_all, list_any, flat_map}
+use Rattle.std.specs.List.{list_any, flat_map}
 use Rattle.std.proofs.Common.{◌≡◌, ℕ, ◌+◌, ◌≤◌, zero, suc, Bool, true, not, cond, List, []}
 use Rattle.std.proofs.Common.{◌∷◌, ◌++◌, refl, arith, codes, drop}
-use Rattle.std.specs.Prelude.{Option, Some, None, bytes_eq, count_by, slice_get}
+use Rattle.std.specs.Prelude.{Some, None, bytes_eq, count_by, slice_get}
 use Rattle.std.specs.Option.{option_map_or}
 use Rattle.std.specs.Fmt.{digits}
 use Rattle.md_base.proofs.Lies.{lie}
 use Rattle.md_base.specs.declared.event.AlignKind.{AlignKind}
-use Rattle.md_base.specs.declared.event.Position.{Position}
 use Rattle.md_base.specs.declared.event.Name.{Name}
 use Rattle.md_base.specs.declared.event.Name.TheVariants as name_variants
 use name_variants.{BlockQuote, ListOrdered, ListUnordered, ListItem, Paragraph, ThematicBreak}
@@ -16,7 +15,7 @@ use name_variants.{HtmlFlow, GfmTable, GfmTableHead, GfmTableBody, GfmTableRow, 
 use Rattle.md_base.specs.Is.{is as named}
 use Rattle.md_base.specs.Children.{spine_names}
 use Rattle.md_base.specs.NameTests.{is_chunk}
-use Rattle.md_text.proofs.HtmlNames.{no_angle, escaped-angle}
+use Rattle.md_text.proofs.HtmlNames.{escaped-angle}
 use Rattle.md_text.proofs.HtmlAngles.{all-append}
 use Rattle.md_meaning.specs.Meaning.At.{At, text_in}
 use Rattle.md_meaning.specs.Meaning.Inherited.{is_tight}
@@ -29,10 +28,10 @@ use Rattle.md_meaning.specs.Meaning.Blocks.{is_unclosed, fenced}
 use Rattle.md_meaning.specs.Meaning.Spans.{is_at}
 use Rattle.md_meaning.specs.Meaning.Tables.{align_attribute, cell_of}
 use Rattle.md_content.specs.Underlined.{is_underline}
-use Rattle.md_content.specs.Built.{Blocks, is_digit}
+use Rattle.md_content.specs.Built.{Blocks}
 use Rattle.md_safe.proofs.Texts.{Escaped, zeros-escaped}
 use Rattle.md_safe.proofs.Laid.{adds-weaker}
-use Rattle.md_safe.proofs.RawElements.{IsRaw, IsInfo, code_tag, math_tag}
+use Rattle.md_safe.proofs.RawElements.{IsRaw, code_tag, math_tag}
 use Rattle.md_safe.proofs.Spot.{Setting, IsFitAt, Prints, Inside}
 use Rattle.md_safe.proofs.FlowNodes.{is_flow, setext-fits}
 use Rattle.md_safe.proofs.BlockNodes.{is_tabular}
@@ -67,15 +66,7 @@ heading-moves rank h room low high a =
 
 -- ---- lists
 
-digits_of : (bytes : List ℕ) (found : Option Position) →
-    option_map_or (λ place. list_all is_digit (text_in bytes place)) found true ≡ true →
-    list_all is_digit (option_map_or (text_in bytes) found (codes "1")) ≡ true
-digits_of bytes found fits = grind arith
-
 -- ---- code
-
-info-quiet : (tag x : List ℕ) → IsInfo tag x → list_all no_angle x ≡ true
-info-quiet tag x info = grind (arith, all-append, escaped-angle)
 
 code-opens : {e : List ℕ} {n : ℕ} → suc 1 ≤ n → (second : List ℕ) → IsOpening second →
     Moves e n 0 2 (Text (codes "<pre>" ++ second) ∷ [])
@@ -98,9 +89,7 @@ fenced-moves : (s : Setting) (t : At) (n : ℕ) → suc 1 ≤ n → (tag second 
 fenced-moves s t n room tag second is opens inner a =
     let e : List ℕ = s.context.ending in
     let inside : Moves e n 2 2 inner =
-    adds-quiet inner (adds-weaker (λ x raw. rw raw.whole (all-append raw.attributes
-    (62 ∷ raw.body) (info-quiet tag raw.attributes raw.info)
-    (escaped-angle raw.body raw.escaped))) a) in
+    adds-quiet inner (adds-weaker (λ x raw. grind (arith, all-append, escaped-angle, raw)) a) in
     let first : Moves e n 0 2 (Text tag ∷ []) = rw is (code-opens room second opens) in
     (needed s.ending ▸ first) ▸ inside ▸ choose (runs_out t) (forced s.ending) none
     ▸ end-moves t s.ending ▸ choose (is_unclosed t) (needed s.ending) none
@@ -120,7 +109,7 @@ flow-moves s t m n room ListOrdered is fit head inner a below =
     let first : List ℕ =
     option_map_or (text_in s.context.bytes) (number_in_list t.children) (codes "1") in
     let number : Escaped (without_zeros first) =
-    zeros-escaped first (digits_of s.context.bytes (number_in_list t.children) fit) in
+    zeros-escaped first (grind (arith, fit)) in
     open_line (codes "<ol") s.ending (λ l t. refl) (omega arith)
     ▸ choose (not (bytes_eq (without_zeros first) (codes "1"))) (part (codes " start=\"") refl
     ▸ plain (without_zeros first) number ▸ part (codes "\"") refl) none
@@ -162,14 +151,11 @@ flow-moves s t m n room _ is fit head inner a below = lie is
 
 -- ---- tables
 
-align-quiet : (kind : AlignKind) → list_all no_angle (align_attribute kind) ≡ true
-align-quiet kind = grind arith
-
 cell-moves : {e : List ℕ} {n a k : ℕ} {x : List ℕ} → Escaped e → (in_head : Bool) →
     Leads 0 0 k x → suc (a + k) ≤ n → (kind : AlignKind) → Moves e n a a (cell_of in_head x kind)
 cell-moves h in_head f room kind =
     open_line (cond in_head (codes "<th") (codes "<td")) h (λ l t. grind arith) (omega arith)
-    ▸ part (align_attribute kind) (align-quiet kind)
+    ▸ part (align_attribute kind) (grind arith)
     ▸ part (codes ">") refl ▸ kept f (omega arith)
     ▸ close_tag (cond in_head (codes "</th>") (codes "</td>")) (λ l t. grind arith)
 

@@ -24,7 +24,7 @@ use Rattle.md_safe.proofs.Nodes.{not_part}
 use Rattle.md_safe.proofs.Findings.{AreFound}
 use Rattle.md_safe.proofs.Forests.{Ready, Means, ready-inside, ready-after, means, found-at}
 use Rattle.md_safe.proofs.Forests.{inside-means}
-use Rattle.md_safe.proofs.Spot.{Setting, Inside}
+use Rattle.md_safe.proofs.Spot.{Setting}
 use Rattle.md_safe.proofs.Costs.{Document, read_in, Place, here_of, inner_around, inner_before}
 use Rattle.md_safe.proofs.Costs.{inner_of, at_of, place_at, through-node}
 use Rattle.md_safe.proofs.PlainCosts.{no_footnotes}
@@ -85,10 +85,6 @@ own d p name = record {
   text = layout d.context.ending (inner_of d p name).pieces;
 }
 
-footnote-blocks : (name : Name) → named GfmFootnoteDefinition name ≡ true →
-    is_blocks (content_of name Blocks) ≡ true
-footnote-blocks name is = grind arith
-
 -- a transparent node has the meaning of its children
 through : (d : Document) (p : Place) (name : Name) (n : ℕ) → is_transparent name ≡ true →
     Opens d n (inner_of d p name) → Opens d n (here_of d p name)
@@ -112,19 +108,18 @@ solid d p name n e room built ready waits known below =
     let t : At = at_of d p name in
     let inner : Outcome = inner_of d p name in
     let stands = second (is_transparent name) (may_stand Blocks name) e built.0 in
-    let a : Inside s t Blocks name inner.pieces = inside-means t Blocks name e built.0 built.1
-    built.2 known in
     record {
       prints = node-moves s t (n - 2) n room name (ready.suits.escaped refl) e
           (not_part (is_part name || is_source name) stands) built.1
-          (λ _. (n - 1, omega arith, waits)) known.found.resource inner.pieces a
+          (λ _. (n - 1, omega arith, waits)) known.found.resource inner.pieces
+          (inside-means t Blocks name e built.0 built.1 built.2 known)
           (λ is. (below is).prints);
       heading = heading-here t name n (layout d.context.ending inner.pieces) e (λ is.
           leads-kept (laid (below is).prints) (omega arith));
       texts = texts-append n inner.footnotes (when (named GfmFootnoteDefinition name)
           (own d p name ∷ [])) (inside (is_blocks (content_of name Blocks)) refl) (cond_both
           (named GfmFootnoteDefinition name) (own d p name ∷ []) [] (TextsLead n) (λ is. (
-            leads-kept (laid (below (footnote-blocks name is)).prints) (omega arith),
+            leads-kept (laid (below (grind arith)).prints) (omega arith),
             tt,
           )) (λ _. tt));
     }

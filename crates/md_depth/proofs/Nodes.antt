@@ -3,8 +3,6 @@ use Rattle.std.proofs.Common.{◌≡◌, ℕ, ◌+◌, ◌-◌, ◌≤◌, suc, 
 use Rattle.std.proofs.Common.{append_assoc, arith}
 use Rattle.std.proofs.lemmas.List.{append-nil}
 use Rattle.md_base.specs.declared.event.Event.{Event}
-use Rattle.md_base.specs.declared.event.Name.{Name}
-use Rattle.md_base.specs.declared.event.Point.{Point}
 use Rattle.md_base.specs.Tree.{Forest, Empty, Node, flatten, exiting}
 use Rattle.md_depth.specs.Depth.{opened_after, deepest, depth, height}
 
@@ -18,11 +16,6 @@ pub one-more : (most opened : ℕ) (event : Event) (following : List Event) → 
     max (max most (opened_after opened event)) (deepest (opened_after opened event) following)
     ≡ max most (deepest opened (event ∷ following))
 one-more most opened event following few = grind (arith, open_counts)
-
--- after a node that many nodes are open again
-left : (name : Name) (end : Point) (opened : ℕ) (events : List Event) →
-    deepest (suc opened) (exiting name end ∷ events) ≡ max (suc opened) (deepest opened events)
-left name end opened events = grind arith
 
 -- nodes among events
 nests : (nodes : Forest) (opened : ℕ) (events : List Event) →

@@ -1,7 +1,7 @@
 -- The section of footnotes leaves no element open, and opens five at most beside what the texts of
 -- footnotes open.
 use Rattle.std.proofs.Common.{◌≡◌, ℕ, ◌+◌, ◌-◌, ◌≤◌, ◌==◌, zero, suc, true, not}
-use Rattle.std.proofs.Common.{List, [], ◌∷◌, ◌++◌, length, take, drop, refl, ap, sym, ◌∙◌, subst}
+use Rattle.std.proofs.Common.{List, [], ◌∷◌, ◌++◌, length, take, drop, refl, ap, sym, ◌∙◌}
 use Rattle.std.proofs.Common.{arith, append_assoc, codes, length-drop}
 use Rattle.std.specs.Prelude.{None, option_map, bytes_eq, string_bytes}
 use Rattle.std.specs.List.{flat_map}
@@ -32,11 +32,6 @@ use Rattle.md_depth.proofs.ForestMoves.{TextsLead}
 
 -- ---- the ways back
 
-back-escaped : (options : CompileOptions) →
-    Escaped (option_or (option_map string_bytes options.gfm_footnote_back_label)
-    (codes "Back to content"))
-back-escaped options = grind (arith, is_escaped-encoded)
-
 back-leads : (options : CompileOptions) (identifier : List ℕ) (number occurrence : ℕ) →
     Leads 0 0 2 (backreference options identifier number occurrence)
 back-leads options identifier number occurrence =
@@ -46,7 +41,7 @@ back-leads options identifier number occurrence =
     leads-open (codes "<a href=\"#") (λ l t. refl) (omega arith)
     ▹ leads-quiet id (escaped-angle id (call_id-escaped options identifier number occurrence))
     ▹ leads-quiet (codes "\" data-footnote-backref=\"\" aria-label=\"") refl
-    ▹ leads-quiet label (escaped-angle label (back-escaped options))
+    ▹ leads-quiet label (escaped-angle label (grind (arith, is_escaped-encoded)))
     ▹ leads-quiet (codes "\" class=\"data-footnote-backref\">") refl
     ▹ leads-quiet (226 ∷ 134 ∷ 169 ∷ []) refl
     ▹ leads-either (occurrence == 1) (leads-quiet [] refl)
@@ -65,9 +60,6 @@ backs-lead options identifier number (suc count) =
     ▹ back-leads options identifier number (suc count)
 
 -- ---- a footnote's text with the ways back
-
-spaced : (back : List ℕ) → Leads 0 0 2 back → Leads 0 0 2 (32 ∷ back)
-spaced back f = leads-quiet (32 ∷ []) refl ▹ f
 
 -- where a paragraph ends it, its end tag is cut off whole
 cut-off : (x : List ℕ) →
@@ -94,7 +86,7 @@ body-moves e n a k h x back f g room =
           let whole : x ≡ y ++ (60 ∷ z.0) =
           sym (take-append-drop end x) ∙ ap (λ z. y ++ z) z.1 in
           let put : Moves e n a a (Text (y ++ ((32 ∷ back) ++ (60 ∷ z.0))) ∷ []) =
-          kept (leads-put k 2 y (32 ∷ back) z.0 (subst (Leads 0 0 k) whole f) (spaced back g))
+          kept (leads-put k 2 y (32 ∷ back) z.0 (rw whole at f) (leads-quiet (32 ∷ []) refl ▹ g))
           room in
           rw (is, z.1) (record {
             moves = λ s text l t few before. simp append_assoc (put.moves s text l t few before);

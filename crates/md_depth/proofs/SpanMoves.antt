@@ -1,5 +1,4 @@
 -- Spans leave no element open, and open two at most beside what their children open.
-use Rattle.std.specs.List.{list_all}
 use Rattle.std.proofs.Common.{◌≡◌, ℕ, ◌≤◌, suc, Bool, true, not, cond}
 use Rattle.std.proofs.Common.{List, [], ◌∷◌, ◌++◌, refl, inl, inr, arith, codes}
 use Rattle.std.specs.Prelude.{Option, Some, None}
@@ -15,7 +14,6 @@ use name_variants.{GfmAutolinkLiteralXmpp}
 use Rattle.md_text.specs.declared.options.CompileOptions.{CompileOptions}
 use Rattle.md_text.specs.Encode.{encoded}
 use Rattle.md_text.specs.Url.{link_protocols, image_protocols}
-use Rattle.md_text.proofs.HtmlNames.{no_angle}
 use Rattle.md_text.proofs.EncodeLaws.{is_escaped-encoded}
 use Rattle.md_text.proofs.EscapedLemmas.{sanitized-escaped, sanitized_with-escaped}
 use Rattle.md_meaning.specs.Meaning.At.{Target, At, text_in, identifier_of}
@@ -118,15 +116,12 @@ call-moves e m n room options identifier number occurrence =
     ▸ moves.text (leads-close (codes "</a>") (λ l t. refl)
     ▹ leads-close (codes "</sup>") (λ l t. refl))
 
-done-quiet : (in_image : Bool) (x : List ℕ) → IsDone in_image x → list_all no_angle x ≡ true
-done-quiet in_image x done = grind arith
-
 task-moves : (s : Setting) (t : At) (m n : ℕ) → Room m n → (inner : List Piece) →
     Prints s (IsDone t.around.in_image) inner →
     Moves s.context.ending n 0 0 (span t (task_start s.context) inner (said (codes "/>")))
 task-moves s t m n room inner a =
     let mark : Moves s.context.ending n 0 0 inner =
-    adds-quiet inner (adds-weaker (done-quiet t.around.in_image) a) in
+    adds-quiet inner (adds-weaker (λ x done. grind arith) a) in
     choose t.around.in_image mark
     ((void_tag (codes "<input type=\"checkbox\" ") (λ l t. refl) (omega arith)
     ▸ choose (not s.context.options.gfm_task_list_item_checkable)
