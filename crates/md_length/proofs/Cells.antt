@@ -6,14 +6,13 @@ use Rattle.std.specs.Prelude.{if◌then◌else◌}
 use Rattle.std.proofs.lemmas.List.{length-append}
 use Rattle.md_base.specs.declared.event.AlignKind.{AlignKind}
 use Rattle.md_base.specs.declared.event.Event.{Event}
-use Rattle.md_base.specs.declared.event.Name.{Name}
 use Rattle.md_base.specs.declared.event.Name.TheVariants as name_variants
-use name_variants.{GfmTable, GfmTableRow}
+use name_variants.{GfmTable}
 use Rattle.md_base.specs.Is.{is}
 use Rattle.md_base.specs.Tree.{Forest, Empty, Node, flatten, exiting}
 use Rattle.md_pattern.specs.Alignments.{alignments}
-use Rattle.md_steps.specs.Content.{Content, Blocks, Rows, Fits, is_allowed}
-use Rattle.md_steps.specs.Content.{content_inside, content_past, content_after_node}
+use Rattle.md_steps.specs.Content.{Content, Blocks, Rows, Fits}
+use Rattle.md_steps.specs.Content.{content_inside, content_after_node}
 use Rattle.md_steps.proofs.Staying.{node-same}
 use Rattle.md_length.specs.Costs.{nodes}
 use Rattle.md_length.proofs.Pieces.{either-number}
@@ -27,23 +26,6 @@ is_inner content = elim content [ Blocks ↦ false | _ ↦ true ]
 -- and no row
 abbrev pub is_rowless : Content → Bool
 is_rowless content = elim content [ Blocks ↦ false | Rows ↦ false | _ ↦ true ]
-
-past-inner : (content : Content) → is_inner (content_past content) ≡ is_inner content
-past-inner content = grind arith
-
-past-rowless : (content : Content) → is_rowless (content_past content) ≡ is_rowless content
-past-rowless content = grind arith
-
-inner-name : (content : Content) (name : Name) → is_inner content ≡ true →
-    is_allowed content name ≡ true →
-    (is GfmTable name ≡ false) × (is_inner (content_inside content name) ≡ true)
-inner-name content name h may = grind arith
-
-rowless-name : (content : Content) (name : Name) → is_rowless content ≡ true →
-    is_allowed content name ≡ true →
-    (is GfmTable name ≡ false) × (is GfmTableRow name ≡ false)
-    × (is_rowless (content_inside content name) ≡ true)
-rowless-name content name h may = grind arith
 
 -- ---- how many columns are entered
 abbrev pub values : Forest → ℕ
@@ -68,7 +50,8 @@ pub rows-counted : (content : Content) (columns : List AlignKind) (k after : ℕ
     5 * cells columns forest + counted after tail ≤ counted k (flatten forest ++ tail)
 rows-counted content columns k after Empty tail inner fits few e = grind arith
 rows-counted content columns k after (Node name start end children rest) tail inner fits few e =
-    let known = inner-name content name inner fits.0 in
+    let known : (is GfmTable name ≡ false) × (is_inner (content_inside content name) ≡ true) =
+    grind arith in
     let begun : ℕ = (if is_column name then 1 else 0) + k in
     let middle : ℕ = begun + values children in
     grind (
@@ -78,7 +61,7 @@ rows-counted content columns k after (Node name start end children rest) tail in
       rows-counted (content_inside content name) columns begun middle children
           (exiting name end ∷ (flatten rest ++ tail)) known.1 fits.1 (omega arith) refl,
       rows-counted (content_after_node content name children) columns middle after rest tail
-          (node-same is_inner past-inner content name children ∙ inner) fits.2 (omega arith)
+          (node-same is_inner (λ content. grind arith) content name children ∙ inner) fits.2 (omega arith)
           (omega arith),
     )
 
@@ -86,10 +69,10 @@ pub no-cells : (content : Content) (columns : List AlignKind) (forest : Forest) 
     is_rowless content ≡ true → Fits content forest → cells columns forest ≡ 0
 no-cells content columns Empty h fits = refl
 no-cells content columns (Node name start end children rest) h fits =
-    let known = rowless-name content name h fits.0 in
+    let inside : is_rowless (content_inside content name) ≡ true = grind arith in
     grind (
       arith,
-      no-cells (content_inside content name) columns children known.2 fits.1,
+      no-cells (content_inside content name) columns children inside fits.1,
       no-cells (content_after_node content name children) columns rest
-          (node-same is_rowless past-rowless content name children ∙ h) fits.2,
+          (node-same is_rowless (λ content. grind arith) content name children ∙ h) fits.2,
     )

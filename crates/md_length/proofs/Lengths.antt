@@ -40,9 +40,6 @@ abbrev AtLeast : Bool → ℕ → ℕ → Type 0
 AtLeast true most few = most ≡ few
 AtLeast false most few = few ≤ most
 
-same-at_least : (forward : Bool) (most few : ℕ) → most ≡ few → AtLeast forward most few
-same-at_least forward most few e = grind arith
-
 -- a way over a place between, as often as it is gone
 way : (forward : Bool) (depth a b c : ℕ) → (forward ≡ true → (a ≤ b) × (b ≤ c)) →
     AtLeast forward (depth * (b - a) + depth * (c - b)) (depth * (c - a))
@@ -94,7 +91,7 @@ nodes-read : (forward : Bool) (forest : Forest) (index depth : ℕ) (after : Lis
     (forward ≡ true → GoesForward index (flatten forest ++ after)) →
     IsRead forward forest index depth after
 nodes-read forward Empty index depth after goes = record {
-  read = same-at_least forward _ _ (grind (arith, mul-zero));
+  read = grind (arith, mul-zero);
   ordered = λ e. (omega arith, goes e);
 }
 nodes-read forward (Node name start end children rest) index depth after goes =

@@ -13,7 +13,7 @@ use Rattle.md_meaning.specs.Meaning.At.{Target, Context, At, text_in}
 use Rattle.md_meaning.specs.Meaning.Blocks.{without_zeros, underline_rank}
 use Rattle.md_meaning.specs.Meaning.Media.{title_attribute, anchor, picture, autolink}
 use Rattle.md_meaning.specs.Meaning.Spans.{escaped, reference, line_ending, html, code}
-use Rattle.md_meaning.specs.Meaning.Spans.{trimmed, without_escapes}
+use Rattle.md_meaning.specs.Meaning.Spans.{without_escapes}
 use Rattle.md_meaning.specs.Meaning.Tables.{cell_of}
 use Rattle.md_length.specs.Longest.{longest}
 use Rattle.md_length.specs.Costs.{span}
@@ -79,16 +79,13 @@ pub rank-one : (context : Context) (at : At) → length (decimal (underline_rank
 rank-one context at = grind (arith, length-decimal-le)
 
 -- ---- code
-trimmed-short : (text : List ℕ) → length (trimmed text) ≤ length text
-trimmed-short text = omega (sizes, length-take {A = ℕ}, length-drop {A = ℕ})
-
 unescaped-short : (text : List ℕ) → length (without_escapes text) ≤ length text
 unescaped-short [] = omega arith
 unescaped-short (byte ∷ bytes) = omega (sizes, unescaped-short bytes)
 
 pub code-short : (at : At) (tag text : List ℕ) →
     size (code at tag text) ≤ length tag + length text + 7
-code-short at tag text = grind (arith, trimmed-short, unescaped-short)
+code-short at tag text = grind (sizes, length-take, length-drop, unescaped-short)
 
 -- ---- cells
 pub cell-short : (in_head : Bool) (text : List ℕ) (found : Option AlignKind) →

@@ -6,7 +6,7 @@ use Rattle.std.specs.List.{flat_map}
 use Rattle.std.proofs.lemmas.List.{length-take, length-drop}
 use Rattle.md_text.specs.declared.options.CompileOptions.{CompileOptions}
 use Rattle.md_meaning.specs.Meaning.At.{Footnote, Context}
-use Rattle.md_meaning.specs.Meaning.Footnotes.{distinct, place_among, count_of, backreference}
+use Rattle.md_meaning.specs.Meaning.Footnotes.{distinct, place_among, count_of}
 use Rattle.md_meaning.specs.Meaning.Footnotes.{backreferences, body, item, section_start, section}
 use Rattle.md_meaning.proofs.Identifiers.{distinct-apart}
 use Rattle.md_length.specs.Uses.{back_cost, item_cost, sum_of}
@@ -18,19 +18,19 @@ use Rattle.md_length.proofs.Strings.{notes}
 use Rattle.md_length.proofs.Sums.{counted, first_text, texts-once}
 
 -- ---- a footnote
-backreference-short : (options : CompileOptions) (identifier : List ℕ) (number occurrence : ℕ) →
-    number < 2 ^ 64 → occurrence < 2 ^ 64 →
-    length (backreference options identifier number occurrence) + 1 ≤ back_cost options identifier
-backreference-short options identifier number occurrence few rare =
-    grind (sizes, decimal-short, option-short, call_id-short)
-
 backs-short : (options : CompileOptions) (identifier : List ℕ) (number count : ℕ) →
     number < 2 ^ 64 → count < 2 ^ 63 →
     length (backreferences options identifier number count)
     ≤ count * back_cost options identifier
 backs-short options identifier number zero few rare = omega arith
 backs-short options identifier number (suc count) few rare =
-    grind (sizes, backs-short options identifier number count few, backreference-short)
+    grind (
+      sizes,
+      backs-short options identifier number count few,
+      decimal-short,
+      option-short,
+      call_id-short,
+    )
 
 body-short : (text back : List ℕ) → size (body text back) ≤ length text + 2 + length back
 body-short text back = omega (sizes, length-take {A = ℕ}, length-drop {A = ℕ})

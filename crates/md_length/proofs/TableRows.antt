@@ -82,17 +82,10 @@ none-aligned (Node name start end children rest) around before fits shaped h =
       none-aligned rest _ _ (next-rows name children rest fits.2) shaped.2 parts.1,
     )
 
-aligned-node : (name : Name) (children : Forest) → length (own_alignments name children)
-    ≤ (if is_column name then 1 else 0) + values children
-aligned-node name children = grind (arith, aligned-few)
-
 -- an amount once, if the head has come
 abbrev paid : ℕ → List Symbol → ℕ
 paid amount [] = 0
 paid amount (seen ∷ symbols) = amount
-
-paid-most : (amount : ℕ) (symbols : List Symbol) → paid amount symbols ≤ amount
-paid-most amount symbols = grind arith
 
 -- with the first symbols nothing has come, or the head, and then only what comes after it follows
 abbrev Comes : List Symbol → List Symbol → Type 0
@@ -127,7 +120,8 @@ table-rows columns (Node name start end children rest) around before k after tai
     let here = own name fits.0 fits.1 shaped.1 shaped.0.1 parts.0 in
     let rest_fits = next-rows name children rest fits.2 in
     let sum = length-append own_columns (alignments rest) in
-    let aligned = aligned-node name children in
+    let aligned : length own_columns ≤ (if is_column name then 1 else 0) + values children =
+    grind (arith, aligned-few) in
     let split = append_assoc (flatten children) (exiting name end ∷ flatten rest) tail in
     rw split (elim parts.1 [
       | inl silent ↦
@@ -199,4 +193,4 @@ pub cells-of-table : (children : Forest) (before : Option Symbol) (tail : List E
     5 * cells (alignments children) children + counted (values children) tail
     ≤ counted 0 (flatten children ++ tail) + 5 * values children
 cells-of-table children before tail fits shaped matches =
-    grind (arith, paid-most, table-rows, table-ordered, aligned-few)
+    grind (arith, table-rows, table-ordered, aligned-few)
