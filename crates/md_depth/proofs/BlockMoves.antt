@@ -108,11 +108,10 @@ flow-moves s t m n room BlockQuote is fit head inner a below =
 flow-moves s t m n room ListOrdered is fit head inner a below =
     let first : List ℕ =
     option_map_or (text_in s.context.bytes) (number_in_list t.children) (codes "1") in
-    let number : Escaped (without_zeros first) =
-    zeros-escaped first (grind (arith, fit)) in
     open_line (codes "<ol") s.ending (λ l t. refl) (omega arith)
     ▸ choose (not (bytes_eq (without_zeros first) (codes "1"))) (part (codes " start=\"") refl
-    ▸ plain (without_zeros first) number ▸ part (codes "\"") refl) none
+    ▸ plain (without_zeros first) (zeros-escaped first (grind (arith, fit)))
+    ▸ part (codes "\"") refl) none
     ▸ part (codes ">") refl ▸ more (omega arith) (below refl)
     ▸ forced s.ending ▸ close_tag (codes "</ol>") (λ l t. refl)
 flow-moves s t m n room ListUnordered is fit head inner a below =

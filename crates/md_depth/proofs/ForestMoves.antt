@@ -167,7 +167,8 @@ opens d (Node name start end children rest) around before n f =
           through d p name n e (below n (omega (arith, f.room)) (rw e f.waits) (ap kind e))
       | inr e ↦
           solid d p name n e (omega (arith, f.room)) f.built f.ready f.waits known
-          (λ is. below (n - 2) (omega (arith, f.room)) (rw e (leads-quiet [] refl)) (ap kind e ∙ is))
+          (λ is. below (n - 2) (omega (arith, f.room)) (rw e (leads-quiet [] refl))
+          (ap kind e ∙ is))
     ] in
     let later : Opens d n others = opens d rest around next n (record {
       built = rw (after-blocks name children) at f.built.3;

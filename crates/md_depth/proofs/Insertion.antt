@@ -60,7 +60,7 @@ leads-put n k y w z f g = record {
       let most : here.top ≡ low =
       omega (arith, top-grows begun y, top-grows here (60 ∷ z), all) in
       let level : here.level ≤ low = omega (arith, below-top begun y (omega arith), most) in
-      let is : here ≡ at here.level low = state here out most in
+      let is : here ≡ at here.level low = grind (arith, out, most) in
       let first : run (at (l + 0) t) y ≡ at here.level t =
       run-raised t begun y (omega arith) ∙ ap (raise t) is in
       let second : run (at here.level t) w ≡ at here.level t =
@@ -70,6 +70,3 @@ leads-put n k y w z f g = record {
       ∙ run-raised t here (60 ∷ z) (omega arith) ∙ ap (raise t) whole in
       grind (arith, run-append, first, second, third);
 }
-  where
-    state : (s : State) → s.spot ≡ Out → {top : ℕ} → s.top ≡ top → s ≡ at s.level top
-    state s out same = grind arith

@@ -14,7 +14,7 @@ use Rattle.md_text.specs.Html.{is_forest, IsReading}
 use Rattle.md_text.proofs.HtmlNames.{no_angle, escaped-angle, element-tidy, void-tidy}
 use Rattle.md_text.proofs.HtmlAngles.{name-angle, tag-angle}
 use Rattle.md_depth.specs.Levels.{levels}
-use Rattle.md_depth.proofs.Machine.{State, at, Begun, to, run, run-append, quiet, Leads}
+use Rattle.md_depth.proofs.Machine.{at, Begun, to, run, run-append, quiet, Leads}
 
 -- something holds of the name of each of some tags
 abbrev Each : (List ℕ → Type 0) → List (List ℕ × List (List ℕ)) → Type 0
@@ -57,12 +57,12 @@ past : (x y : List ℕ) (l t : ℕ) → list_all no_angle x ≡ true →
 past x y l t h = rw (run-append, quiet x h l t)
 
 -- a tag up to its end
-tag : (name : List ℕ) (attributes : List Attribute) (end rest : List ℕ) (l t : ℕ) (s : State)
-    (level top : ℕ) → s ≡ at level top → run (to Begun (at l t)) name ≡ s →
+tag : (name : List ℕ) (attributes : List Attribute) (end rest : List ℕ) (l t level top : ℕ) →
+    run (to Begun (at l t)) name ≡ at level top →
     list_all no_angle (name ++ (written_attributes attributes ++ end)) ≡ true →
     run (at l t) (60 ∷ (name ++ (written_attributes attributes ++ (end ++ rest))))
     ≡ run (at level top) rest
-tag name attributes end rest l t s level top is after h = grind (arith, parts, run-append, past)
+tag name attributes end rest l t level top after h = grind (arith, parts, run-append, past)
 
 levels-open : (l t inner rest : ℕ) →
     max (max (max t (suc l)) (suc l + inner)) (l + rest) ≡ max t (l + max (suc inner) rest)
@@ -82,7 +82,7 @@ opens (Text bytes rest) h l t low =
 opens (Void name attributes rest) h l t low =
     let p = and_parts _ _ h in
     let end : List ℕ = 32 ∷ 47 ∷ 62 ∷ [] in
-    tag name attributes end (written rest) l t (at l (max t (suc l))) l (max t (suc l)) refl
+    tag name attributes end (written rest) l t l (max t (suc l))
     (of-tag Voids void_tags name attributes tags-void p.0 l t)
     (tag-angle name attributes end (void-tidy name attributes p.0) refl)
     ∙ opens rest p.1 l (max t (suc l)) (omega arith)
@@ -95,8 +95,8 @@ opens (Element name attributes inner rest) h l t low =
     let close : List ℕ = 60 ∷ 47 ∷ (name ++ (62 ∷ written rest)) in
     let letters : list_all no_angle name ≡ true = name-angle name (and_parts _ _ tidy.0).1 in
     let top : ℕ = max (max t (suc l)) (suc l + levels inner) in
-    tag name attributes end (written inner ++ close) l t (at (suc l) (max t (suc l))) (suc l)
-    (max t (suc l)) refl (of-tag Opens elements name attributes elements-open q.0 l t)
+    tag name attributes end (written inner ++ close) l t (suc l) (max t (suc l))
+    (of-tag Opens elements name attributes elements-open q.0 l t)
     (tag-angle name attributes end tidy refl)
     ∙ run-append (at (suc l) (max t (suc l))) (written inner) close
     ∙ ap (λ s. run s close) (opens inner q.1 (suc l) (max t (suc l)) (omega arith))

@@ -3,7 +3,7 @@ use Rattle.std.proofs.Common.{◌≡◌, ℕ, ◌≤◌, suc, Bool, true, not, c
 use Rattle.std.proofs.Common.{List, [], ◌∷◌, ◌++◌, refl, inl, inr, arith, codes}
 use Rattle.std.specs.Prelude.{Option, Some, None}
 use Rattle.std.specs.Fmt.{decimal}
-use Rattle.std.proofs.lemmas.Bool.{cond_both, or_cases}
+use Rattle.std.proofs.lemmas.Bool.{or_cases}
 use Rattle.md_base.proofs.Lies.{lie}
 use Rattle.md_base.specs.declared.event.Name.{Name}
 use Rattle.md_base.specs.declared.event.Name.TheVariants as name_variants
@@ -13,14 +13,13 @@ use name_variants.{GfmAutolinkLiteralMailto, GfmAutolinkLiteralProtocol, GfmAuto
 use name_variants.{GfmAutolinkLiteralXmpp}
 use Rattle.md_text.specs.declared.options.CompileOptions.{CompileOptions}
 use Rattle.md_text.specs.Encode.{encoded}
-use Rattle.md_text.specs.Url.{link_protocols, image_protocols}
 use Rattle.md_text.proofs.EncodeLaws.{is_escaped-encoded}
 use Rattle.md_text.proofs.EscapedLemmas.{sanitized-escaped, sanitized_with-escaped}
 use Rattle.md_meaning.specs.Meaning.At.{Target, At, text_in, identifier_of}
 use Rattle.md_meaning.specs.Meaning.Layout.{Piece, layout, said}
 use Rattle.md_meaning.specs.Meaning.Means.{prints}
 use Rattle.md_meaning.specs.Meaning.Spans.{span, task_start, code, trimmed, without_escapes}
-use Rattle.md_meaning.specs.Meaning.Media.{url, href, src, title_attribute, anchor, picture}
+use Rattle.md_meaning.specs.Meaning.Media.{href, src, title_attribute, anchor, picture}
 use Rattle.md_meaning.specs.Meaning.Media.{leads_to, autolink}
 use Rattle.md_meaning.specs.Meaning.Footnotes.{id_of, call_id, place_among, distinct, count_of}
 use Rattle.md_content.specs.Built.{Blocks, content_of, is_autolink}
@@ -52,11 +51,6 @@ around e m n room in_image o c opens closes inner a =
 
 -- ---- links and images
 
-url-escaped : (any : Bool) (protocols : List (List ℕ)) (destination : List ℕ) →
-    Escaped (url any protocols destination)
-url-escaped any protocols destination =
-    grind (arith, sanitized-escaped, sanitized_with-escaped)
-
 title-moves : {e : List ℕ} {n a : ℕ} (title : Option (List ℕ)) → IsEscapedTitle title →
     Moves e n a a (title_attribute title)
 title-moves None h = none
@@ -69,7 +63,7 @@ anchor-moves : (e : List ℕ) (m n : ℕ) → Room m n → (options : CompileOpt
 anchor-moves e m n room options target title label f =
     open_tag (codes "<a href=\"") (λ l t. refl) (omega arith)
     ▸ plain (href options target.destination)
-    (url-escaped _ link_protocols target.destination)
+    (grind (arith, sanitized-escaped, sanitized_with-escaped))
     ▸ part (codes "\"") refl ▸ title-moves target.title title
     ▸ part (codes ">") refl ▸ kept f (omega arith)
     ▸ close_tag (codes "</a>") (λ l t. refl)
@@ -80,7 +74,7 @@ picture-moves : (e : List ℕ) (m n : ℕ) → Room m n → (options : CompileOp
 picture-moves e m n room options target title label h =
     void_tag (codes "<img src=\"") (λ l t. refl) (omega arith)
     ▸ plain (src options target.destination)
-    (url-escaped _ image_protocols target.destination)
+    (grind (arith, sanitized-escaped, sanitized_with-escaped))
     ▸ part (codes "\" alt=\"") refl ▸ plain label h ▸ part (codes "\"") refl
     ▸ title-moves target.title title ▸ part (codes " />") refl
 
@@ -91,9 +85,7 @@ code-moves : (e : List ℕ) (m n : ℕ) → Room m n → (t : At) (math : Bool) 
 code-moves e m n room t math x h =
     let unescaped : List ℕ = cond t.around.in_table (without_escapes x) x in
     let shown : List ℕ = trimmed unescaped in
-    let all : Escaped shown =
-    trimmed-escaped unescaped (cond_both t.around.in_table (without_escapes x) x Escaped
-    (λ _. pipes-escaped x h) (λ _. h)) in
+    let all : Escaped shown = trimmed-escaped unescaped (grind (arith, pipes-escaped, h)) in
     choose t.around.in_image (plain shown all)
     (open_tag (code_opening math) (λ l t. grind arith) (omega arith) ▸ plain shown all
     ▸ close_tag (codes "</code>") (λ l t. refl))
@@ -139,14 +131,12 @@ pair-moves : (s : Setting) (t : At) (m n : ℕ) → Room m n → (name : Name) �
 pair-moves s t m n room name is inner below =
     let e : List ℕ = s.context.ending in
     let tag : List ℕ = pair_tag name in
-    rw (pair-prints s.context t name is inner) (around e m n room t.around.in_image (60 ∷ (tag ++ (62 ∷ []))) (60 ∷ 47 ∷ (tag ++ (62 ∷ [])))
+    rw (pair-prints s.context t name is inner) (around e m n room t.around.in_image
+    (60 ∷ (tag ++ (62 ∷ []))) (60 ∷ 47 ∷ (tag ++ (62 ∷ [])))
     (by_pair (λ tag. IsOpening (60 ∷ (tag ++ (62 ∷ [])))) (λ l t. refl) (λ l t. refl)
     (λ l t. refl) name is)
     (by_pair (λ tag. IsClosing (60 ∷ 47 ∷ (tag ++ (62 ∷ [])))) (λ l t. refl) (λ l t. refl)
-    (λ l t. refl) name is) inner (below (blocks name is)))
-  where
-    blocks : (name : Name) → is_pair name ≡ true → is_blocks (content_of name Blocks) ≡ true
-    blocks name is = grind arith
+    (λ l t. refl) name is) inner (below (grind arith)))
 
 single-moves : (s : Setting) (t : At) (m n : ℕ) → Room m n → (name : Name) →
     is_single name ≡ true → IsGoodTarget t.found.resource → (inner : List Piece) →
