@@ -61,8 +61,8 @@ rows-counted content columns k after (Node name start end children rest) tail in
       rows-counted (content_inside content name) columns begun middle children
           (exiting name end ∷ (flatten rest ++ tail)) known.1 fits.1 (omega arith) refl,
       rows-counted (content_after_node content name children) columns middle after rest tail
-          (node-same is_inner (λ content. grind arith) content name children ∙ inner) fits.2 (omega arith)
-          (omega arith),
+          (node-same is_inner (λ content. grind arith) content name children ∙ inner) fits.2
+          (omega arith) (omega arith),
     )
 
 pub no-cells : (content : Content) (columns : List AlignKind) (forest : Forest) →

@@ -30,7 +30,8 @@ around_in context around name children =
 plain-short : (context : Context) (at : At) (inner : List Piece) (name : Name) →
     is_plain name ≡ true → size (prints context at name inner)
     ≤ size inner + (24 + 6 * longest context.names + 6 * own name at.place)
-plain-short context at inner name is = grind (arith, escaped-short, reference-short, line_ending-short)
+plain-short context at inner name is =
+    grind (arith, escaped-short, reference-short, line_ending-short)
 
 -- the lengths of the texts of footnotes
 abbrev pub notes : List Footnote → ℕ

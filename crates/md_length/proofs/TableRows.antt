@@ -13,7 +13,7 @@ use Rattle.md_base.specs.declared.event.Event.{Event}
 use Rattle.md_base.specs.declared.event.Name.{Name}
 use Rattle.md_base.specs.declared.event.Name.TheVariants as name_variants
 use name_variants.{GfmTableRow, GfmTableHead}
-use name_variants.{SpaceOrTab, GfmTableDelimiterCellValue}
+use name_variants.{GfmTableDelimiterCellValue}
 use Rattle.md_base.specs.Is.{is}
 use Rattle.md_base.specs.NameTests.{leads_to_values}
 use Rattle.md_base.specs.Tree.{Forest, Empty, Node, flatten, entering, exiting}
@@ -176,15 +176,13 @@ table-rows columns (Node name start end children rest) around before k after tai
           head-rows columns children _ _ inside shaped (head-letters (spine children) stands),
           head-row (length columns) (spine children) stands,
         )
-    own SpaceOrTab may inside shaped stands h few inner =
-        omega (
+    own name may inside shaped stands h few inner =
+        grind (
           arith,
-          ap (cells columns) stands,
+          inner,
           rows-counted Rows [] k (k + (0 + values children)) children
-              (exiting SpaceOrTab end ∷ (flatten rest ++ tail)) refl inside (omega arith)
-              (omega arith),
+              (exiting name end ∷ (flatten rest ++ tail)) refl,
         )
-    own _ may inside shaped stands h few inner = grind (arith, inner)
 
 -- the cells of a table
 pub cells-of-table : (children : Forest) (before : Option Symbol) (tail : List Event) →
