@@ -20,7 +20,7 @@ use Rattle.md_text.proofs.HtmlAngles.{all-append}
 use Rattle.md_meaning.specs.Meaning.At.{At, text_in}
 use Rattle.md_meaning.specs.Meaning.Inherited.{is_tight}
 use Rattle.md_meaning.specs.Meaning.Finds.{number_in_list}
-use Rattle.md_meaning.specs.Meaning.Layout.{Piece, Text, layout, said}
+use Rattle.md_meaning.specs.Meaning.Layout.{Piece, Text, layout}
 use Rattle.md_meaning.specs.Meaning.Means.{prints}
 use Rattle.md_meaning.specs.Meaning.Blocks.{without_zeros, ends_in_line, heading_tag}
 use Rattle.md_meaning.specs.Meaning.Blocks.{heading, atx_rank, underline_rank, code_end, runs_out}
@@ -74,14 +74,11 @@ code-opens room second opens =
     moves.text (leads-open (codes "<pre>") (λ l t. refl) (omega arith)
     ▹ leads-open second opens room)
 
-code-closes : {e : List ℕ} {n : ℕ} → Moves e n 2 0 (said (codes "</code></pre>"))
-code-closes =
-    moves.text (leads-close (codes "</code>") (λ l t. refl)
-    ▹ leads-close (codes "</pre>") (λ l t. refl))
-
 end-moves : {e : List ℕ} {n : ℕ} (t : At) → Escaped e → Moves e n 2 0 (code_end t)
 end-moves t h =
-    choose (list_any is_chunk (spine_names t.children)) (needed h) none ▸ code-closes
+    choose (list_any is_chunk (spine_names t.children)) (needed h) none
+    ▸ moves.text (leads-close (codes "</code>") (λ l t. refl)
+    ▹ leads-close (codes "</pre>") (λ l t. refl))
 
 fenced-moves : (s : Setting) (t : At) (n : ℕ) → suc 1 ≤ n → (tag second : List ℕ) →
     tag ≡ codes "<pre>" ++ second → IsOpening second → (inner : List Piece) →
