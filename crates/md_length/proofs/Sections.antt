@@ -7,7 +7,7 @@ use Rattle.std.proofs.lemmas.List.{length-take, length-drop}
 use Rattle.md_text.specs.declared.options.CompileOptions.{CompileOptions}
 use Rattle.md_meaning.specs.Meaning.At.{Footnote, Context}
 use Rattle.md_meaning.specs.Meaning.Footnotes.{distinct, place_among, count_of}
-use Rattle.md_meaning.specs.Meaning.Footnotes.{backreferences, body, item, section_start, section}
+use Rattle.md_meaning.specs.Meaning.Footnotes.{backreferences, item, section_start, section}
 use Rattle.md_meaning.proofs.Identifiers.{distinct-apart}
 use Rattle.md_length.specs.Uses.{back_cost, item_cost, sum_of}
 use Rattle.md_length.specs.Bound.{for_document}
@@ -32,9 +32,6 @@ backs-short options identifier number (suc count) few rare =
       call_id-short,
     )
 
-body-short : (text back : List ℕ) → size (body text back) ≤ length text + 2 + length back
-body-short text back = omega (sizes, length-take {A = ℕ}, length-drop {A = ℕ})
-
 item-short : (context : Context) (footnotes : List Footnote) (identifier : List ℕ) →
     length context.calls < 2 ^ 63 → size (item context footnotes identifier)
     ≤ item_cost context.options identifier + first_text footnotes identifier
@@ -43,10 +40,10 @@ item-short context footnotes identifier few =
     let number = place_among (distinct context.calls) identifier in
     let fits = number-few context.calls identifier few in
     omega (
-      arith,
-      size-append,
+      sizes,
       id-short context.options (codes "fn-") identifier number (lit≤ tt) fits,
-      body-short,
+      length-take {A = ℕ},
+      length-drop {A = ℕ},
       backs-short context.options identifier number (count_of context.calls identifier) fits
           (omega (arith, count-few, few)),
     )
