@@ -64,8 +64,6 @@ heading-moves rank h room low high a =
     ▸ more (omega arith) a
     ▸ close_tag (heading_tag (codes "</h") rank) (heading-tags rank low high).1
 
--- ---- lists
-
 -- ---- code
 
 code-opens : {e : List ℕ} {n : ℕ} → suc 1 ≤ n → (second : List ℕ) → IsOpening second →
