@@ -1,14 +1,12 @@
 -- Blocks leave no element open, and open two at most beside what their children open.
-use Rattle.std.specs.List.{list_all, list_any, flat_map}
-use Rattle.std.proofs.Common.{◌≡◌, ℕ, ◌+◌, ◌≤◌, zero, suc, Bool, true, false, not, cond, List, []}
-use Rattle.std.proofs.Common.{◌∷◌, ◌++◌, refl, sym, subst, inl, inr, arith, codes, drop}
-use Rattle.std.specs.Prelude.{Option, Some, None, bytes_eq, count_by, slice_get}
+use Rattle.std.specs.List.{list_any, flat_map}
+use Rattle.std.proofs.Common.{◌≡◌, ℕ, ◌+◌, ◌≤◌, zero, suc, Bool, true, not, cond, List, []}
+use Rattle.std.proofs.Common.{◌∷◌, ◌++◌, refl, arith, codes, drop}
+use Rattle.std.specs.Prelude.{Some, None, bytes_eq, count_by, slice_get}
 use Rattle.std.specs.Option.{option_map_or}
 use Rattle.std.specs.Fmt.{digits}
 use Rattle.md_base.proofs.Lies.{lie}
 use Rattle.md_base.specs.declared.event.AlignKind.{AlignKind}
-use Rattle.md_base.specs.declared.event.AlignKind.TheVariants as align
-use Rattle.md_base.specs.declared.event.Position.{Position}
 use Rattle.md_base.specs.declared.event.Name.{Name}
 use Rattle.md_base.specs.declared.event.Name.TheVariants as name_variants
 use name_variants.{BlockQuote, ListOrdered, ListUnordered, ListItem, Paragraph, ThematicBreak}
@@ -17,12 +15,12 @@ use name_variants.{HtmlFlow, GfmTable, GfmTableHead, GfmTableBody, GfmTableRow, 
 use Rattle.md_base.specs.Is.{is as named}
 use Rattle.md_base.specs.Children.{spine_names}
 use Rattle.md_base.specs.NameTests.{is_chunk}
-use Rattle.md_text.proofs.HtmlNames.{no_angle, escaped-angle}
+use Rattle.md_text.proofs.HtmlNames.{escaped-angle}
 use Rattle.md_text.proofs.HtmlAngles.{all-append}
 use Rattle.md_meaning.specs.Meaning.At.{At, text_in}
 use Rattle.md_meaning.specs.Meaning.Inherited.{is_tight}
 use Rattle.md_meaning.specs.Meaning.Finds.{number_in_list}
-use Rattle.md_meaning.specs.Meaning.Layout.{Piece, Text, layout, said}
+use Rattle.md_meaning.specs.Meaning.Layout.{Piece, Text, layout}
 use Rattle.md_meaning.specs.Meaning.Means.{prints}
 use Rattle.md_meaning.specs.Meaning.Blocks.{without_zeros, ends_in_line, heading_tag}
 use Rattle.md_meaning.specs.Meaning.Blocks.{heading, atx_rank, underline_rank, code_end, runs_out}
@@ -30,10 +28,10 @@ use Rattle.md_meaning.specs.Meaning.Blocks.{is_unclosed, fenced}
 use Rattle.md_meaning.specs.Meaning.Spans.{is_at}
 use Rattle.md_meaning.specs.Meaning.Tables.{align_attribute, cell_of}
 use Rattle.md_content.specs.Underlined.{is_underline}
-use Rattle.md_content.specs.Built.{Blocks, is_digit}
+use Rattle.md_content.specs.Built.{Blocks}
 use Rattle.md_safe.proofs.Texts.{Escaped, zeros-escaped}
 use Rattle.md_safe.proofs.Laid.{adds-weaker}
-use Rattle.md_safe.proofs.RawElements.{IsRaw, IsInfo, code_tag, math_tag}
+use Rattle.md_safe.proofs.RawElements.{IsRaw, code_tag, math_tag}
 use Rattle.md_safe.proofs.Spot.{Setting, IsFitAt, Prints, Inside}
 use Rattle.md_safe.proofs.FlowNodes.{is_flow, setext-fits}
 use Rattle.md_safe.proofs.BlockNodes.{is_tabular}
@@ -66,22 +64,7 @@ heading-moves rank h room low high a =
     ▸ more (omega arith) a
     ▸ close_tag (heading_tag (codes "</h") rank) (heading-tags rank low high).1
 
--- ---- lists
-
-digits_of : (bytes : List ℕ) (found : Option Position) →
-    option_map_or (λ place. list_all is_digit (text_in bytes place)) found true ≡ true →
-    list_all is_digit (option_map_or (text_in bytes) found (codes "1")) ≡ true
-digits_of bytes None fits = refl
-digits_of bytes (Some place) fits = fits
-
 -- ---- code
-
-info-quiet : (tag x : List ℕ) → IsInfo tag x → list_all no_angle x ≡ true
-info-quiet tag x (inl is) = subst (λ x. list_all no_angle x ≡ true) (sym is) refl
-info-quiet tag x (inr is) =
-    subst (λ x. list_all no_angle x ≡ true) (sym is.1)
-    (all-append (codes " class=\"language-") (is.0 ++ codes "\"") refl
-    (all-append is.0 (codes "\"") (escaped-angle is.0 is.2) refl))
 
 code-opens : {e : List ℕ} {n : ℕ} → suc 1 ≤ n → (second : List ℕ) → IsOpening second →
     Moves e n 0 2 (Text (codes "<pre>" ++ second) ∷ [])
@@ -89,14 +72,11 @@ code-opens room second opens =
     moves.text (leads-open (codes "<pre>") (λ l t. refl) (omega arith)
     ▹ leads-open second opens room)
 
-code-closes : {e : List ℕ} {n : ℕ} → Moves e n 2 0 (said (codes "</code></pre>"))
-code-closes =
-    moves.text (leads-close (codes "</code>") (λ l t. refl)
-    ▹ leads-close (codes "</pre>") (λ l t. refl))
-
 end-moves : {e : List ℕ} {n : ℕ} (t : At) → Escaped e → Moves e n 2 0 (code_end t)
 end-moves t h =
-    choose (list_any is_chunk (spine_names t.children)) (needed h) none ▸ code-closes
+    choose (list_any is_chunk (spine_names t.children)) (needed h) none
+    ▸ moves.text (leads-close (codes "</code>") (λ l t. refl)
+    ▹ leads-close (codes "</pre>") (λ l t. refl))
 
 fenced-moves : (s : Setting) (t : At) (n : ℕ) → suc 1 ≤ n → (tag second : List ℕ) →
     tag ≡ codes "<pre>" ++ second → IsOpening second → (inner : List Piece) →
@@ -104,12 +84,8 @@ fenced-moves : (s : Setting) (t : At) (n : ℕ) → suc 1 ≤ n → (tag second 
 fenced-moves s t n room tag second is opens inner a =
     let e : List ℕ = s.context.ending in
     let inside : Moves e n 2 2 inner =
-    adds-quiet inner (adds-weaker (λ x raw.
-    subst (λ x. list_all no_angle x ≡ true) (sym raw.whole) (all-append raw.attributes
-    (62 ∷ raw.body) (info-quiet tag raw.attributes raw.info)
-    (escaped-angle raw.body raw.escaped))) a) in
-    let first : Moves e n 0 2 (Text tag ∷ []) =
-    subst (λ tag. Moves e n 0 2 (Text tag ∷ [])) (sym is) (code-opens room second opens) in
+    adds-quiet inner (adds-weaker (λ x raw. grind (arith, all-append, escaped-angle, raw)) a) in
+    let first : Moves e n 0 2 (Text tag ∷ []) = rw is (code-opens room second opens) in
     (needed s.ending ▸ first) ▸ inside ▸ choose (runs_out t) (forced s.ending) none
     ▸ end-moves t s.ending ▸ choose (is_unclosed t) (needed s.ending) none
 
@@ -127,11 +103,10 @@ flow-moves s t m n room BlockQuote is fit head inner a below =
 flow-moves s t m n room ListOrdered is fit head inner a below =
     let first : List ℕ =
     option_map_or (text_in s.context.bytes) (number_in_list t.children) (codes "1") in
-    let number : Escaped (without_zeros first) =
-    zeros-escaped first (digits_of s.context.bytes (number_in_list t.children) fit) in
     open_line (codes "<ol") s.ending (λ l t. refl) (omega arith)
     ▸ choose (not (bytes_eq (without_zeros first) (codes "1"))) (part (codes " start=\"") refl
-    ▸ plain (without_zeros first) number ▸ part (codes "\"") refl) none
+    ▸ plain (without_zeros first) (zeros-escaped first (grind (arith, fit)))
+    ▸ part (codes "\"") refl) none
     ▸ part (codes ">") refl ▸ more (omega arith) (below refl)
     ▸ forced s.ending ▸ close_tag (codes "</ol>") (λ l t. refl)
 flow-moves s t m n room ListUnordered is fit head inner a below =
@@ -170,28 +145,13 @@ flow-moves s t m n room _ is fit head inner a below = lie is
 
 -- ---- tables
 
-align-quiet : (kind : AlignKind) → list_all no_angle (align_attribute kind) ≡ true
-align-quiet align.None = refl
-align-quiet align.Left = refl
-align-quiet align.Right = refl
-align-quiet align.Center = refl
-
 cell-moves : {e : List ℕ} {n a k : ℕ} {x : List ℕ} → Escaped e → (in_head : Bool) →
     Leads 0 0 k x → suc (a + k) ≤ n → (kind : AlignKind) → Moves e n a a (cell_of in_head x kind)
 cell-moves h in_head f room kind =
-    open_line (cond in_head (codes "<th") (codes "<td")) h (opens in_head)
-    (omega arith)
-    ▸ part (align_attribute kind) (align-quiet kind)
+    open_line (cond in_head (codes "<th") (codes "<td")) h (λ l t. grind arith) (omega arith)
+    ▸ part (align_attribute kind) (grind arith)
     ▸ part (codes ">") refl ▸ kept f (omega arith)
-    ▸ close_tag (cond in_head (codes "</th>") (codes "</td>")) (closes in_head)
-  where
-    opens : (in_head : Bool) → IsOpening (cond in_head (codes "<th") (codes "<td"))
-    opens true = λ l t. refl
-    opens false = λ l t. refl
-
-    closes : (in_head : Bool) → IsClosing (cond in_head (codes "</th>") (codes "</td>"))
-    closes true = λ l t. refl
-    closes false = λ l t. refl
+    ▸ close_tag (cond in_head (codes "</th>") (codes "</td>")) (λ l t. grind arith)
 
 cells-moves : {e : List ℕ} {n a : ℕ} → Escaped e → (in_head : Bool) → suc a ≤ n →
     (kinds : List AlignKind) → Moves e n a a (flat_map (cell_of in_head []) kinds)
@@ -223,17 +183,11 @@ table-moves s t m n room GfmTableRow is inner below =
     ▸ cells-moves s.ending t.around.in_head (omega arith) kinds
     ▸ close_line (codes "</tr>") s.ending (λ l t. refl)
 table-moves s t m n room GfmTableCell is inner below =
-    by (slice_get t.before.columns (count_by (named GfmTableCell) t.before.spine))
-  where
-    e : List ℕ
-    e = s.context.ending
-
-    x : List ℕ
-    x = layout e inner
-
-    by : (kind : Option AlignKind) → Moves e n 0 0
-        (option_map_or (λ kind. cell_of t.around.in_head x kind) kind [])
-    by None = none
-    by (Some kind) =
-        cell-moves s.ending t.around.in_head (laid (below refl)) (omega arith) kind
+    let x : List ℕ = layout s.context.ending inner in
+    elim (slice_get t.before.columns (count_by (named GfmTableCell) t.before.spine))
+    as (λ kind. Moves s.context.ending n 0 0
+    (option_map_or (λ kind. cell_of t.around.in_head x kind) kind [])) [
+      | None ↦ none
+      | Some kind ↦ cell-moves s.ending t.around.in_head (laid (below refl)) (omega arith) kind
+    ]
 table-moves s t m n room _ is inner below = lie is

@@ -1,13 +1,12 @@
 -- The text of blocks leaves no element open, and opens at most twice as many as the nesting of the
 -- nodes: one induction over them. Other contents are known to open none.
-use Rattle.std.proofs.Common.{◌≡◌, ℕ, ◌-◌, ◌*◌, ◌≤◌, suc, max, Bool, true, false, ◌||◌, cond, List}
-use Rattle.std.proofs.Common.{[], ◌∷◌, ◌++◌, refl, sym, ap, ◌∙◌, subst, arith, append-nil, inl, inr}
+use Rattle.std.proofs.Common.{◌≡◌, ℕ, ◌-◌, ◌*◌, ◌≤◌, suc, Bool, true, false, ◌||◌, cond, List}
+use Rattle.std.proofs.Common.{[], ◌∷◌, ◌++◌, refl, ap, ◌∙◌, arith, append-nil, inl, inr}
 use Rattle.std.specs.Prelude.{Option, Some, None, unwrap_or}
 use Rattle.std.proofs.lemmas.Bool.{cond_both, cases_Bool}
-use Rattle.md_base.proofs.Lies.{lie}
 use Rattle.md_base.specs.declared.event.Name.{Name}
 use Rattle.md_base.specs.declared.event.Name.TheVariants as name_variants
-use name_variants.{Other, BlockQuotePrefix, SpaceOrTab, HeadingSetextText, GfmFootnoteDefinition}
+use name_variants.{GfmFootnoteDefinition}
 use Rattle.md_base.specs.Is.{is as named}
 use Rattle.md_base.specs.Tree.{Forest, Empty, Node}
 use Rattle.md_base.specs.Children.{or_else}
@@ -25,7 +24,7 @@ use Rattle.md_safe.proofs.Nodes.{not_part}
 use Rattle.md_safe.proofs.Findings.{AreFound}
 use Rattle.md_safe.proofs.Forests.{Ready, Means, ready-inside, ready-after, means, found-at}
 use Rattle.md_safe.proofs.Forests.{inside-means}
-use Rattle.md_safe.proofs.Spot.{Setting, Inside}
+use Rattle.md_safe.proofs.Spot.{Setting}
 use Rattle.md_safe.proofs.Costs.{Document, read_in, Place, here_of, inner_around, inner_before}
 use Rattle.md_safe.proofs.Costs.{inner_of, at_of, place_at, through-node}
 use Rattle.md_safe.proofs.PlainCosts.{no_footnotes}
@@ -73,13 +72,11 @@ pub record Fits (d : Document) (around : Surroundings) (before : Before) (n : �
 
 waits-both : (n : ℕ) (later first : Option (List ℕ)) → WaitsIn n later → WaitsIn n first →
     WaitsIn n (or_else later first)
-waits-both n None first a b = b
-waits-both n (Some x) first a b = a
+waits-both n later first a b = grind arith
 
 waits-next : (n : ℕ) (found : Option (List ℕ)) (before : List ℕ) → WaitsIn n found →
     Waits n before → Waits n (unwrap_or found before)
-waits-next n None before a b = b
-waits-next n (Some x) before a b = a
+waits-next n found before a b = grind arith
 
 -- the node's own footnote, if it is one
 abbrev own : Document → Place → Name → Footnote
@@ -88,30 +85,15 @@ own d p name = record {
   text = layout d.context.ending (inner_of d p name).pieces;
 }
 
-footnote-blocks : (name : Name) → named GfmFootnoteDefinition name ≡ true →
-    is_blocks (content_of name Blocks) ≡ true
-footnote-blocks GfmFootnoteDefinition is = refl
-footnote-blocks _ is = lie is
-
 -- a transparent node has the meaning of its children
 through : (d : Document) (p : Place) (name : Name) (n : ℕ) → is_transparent name ≡ true →
     Opens d n (inner_of d p name) → Opens d n (here_of d p name)
-through d p name n is b =
-    subst (Opens d n) (sym (through-node d.context (at_of d p name) name (inner_of d p name) is
-    refl)) (record {
-      prints = b.prints;
-      heading = b.heading;
-      texts = subst (TextsLead n) (sym (append-nil (inner_of d p name).footnotes)) b.texts;
-    })
+through d p name n is b = grind (arith, through-node, append-nil)
 
 -- the heading that a node is found to be
 heading-here : (t : At) (name : Name) (n : ℕ) (x : List ℕ) → is_transparent name ≡ false →
     (is_blocks (content_of name Blocks) ≡ true → Waits n x) → WaitsIn n (found_at t name x).heading
-heading-here t HeadingSetextText n x solid h = h refl
-heading-here t (Other number) n x solid h = lie (sym solid)
-heading-here t BlockQuotePrefix n x solid h = lie (sym solid)
-heading-here t SpaceOrTab n x solid h = lie (sym solid)
-heading-here t _ n x solid h = tt
+heading-here t name n x solid h = grind arith
 
 -- a node that isn't transparent
 solid : (d : Document) (p : Place) (name : Name) (n : ℕ) → is_transparent name ≡ false →
@@ -126,19 +108,18 @@ solid d p name n e room built ready waits known below =
     let t : At = at_of d p name in
     let inner : Outcome = inner_of d p name in
     let stands = second (is_transparent name) (may_stand Blocks name) e built.0 in
-    let a : Inside s t Blocks name inner.pieces = inside-means t Blocks name e built.0 built.1
-    built.2 known in
     record {
       prints = node-moves s t (n - 2) n room name (ready.suits.escaped refl) e
           (not_part (is_part name || is_source name) stands) built.1
-          (λ _. (n - 1, omega arith, waits)) known.found.resource inner.pieces a
+          (λ _. (n - 1, omega arith, waits)) known.found.resource inner.pieces
+          (inside-means t Blocks name e built.0 built.1 built.2 known)
           (λ is. (below is).prints);
       heading = heading-here t name n (layout d.context.ending inner.pieces) e (λ is.
           leads-kept (laid (below is).prints) (omega arith));
       texts = texts-append n inner.footnotes (when (named GfmFootnoteDefinition name)
           (own d p name ∷ [])) (inside (is_blocks (content_of name Blocks)) refl) (cond_both
           (named GfmFootnoteDefinition name) (own d p name ∷ []) [] (TextsLead n) (λ is. (
-            leads-kept (laid (below (footnote-blocks name is)).prints) (omega arith),
+            leads-kept (laid (below (grind arith)).prints) (omega arith),
             tt,
           )) (λ _. tt));
     }
@@ -148,10 +129,8 @@ solid d p name n e room built ready waits known below =
     inside true is = texts-more (n - 2) n (inner_of d p name).footnotes (omega arith)
         (below is).texts
     inside false is =
-        let same : is_blocks (content_inside Blocks name) ≡ is_blocks (content_of name Blocks) = ap
-        (λ b. is_blocks (cond b Blocks (content_of name Blocks))) e in
-        subst (TextsLead n) (sym (no_footnotes d (content_inside Blocks name) p.children
-        (inner_around d p name) (inner_before p name) (same ∙ is) built.2)) tt
+        rw (no_footnotes d (content_inside Blocks name) p.children (inner_around d p name)
+        (inner_before p name) (rw e is) built.2) tt
 
 -- what some blocks mean
 pub opens : (d : Document) (forest : Forest) (around : Surroundings) (before : Before) (n : ℕ) →
@@ -159,8 +138,7 @@ pub opens : (d : Document) (forest : Forest) (around : Surroundings) (before : B
 opens d Empty around before n f = record {
   prints = none;
   heading = tt;
-  texts =
-      tt;
+  texts = tt;
 }
 opens d (Node name start end children rest) around before n f =
     let p : Place = place_at around before start end children rest in
@@ -178,39 +156,29 @@ opens d (Node name start end children rest) around before n f =
     let below : (k : ℕ) → 2 * height children ≤ k → Waits k (inner_before p name).heading →
     is_blocks (content_inside Blocks name) ≡ true → Opens d k (inner_of d p name) =
     λ k room waits is. opens d children (inner_around d p name) (inner_before p name) k (record {
-      built = subst (λ c. IsBuilt d.context.bytes c children)
-          (is_blocks-same (content_inside Blocks name) is) f.built.2;
-      ready = subst (Ready (read_in d) (inner_around d p name) (inner_before p name))
-          (is_blocks-same (content_inside Blocks name) is) within;
+      built = rw (is_blocks-same (content_inside Blocks name) is) at f.built.2;
+      ready = rw (is_blocks-same (content_inside Blocks name) is) at within;
       waits = waits;
       room = room;
     }) in
     let kind = λ (b : Bool). is_blocks (cond b Blocks (content_of name Blocks)) in
     let one : Opens d n here = elim (cases_Bool (is_transparent name)) [
       | inl e ↦
-          let same : (inner_before p name).heading ≡ before.heading =
-          ap (λ b. cond b before.heading []) e in
-          through d p name n e (below n (omega (arith, f.room))
-          (subst (Waits n) (sym same) f.waits) (ap kind e))
+          through d p name n e (below n (omega (arith, f.room)) (rw e f.waits) (ap kind e))
       | inr e ↦
-          let same : (inner_before p name).heading ≡ [] = ap (λ b. cond b before.heading []) e in
-          let none : Waits (n - 2) [] = leads-quiet [] refl in
           solid d p name n e (omega (arith, f.room)) f.built f.ready f.waits known
-          (λ is. below (n - 2) (omega (arith, f.room)) (subst (Waits (n - 2)) (sym same) none)
+          (λ is. below (n - 2) (omega (arith, f.room)) (rw e (leads-quiet [] refl))
           (ap kind e ∙ is))
     ] in
     let later : Opens d n others = opens d rest around next n (record {
-      built = subst (λ c. IsBuilt d.context.bytes c rest) (after-blocks name children) f.built.3;
-      ready = subst (Ready (read_in d) around next) (after-blocks name children)
+      built = rw (after-blocks name children) at f.built.3;
+      ready = rw (after-blocks name children) at
           (ready-after t name here f.built.0 f.built.2 found f.ready);
       waits = waits-next n here.found.heading before.heading one.heading f.waits;
-      room = least (height children) (height rest) n f.room;
+      room = omega (arith, f.room);
     }) in
     record {
       prints = one.prints ▸ later.prints;
       heading = waits-both n others.found.heading here.found.heading later.heading one.heading;
       texts = texts-append n here.footnotes others.footnotes one.texts later.texts;
     }
-  where
-    least : (a b n : ℕ) → 2 * max (suc a) b ≤ n → 2 * b ≤ n
-    least a b n room = omega arith

@@ -1,9 +1,8 @@
 -- A text inserted before an end tag of another one opens at most as many elements as it does alone,
 -- in addition to those open there.
 use Rattle.std.proofs.Common.{◌≡◌, ℕ, ◌+◌, ◌-◌, ◌≤◌}
-use Rattle.std.proofs.Common.{List, [], ◌∷◌, ◌++◌, refl, ap, sym, ◌∙◌, subst, arith}
-use Rattle.std.proofs.Math.Nat.{le_trans}
-use Rattle.md_depth.proofs.Machine.{Spot, Out, Begun, OfB, OfH, Bad, State, at, to, Action}
+use Rattle.std.proofs.Common.{List, [], ◌∷◌, ◌++◌, refl, ap, sym, ◌∙◌, arith}
+use Rattle.md_depth.proofs.Machine.{Out, Bad, State, at, to, Action}
 use Rattle.md_depth.proofs.Machine.{act, action, step, run, run-append, Leads}
 
 -- no fewer are open at most than before
@@ -12,8 +11,7 @@ act-top action s = grind arith
 
 top-grows : (s : State) (x : List ℕ) → s.top ≤ (run s x).top
 top-grows s [] = omega arith
-top-grows s (byte ∷ x) =
-    le_trans (act-top (action s.spot byte) s) (top-grows (step s byte) x)
+top-grows s (byte ∷ x) = grind (arith, act-top, top-grows (step s byte) x)
 
 -- at most as many are open as before
 act-below : (action : Action) (s : State) → s.level ≤ s.top →
@@ -41,26 +39,11 @@ run-raised : (t : ℕ) (s : State) (x : List ℕ) → (run s x).top ≤ t →
     run (raise t s) x ≡ raise t (run s x)
 run-raised t s [] few = refl
 run-raised t s (byte ∷ x) few =
-    ap (λ s. run s x)
-    (act-raised t (action s.spot byte) s (le_trans (top-grows (step s byte) x) few))
-    ∙ run-raised t (step s byte) x few
+    grind (arith, act-raised, top-grows, run-raised t (step s byte) x)
 
 -- if a text continues with `<` and ends as required, no tag has begun
 begins-out : (s : State) (z : List ℕ) → (run s (60 ∷ z)).spot ≡ Out → s.spot ≡ Out
-begins-out s z ends = by s.spot refl ends
-  where
-    stays : (run (to Bad s) z).spot ≡ Out → {A : Type 0} → A
-    stays out = absurd (cc (sym (bad-stays z s.level s.top) ∙ out))
-
-    by : (spot : Spot) → s.spot ≡ spot → (run (act (action spot 60) s) z).spot ≡ Out → spot ≡ Out
-    by Out is out = refl
-    by Begun is out = stays out
-    by OfB is out = stays out
-    by OfH is out = stays out
-    by Bad is out =
-        let same : s ≡ to Bad s =
-        ap (λ spot. record { spot = spot; level = s.level; top = s.top }) is in
-        stays (subst (λ s. (run s z).spot ≡ Out) same out)
+begins-out s z ends = grind (arith, bad-stays z s.level s.top)
 
 -- a text that stands before `<` in another one
 pub leads-put : (n k : ℕ) (y w z : List ℕ) → Leads 0 0 n (y ++ (60 ∷ z)) → Leads 0 0 k w →
@@ -68,17 +51,16 @@ pub leads-put : (n k : ℕ) (y w z : List ℕ) → Leads 0 0 n (y ++ (60 ∷ z))
 leads-put n k y w z f g = record {
   leads = λ l t few.
       let low : ℕ = t - k in
-      let room : l + n ≤ low = omega arith in
       let begun : State = at (l + 0) low in
       let here : State = run begun y in
       let whole : run here (60 ∷ z) ≡ begun =
-      sym (run-append begun y (60 ∷ z)) ∙ f.leads l low room in
+      sym (run-append begun y (60 ∷ z)) ∙ f.leads l low (omega arith) in
       let out : here.spot ≡ Out = begins-out here z (ap (λ s. s.spot) whole) in
       let all : (run here (60 ∷ z)).top ≡ low = ap (λ s. s.top) whole in
       let most : here.top ≡ low =
       omega (arith, top-grows begun y, top-grows here (60 ∷ z), all) in
       let level : here.level ≤ low = omega (arith, below-top begun y (omega arith), most) in
-      let is : here ≡ at here.level low = state here out most in
+      let is : here ≡ at here.level low = grind (arith, out, most) in
       let first : run (at (l + 0) t) y ≡ at here.level t =
       run-raised t begun y (omega arith) ∙ ap (raise t) is in
       let second : run (at here.level t) w ≡ at here.level t =
@@ -86,11 +68,5 @@ leads-put n k y w z f g = record {
       let third : run (at here.level t) (60 ∷ z) ≡ at (l + 0) t =
       ap (λ s. run s (60 ∷ z)) (sym (ap (raise t) is))
       ∙ run-raised t here (60 ∷ z) (omega arith) ∙ ap (raise t) whole in
-      run-append (at (l + 0) t) y (w ++ (60 ∷ z)) ∙ ap (λ s. run s (w ++ (60 ∷ z))) first
-      ∙ run-append (at here.level t) w (60 ∷ z) ∙ ap (λ s. run s (60 ∷ z)) second ∙ third;
+      grind (arith, run-append, first, second, third);
 }
-  where
-    state : (s : State) → s.spot ≡ Out → {top : ℕ} → s.top ≡ top → s ≡ at s.level top
-    state s out same =
-        ap (λ spot. record { spot = spot; level = s.level; top = s.top }) out
-        ∙ ap (λ top. at s.level top) same

@@ -1,10 +1,8 @@
 -- The number of open elements in a text, byte by byte: a tag begins with `<`, an end tag with `</`,
 -- and a void tag with `<br`, `<hr` or `<i`. No other part of a tag has a `<`.
 use Rattle.std.specs.List.{list_all}
-use Rattle.std.proofs.Common.{◌≡◌, ℕ, ◌+◌, ◌≤◌, ◌==◌, zero, suc, max, Bool, true, false, not, cond}
-use Rattle.std.proofs.Common.{List, [], ◌∷◌, ◌++◌, refl, ap, ◌∙◌, arith}
-use Rattle.std.proofs.lemmas.Bool.{and_parts}
-use Rattle.md_base.proofs.Lies.{lie}
+use Rattle.std.proofs.Common.{◌≡◌, ℕ, ◌+◌, ◌≤◌, ◌==◌, zero, suc, max, Bool, true, false, cond}
+use Rattle.std.proofs.Common.{List, [], ◌∷◌, ◌++◌, refl, arith}
 use Rattle.md_text.proofs.HtmlNames.{no_angle}
 
 -- the state of reading a text: anywhere, after `<`, after `<b`, after `<h`, or after `<` twice
@@ -74,14 +72,7 @@ run-append s (byte ∷ x) y = run-append (step s byte) x y
 -- what has no `<` changes nothing
 pub quiet : (x : List ℕ) → list_all no_angle x ≡ true → (l t : ℕ) → run (at l t) x ≡ at l t
 quiet [] h l t = refl
-quiet (byte ∷ x) h l t =
-    let p = and_parts (no_angle byte) (list_all no_angle x) h in
-    by (byte == 60) p.0 ∙ quiet x p.1 l t
-  where
-    by : (is : Bool) → not is ≡ true →
-        run (act (cond is (Move Begun) Stay) (at l t)) x ≡ run (at l t) x
-    by true h = lie h
-    by false h = refl
+quiet (byte ∷ x) h l t = grind (arith, quiet x)
 
 -- a text changes the number of open elements from `a` to `b`, above those open before it, and at
 -- most `n` are open in it
@@ -94,8 +85,7 @@ leads-quiet {a} x h = record { leads = λ l t few. quiet x h (l + a) t }
 infixr 4 ◌▹◌
 pub ◌▹◌ : {a b c n : ℕ} {x y : List ℕ} → Leads a b n x → Leads b c n y → Leads a c n (x ++ y)
 ◌▹◌ {a} {b} {c} {n} {x} {y} f g = record {
-  leads = λ l t few.
-      run-append (at (l + a) t) x y ∙ ap (λ s. run s y) (f.leads l t few) ∙ g.leads l t few;
+  leads = λ l t few. rw (run-append, f.leads l t few) (g.leads l t few);
 }
 
 -- one or the other

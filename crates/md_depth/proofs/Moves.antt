@@ -1,9 +1,9 @@
 -- How many elements pieces leave open, wherever they are laid.
 use Rattle.std.specs.List.{list_all}
 use Rattle.std.proofs.Common.{◌≡◌, ℕ, ◌+◌, ◌≤◌, suc, max, Bool, true, false, cond, List, []}
-use Rattle.std.proofs.Common.{◌∷◌, ◌++◌, refl, ap, ◌∙◌, arith}
+use Rattle.std.proofs.Common.{◌∷◌, ◌++◌, refl, arith}
 use Rattle.md_text.proofs.HtmlNames.{no_angle, escaped-angle}
-use Rattle.md_meaning.specs.Meaning.Layout.{Piece, Text, Needed, Forced, begins_line, laid_after}
+use Rattle.md_meaning.specs.Meaning.Layout.{Piece, Text, Needed, Forced, laid_after}
 use Rattle.md_meaning.specs.Meaning.Layout.{layout, on_own_line}
 use Rattle.md_safe.proofs.Texts.{Escaped}
 use Rattle.md_safe.proofs.Laid.{Adds, adds-weaker, laid-append}
@@ -20,14 +20,12 @@ pub ◌▸◌ : {e : List ℕ} {n a b c : ℕ} {xs ys : List Piece} → Moves e 
     Moves e n a c (xs ++ ys)
 ◌▸◌ {e} {n} {a} {b} {c} {xs} {ys} f g = record {
   moves = λ s text l t few before.
-      ap (run s) (laid-append e text xs ys)
-      ∙ g.moves s (laid_after e text xs) l t few (f.moves s text l t few before);
+      rw laid-append (g.moves s (laid_after e text xs) l t few (f.moves s text l t few before));
 }
 
 pub text : {e : List ℕ} {n a b : ℕ} {x : List ℕ} → Leads a b n x → Moves e n a b (Text x ∷ [])
 text {x = x} f = record {
-  moves = λ s text l t few before.
-      run-append s text x ∙ ap (λ s. run s x) before ∙ f.leads l t few;
+  moves = λ s text l t few before. rw (run-append, before) (f.leads l t few);
 }
 
 pub none : {e : List ℕ} {n a : ℕ} → Moves e n a a []
@@ -35,20 +33,14 @@ none = record { moves = λ s text l t few before. before }
 
 pub forced : {e : List ℕ} {n a : ℕ} → Escaped e → Moves e n a a (Forced ∷ [])
 forced {e} {n} {a} h = record {
-  moves = λ s text l t few before.
-      run-append s text e ∙ ap (λ s. run s e) before ∙ quiet e (escaped-angle e h) (l + a) t;
+  moves = λ s text l t few before. rw (run-append, before) (quiet e (escaped-angle e h) (l + a) t);
 }
 
 pub needed : {e : List ℕ} {n a : ℕ} → Escaped e → Moves e n a a (Needed ∷ [])
 needed {e} {n} {a} h = record {
-  moves = λ s text l t few before. by s text l t (begins_line text) before;
+  moves = λ s text l t few before.
+      grind (arith, run-append s text e, before, quiet e (escaped-angle e h) (l + a) t);
 }
-  where
-    by : (s : State) (text : List ℕ) (l t : ℕ) (starts : Bool) → run s text ≡ at (l + a) t →
-        run s (cond starts text (text ++ e)) ≡ at (l + a) t
-    by s text l t true before = before
-    by s text l t false before =
-        run-append s text e ∙ ap (λ s. run s e) before ∙ quiet e (escaped-angle e h) (l + a) t
 
 -- one or the other
 pub choose : {e : List ℕ} {n a b : ℕ} (test : Bool) {xs ys : List Piece} → Moves e n a b xs →
@@ -62,8 +54,7 @@ pub adds-quiet : {e : List ℕ} {n a : ℕ} (pieces : List Piece) →
 adds-quiet {e} {n} {a} pieces adds = record {
   moves = λ s text l t few before.
       let r = adds.to text in
-      ap (run s) r.grown ∙ run-append s text r.added ∙ ap (λ s. run s r.added) before
-      ∙ quiet r.added r.it_holds (l + a) t;
+      rw (r.grown, run-append, before) (quiet r.added r.it_holds (l + a) t);
 }
 
 pub adds-escaped : {e : List ℕ} {n a : ℕ} (pieces : List Piece) → Adds e Escaped pieces →

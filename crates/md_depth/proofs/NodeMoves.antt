@@ -1,7 +1,9 @@
 -- A node among blocks leaves no element open, and opens two at most beside what its children open.
 use Rattle.std.proofs.Common.{◌≡◌, ℕ, ◌≤◌, suc, Bool, true, false, not, ◌||◌, List, refl, sym}
-use Rattle.std.proofs.Common.{◌∙◌, ap, subst, arith}
+use Rattle.std.proofs.Common.{◌∙◌, ap, arith}
 use Rattle.md_base.proofs.Lies.{lie}
+use Rattle.std.proofs.lemmas.Bool.{cases_Bool}
+use Rattle.std.proofs.Common.{inl, inr}
 use Rattle.md_base.specs.declared.event.Name.{Name}
 use Rattle.md_base.specs.NameTests.{is_transparent}
 use Rattle.md_meaning.specs.Meaning.At.{At}
@@ -32,26 +34,22 @@ pub node-moves : (s : Setting) (t : At) (m n : ℕ) → Room m n → (name : Nam
     (is_underline name ≡ true → (k : ℕ) × (suc k ≤ n) × Leads 0 0 k t.before.heading) →
     IsGoodTarget t.found.resource → (inner : List Piece) → Inside s t Blocks name inner →
     Below s m name inner → Moves s.context.ending n 0 0 (prints s.context t name inner)
-node-moves s t m n room name e solid whole fit head good inner a below = by (is_marked name) refl
-  where
-    ending : List ℕ
-    ending = s.context.ending
-
-    by : (marked : Bool) → is_marked name ≡ marked →
-        Moves ending n 0 0 (prints s.context t name inner)
-    by false h =
-        let is : is_silent name ≡ true = ap not h in
-        subst (Moves ending n 0 0) (sym (silent-prints s.context t name is inner))
-        (more (omega arith) (below (silent-block name is).0))
-    by true h = pick (is_transparent name) _ h (λ is. lie (sym solid ∙ is)) (λ c.
-        pick (is_part name || is_source name) _ c (λ is. lie (sym whole ∙ is)) (λ c.
-        pick (is_text name) _ c (λ is. adds-escaped (prints s.context t name inner)
-        (text-node s t Escaped name (λ x h. h e) is fit inner)) (λ c.
-        pick (is_shown name) _ c (λ is. span-moves s t m n room name e is good inner a below) (λ c.
-        pick (is_autolink name) _ c (λ is. autolink-moves s t m n room name is inner) (λ c.
-        pick (is_flow name) _ c (λ is. flow-moves s t m n room name is fit head inner a below) (λ c.
-        pick (is_leaf name) _ c (λ is. adds-escaped (prints s.context t name inner)
-        (leaf-escaped s t name e is fit inner)) (λ c.
-        pick (is_hidden name) (is_tabular name) c
-        (λ is. subst (Moves ending n 0 0) (sym (hidden-prints s.context t name is inner)) none)
-        (λ is. table-moves s t m n room name is inner below))))))))
+node-moves s t m n room name e solid whole fit head good inner a below =
+    elim (cases_Bool (is_marked name)) [
+      | inr h ↦
+          let is : is_silent name ≡ true = ap not h in
+          rw (silent-prints s.context t name is inner)
+          (more (omega arith) (below (silent-block name is).0))
+      | inl h ↦ pick (is_transparent name) _ h (λ is. lie (sym solid ∙ is)) (λ c.
+          pick (is_part name || is_source name) _ c (λ is. lie (sym whole ∙ is)) (λ c.
+          pick (is_text name) _ c (λ is. adds-escaped (prints s.context t name inner)
+          (text-node s t Escaped name (λ x h. h e) is fit inner)) (λ c.
+          pick (is_shown name) _ c (λ is. span-moves s t m n room name e is good inner a below)
+          (λ c. pick (is_autolink name) _ c (λ is. autolink-moves s t m n room name is inner) (λ c.
+          pick (is_flow name) _ c (λ is. flow-moves s t m n room name is fit head inner a below)
+          (λ c. pick (is_leaf name) _ c (λ is. adds-escaped (prints s.context t name inner)
+          (leaf-escaped s t name e is fit inner)) (λ c.
+          pick (is_hidden name) (is_tabular name) c
+          (λ is. rw (hidden-prints s.context t name is inner) none)
+          (λ is. table-moves s t m n room name is inner below))))))))
+    ]

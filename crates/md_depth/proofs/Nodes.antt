@@ -1,10 +1,8 @@
 -- The events of a document nest just as deep as its nodes: one induction over the nodes.
-use Rattle.std.proofs.Common.{◌≡◌, ℕ, ◌+◌, ◌-◌, ◌≤◌, suc, max, List, [], ◌∷◌, ◌++◌, ap, sym, ◌∙◌}
+use Rattle.std.proofs.Common.{◌≡◌, ℕ, ◌+◌, ◌-◌, ◌≤◌, suc, max, List, [], ◌∷◌, ◌++◌, ap}
 use Rattle.std.proofs.Common.{append_assoc, arith}
 use Rattle.std.proofs.lemmas.List.{append-nil}
 use Rattle.md_base.specs.declared.event.Event.{Event}
-use Rattle.md_base.specs.declared.event.Name.{Name}
-use Rattle.md_base.specs.declared.event.Point.{Point}
 use Rattle.md_base.specs.Tree.{Forest, Empty, Node, flatten, exiting}
 use Rattle.md_depth.specs.Depth.{opened_after, deepest, depth, height}
 
@@ -17,38 +15,20 @@ open_counts opened (event ∷ events) = omega arith
 pub one-more : (most opened : ℕ) (event : Event) (following : List Event) → opened ≤ most →
     max (max most (opened_after opened event)) (deepest (opened_after opened event) following)
     ≡ max most (deepest opened (event ∷ following))
-one-more most opened event following few =
-    let later = open_counts (opened_after opened event) following in
-    omega (arith, later, few)
-
--- after a node that many nodes are open again
-left : (name : Name) (end : Point) (opened : ℕ) (events : List Event) →
-    deepest (suc opened) (exiting name end ∷ events) ≡ max (suc opened) (deepest opened events)
-left name end opened events = ap (λ n. max (suc opened) (deepest n events)) less
-  where
-    less : suc opened - 1 ≡ opened
-    less = omega arith
+one-more most opened event following few = grind (arith, open_counts)
 
 -- nodes among events
 nests : (nodes : Forest) (opened : ℕ) (events : List Event) →
     deepest opened (flatten nodes ++ events) ≡ max (opened + height nodes) (deepest opened events)
-nests Empty opened events = omega (arith, open_counts opened events)
+nests Empty opened events = omega (arith, open_counts)
 nests (Node name start end children rest) opened events =
-    let after : List Event = flatten rest ++ events in
-    omega (
+    grind (
       arith,
-      ap (deepest (suc opened))
-          (append_assoc (flatten children) (exiting name end ∷ flatten rest) events),
-      nests children (suc opened) (exiting name end ∷ after),
-      left name end opened after,
+      append_assoc,
+      open_counts,
+      nests children (suc opened) (exiting name end ∷ (flatten rest ++ events)),
       nests rest opened events,
-      open_counts opened events,
     )
 
 pub events-nest : (document : Forest) → depth (flatten document) ≡ height document
-events-nest document =
-    ap (λ events. depth events) (sym (append-nil (flatten document)))
-    ∙ nests document 0 [] ∙ max_zero (height document)
-  where
-    max_zero : (n : ℕ) → max (0 + n) 0 ≡ n
-    max_zero n = omega arith
+events-nest document = omega (arith, nests document 0 [], ap depth (append-nil (flatten document)))

@@ -1,23 +1,20 @@
 -- The elements of a reading are open in its text, byte by byte. So a text with a bound on how many
 -- are open has a reading that nests no deeper.
 use Rattle.std.specs.Str.{bytes_eq}
-use Rattle.std.specs.Prelude.{IsTrue}
 use Rattle.std.specs.List.{list_all}
 use Rattle.std.specs.Cmp.Lexicographic.{bytes_decides}
-use Rattle.std.proofs.Common.{◌≡◌, ℕ, ◌+◌, ◌≤◌, suc, max, Bool, true, not, ◌&&◌, List, []}
-use Rattle.std.proofs.Common.{◌∷◌, ◌++◌, refl, ap, sym, ◌∙◌, subst, arith, inl, inr}
+use Rattle.std.proofs.Common.{◌≡◌, ℕ, ◌+◌, ◌≤◌, suc, max, true, ◌&&◌, List, []}
+use Rattle.std.proofs.Common.{◌∷◌, ◌++◌, refl, ap, ◌∙◌, subst, arith, inl, inr}
 use Rattle.std.proofs.lemmas.Bool.{and_parts, or_cases}
 use Rattle.std.proofs.lemmas.List.Folds.{list_all-append}
 use Rattle.md_base.proofs.Lies.{lie}
-use Rattle.md_base.specs.Identifier.{is_nonempty}
-use Rattle.md_text.specs.References.{is_escaped}
 use Rattle.md_text.specs.Html.{Forest, Empty, Text, Void, Element, Attribute, written}
 use Rattle.md_text.specs.Html.{written_attributes, are_attributes, elements, void_tags, is_tag}
-use Rattle.md_text.specs.Html.{is_forest, begins_with_text, IsReading}
-use Rattle.md_text.proofs.HtmlNames.{no_angle, is_name_byte, escaped-angle, element-tidy, void-tidy}
+use Rattle.md_text.specs.Html.{is_forest, IsReading}
+use Rattle.md_text.proofs.HtmlNames.{no_angle, escaped-angle, element-tidy, void-tidy}
 use Rattle.md_text.proofs.HtmlAngles.{name-angle, tag-angle}
 use Rattle.md_depth.specs.Levels.{levels}
-use Rattle.md_depth.proofs.Machine.{State, at, Begun, to, run, run-append, quiet, Leads}
+use Rattle.md_depth.proofs.Machine.{at, Begun, to, run, run-append, quiet, Leads}
 
 -- something holds of the name of each of some tags
 abbrev Each : (List ℕ → Type 0) → List (List ℕ × List (List ℕ)) → Type 0
@@ -43,46 +40,29 @@ Opens name = (l t : ℕ) → run (to Begun (at l t)) name ≡ at (suc l) (max t 
 abbrev Voids : List ℕ → Type 0
 Voids name = (l t : ℕ) → run (to Begun (at l t)) name ≡ at l (max t (suc l))
 
-infixr 4 ◌⊗◌
-◌⊗◌ : {A B : Type 0} → A → B → A × B
-a ⊗ b = (a, b)
-
 elements-open : Each Opens elements
-elements-open =
-    (λ l t. refl) ⊗ (λ l t. refl) ⊗ (λ l t. refl) ⊗ (λ l t. refl) ⊗ (λ l t. refl) ⊗ (λ l t. refl)
-    ⊗ (λ l t. refl) ⊗ (λ l t. refl) ⊗ (λ l t. refl) ⊗ (λ l t. refl) ⊗ (λ l t. refl)
-    ⊗ (λ l t. refl) ⊗ (λ l t. refl) ⊗ (λ l t. refl) ⊗ (λ l t. refl) ⊗ (λ l t. refl)
-    ⊗ (λ l t. refl) ⊗ (λ l t. refl) ⊗ (λ l t. refl) ⊗ (λ l t. refl) ⊗ (λ l t. refl)
-    ⊗ (λ l t. refl) ⊗ (λ l t. refl) ⊗ (λ l t. refl) ⊗ (λ l t. refl) ⊗ tt
+elements-open = grind arith
 
 tags-void : Each Voids void_tags
-tags-void =
-    (λ l t. refl) ⊗ (λ l t. refl) ⊗ (λ l t. refl) ⊗ (λ l t. refl) ⊗ tt
+tags-void = grind arith
 
 -- the parts of a text without `<`
 parts : (x y : List ℕ) → list_all no_angle (x ++ y) ≡ true →
     (list_all no_angle x ≡ true) × (list_all no_angle y ≡ true)
-parts x y h =
-    and_parts (list_all no_angle x) (list_all no_angle y) (sym (list_all-append no_angle x y) ∙ h)
+parts x y h = grind (arith, list_all-append)
 
 -- some text without `<`, and then another
 past : (x y : List ℕ) (l t : ℕ) → list_all no_angle x ≡ true →
     run (at l t) (x ++ y) ≡ run (at l t) y
-past x y l t h = run-append (at l t) x y ∙ ap (λ s. run s y) (quiet x h l t)
+past x y l t h = rw (run-append, quiet x h l t)
 
 -- a tag up to its end
-tag : (name : List ℕ) (attributes : List Attribute) (end rest : List ℕ) (l t : ℕ) (s : State)
-    (level top : ℕ) → s ≡ at level top → run (to Begun (at l t)) name ≡ s →
+tag : (name : List ℕ) (attributes : List Attribute) (end rest : List ℕ) (l t level top : ℕ) →
+    run (to Begun (at l t)) name ≡ at level top →
     list_all no_angle (name ++ (written_attributes attributes ++ end)) ≡ true →
     run (at l t) (60 ∷ (name ++ (written_attributes attributes ++ (end ++ rest))))
     ≡ run (at level top) rest
-tag name attributes end rest l t s level top is after h =
-    let around = parts (written_attributes attributes) end
-    (parts name (written_attributes attributes ++ end) h).1 in
-    run-append (to Begun (at l t)) name (written_attributes attributes ++ (end ++ rest))
-    ∙ ap (λ s. run s (written_attributes attributes ++ (end ++ rest))) (after ∙ is)
-    ∙ past (written_attributes attributes) (end ++ rest) level top around.0
-    ∙ past end rest level top around.1
+tag name attributes end rest l t level top after h = grind (arith, parts, run-append, past)
 
 levels-open : (l t inner rest : ℕ) →
     max (max (max t (suc l)) (suc l + inner)) (l + rest) ≡ max t (l + max (suc inner) rest)
@@ -94,35 +74,29 @@ levels-void l t rest = omega arith
 -- the text of a forest opens as many elements as nest in it, and closes them
 pub opens : (forest : Forest) → is_forest forest ≡ true → (l t : ℕ) → l ≤ t →
     run (at l t) (written forest) ≡ at l (max t (l + levels forest))
-opens Empty h l t low = ap (λ top. at l top) none
-  where
-    none : t ≡ max t (l + 0)
-    none = omega arith
+opens Empty h l t low = grind arith
 opens (Text bytes rest) h l t low =
-    let p = and_parts (is_nonempty bytes && is_escaped bytes && not (begins_with_text rest))
-    (is_forest rest) h in
-    let q = and_parts (is_nonempty bytes && is_escaped bytes) (not (begins_with_text rest)) p.0 in
-    let r = and_parts (is_nonempty bytes) (is_escaped bytes) q.0 in
+    let p = and_parts _ _ h in
+    let r = and_parts _ _ (and_parts _ _ p.0).0 in
     past bytes (written rest) l t (escaped-angle bytes r.1) ∙ opens rest p.1 l t low
 opens (Void name attributes rest) h l t low =
-    let p = and_parts (is_tag void_tags name attributes) (is_forest rest) h in
+    let p = and_parts _ _ h in
     let end : List ℕ = 32 ∷ 47 ∷ 62 ∷ [] in
-    tag name attributes end (written rest) l t (at l (max t (suc l))) l (max t (suc l)) refl
+    tag name attributes end (written rest) l t l (max t (suc l))
     (of-tag Voids void_tags name attributes tags-void p.0 l t)
     (tag-angle name attributes end (void-tidy name attributes p.0) refl)
     ∙ opens rest p.1 l (max t (suc l)) (omega arith)
     ∙ ap (λ top. at l top) (levels-void l t (levels rest))
 opens (Element name attributes inner rest) h l t low =
-    let p = and_parts (is_tag elements name attributes && is_forest inner) (is_forest rest) h in
-    let q = and_parts (is_tag elements name attributes) (is_forest inner) p.0 in
+    let p = and_parts _ _ h in
+    let q = and_parts _ _ p.0 in
     let tidy = element-tidy name attributes q.0 in
     let end : List ℕ = 62 ∷ [] in
     let close : List ℕ = 60 ∷ 47 ∷ (name ++ (62 ∷ written rest)) in
-    let letters : list_all no_angle name ≡ true =
-    name-angle name (and_parts (is_nonempty name) (list_all is_name_byte name) tidy.0).1 in
+    let letters : list_all no_angle name ≡ true = name-angle name (and_parts _ _ tidy.0).1 in
     let top : ℕ = max (max t (suc l)) (suc l + levels inner) in
-    tag name attributes end (written inner ++ close) l t (at (suc l) (max t (suc l))) (suc l)
-    (max t (suc l)) refl (of-tag Opens elements name attributes elements-open q.0 l t)
+    tag name attributes end (written inner ++ close) l t (suc l) (max t (suc l))
+    (of-tag Opens elements name attributes elements-open q.0 l t)
     (tag-angle name attributes end tidy refl)
     ∙ run-append (at (suc l) (max t (suc l))) (written inner) close
     ∙ ap (λ s. run s close) (opens inner q.1 (suc l) (max t (suc l)) (omega arith))
@@ -133,11 +107,5 @@ opens (Element name attributes inner rest) h l t low =
 pub levels-kept : (n : ℕ) (x : List ℕ) (forest : Forest) → IsReading x forest → Leads 0 0 n x →
     levels forest ≤ n
 levels-kept n x forest reading f =
-    let kept = f.leads 0 n (omega arith) in
-    let all = opens forest (is-true reading.in_grammar) 0 n (omega arith) in
-    let same : n ≡ max n (0 + levels forest) =
-    ap (λ s. s.top) (sym kept ∙ ap (λ x. run (at 0 n) x) (sym reading.written_so) ∙ all) in
-    omega (arith, same)
-  where
-    is-true : {b : Bool} → IsTrue b → b ≡ true
-    is-true h = h
+    let all = opens forest reading.in_grammar 0 n (omega arith) in
+    grind (arith, f.leads 0 n, reading.written_so, all)

@@ -1,18 +1,19 @@
 -- The section of footnotes leaves no element open, and opens five at most beside what the texts of
 -- footnotes open.
-use Rattle.std.proofs.Common.{◌≡◌, ℕ, ◌+◌, ◌-◌, ◌≤◌, ◌==◌, zero, suc, Bool, true, false, not, cond}
-use Rattle.std.proofs.Common.{List, [], ◌∷◌, ◌++◌, length, take, drop, refl, ap, sym, ◌∙◌, subst}
+use Rattle.std.proofs.Common.{◌≡◌, ℕ, ◌+◌, ◌-◌, ◌≤◌, ◌==◌, zero, suc, true, not}
+use Rattle.std.proofs.Common.{List, [], ◌∷◌, ◌++◌, length, take, drop, refl, ap, sym, ◌∙◌}
 use Rattle.std.proofs.Common.{arith, append_assoc, codes, length-drop}
-use Rattle.std.specs.Prelude.{Option, Some, None, option_map, find, bytes_eq, string_bytes}
-use Rattle.std.specs.Option.{option_map_or}
+use Rattle.std.specs.Prelude.{None, option_map, bytes_eq, string_bytes}
 use Rattle.std.specs.List.{flat_map}
 use Rattle.std.specs.Fmt.{decimal}
 use Rattle.std.proofs.lemmas.List.{take-append-drop, drop-append-le}
 use Rattle.std.proofs.lemmas.Slice.Eq.{bytes_eq-Decides}
+use Rattle.std.proofs.lemmas.Bool.{cases_Bool}
+use Rattle.std.proofs.Common.{inl, inr}
 use Rattle.md_text.specs.declared.options.CompileOptions.{CompileOptions}
 use Rattle.md_text.proofs.EncodeLaws.{is_escaped-encoded}
 use Rattle.md_meaning.specs.Meaning.At.{Footnote, Context}
-use Rattle.md_meaning.specs.Meaning.Layout.{Piece, Text, Needed}
+use Rattle.md_meaning.specs.Meaning.Layout.{Piece, Text}
 use Rattle.md_meaning.specs.Meaning.Footnotes.{option_or, id_of, call_id, backreference}
 use Rattle.md_meaning.specs.Meaning.Footnotes.{backreferences, unended_length, body, item}
 use Rattle.md_meaning.specs.Meaning.Footnotes.{section_start, section, distinct, place_among}
@@ -23,7 +24,6 @@ use Rattle.md_safe.proofs.Calls.{label-escaped, id-escaped, call_id-escaped}
 use Rattle.md_safe.proofs.Section.{heading_label_of, text_among}
 use Rattle.md_text.proofs.HtmlNames.{escaped-angle}
 use Rattle.md_depth.proofs.Machine.{Leads, ◌▹◌, leads-either, leads-quiet, leads-open, leads-close}
-use Rattle.md_depth.proofs.Machine.{run}
 use Rattle.md_depth.proofs.Moves as moves
 use Rattle.md_depth.proofs.Moves.{Moves, ◌▸◌, none, needed, forced, plain, part, open_tag}
 use Rattle.md_depth.proofs.Moves.{close_tag, close_line, kept, choose}
@@ -31,15 +31,6 @@ use Rattle.md_depth.proofs.Insertion.{leads-put}
 use Rattle.md_depth.proofs.ForestMoves.{TextsLead}
 
 -- ---- the ways back
-
-back-escaped : (options : CompileOptions) →
-    Escaped (option_or (option_map string_bytes options.gfm_footnote_back_label)
-    (codes "Back to content"))
-back-escaped options = by (option_map string_bytes options.gfm_footnote_back_label)
-  where
-    by : (label : Option (List ℕ)) → Escaped (option_or label (codes "Back to content"))
-    by None = refl
-    by (Some x) = is_escaped-encoded x
 
 back-leads : (options : CompileOptions) (identifier : List ℕ) (number occurrence : ℕ) →
     Leads 0 0 2 (backreference options identifier number occurrence)
@@ -50,7 +41,7 @@ back-leads options identifier number occurrence =
     leads-open (codes "<a href=\"#") (λ l t. refl) (omega arith)
     ▹ leads-quiet id (escaped-angle id (call_id-escaped options identifier number occurrence))
     ▹ leads-quiet (codes "\" data-footnote-backref=\"\" aria-label=\"") refl
-    ▹ leads-quiet label (escaped-angle label (back-escaped options))
+    ▹ leads-quiet label (escaped-angle label (grind (arith, is_escaped-encoded)))
     ▹ leads-quiet (codes "\" class=\"data-footnote-backref\">") refl
     ▹ leads-quiet (226 ∷ 134 ∷ 169 ∷ []) refl
     ▹ leads-either (occurrence == 1) (leads-quiet [] refl)
@@ -70,9 +61,6 @@ backs-lead options identifier number (suc count) =
 
 -- ---- a footnote's text with the ways back
 
-spaced : (back : List ℕ) → Leads 0 0 2 back → Leads 0 0 2 (32 ∷ back)
-spaced back f = leads-quiet (32 ∷ []) refl ▹ f
-
 -- where a paragraph ends it, its end tag is cut off whole
 cut-off : (x : List ℕ) →
     bytes_eq (drop (unended_length x - 4) (take (unended_length x) x)) (codes "</p>") ≡ true →
@@ -80,8 +68,7 @@ cut-off : (x : List ℕ) →
 cut-off x h =
     let m : ℕ = unended_length x in
     let n : ℕ = m - 4 in
-    let tag : drop n (take m x) ≡ codes "</p>" =
-    (bytes_eq-Decides (drop n (take m x)) (codes "</p>")).0 h in
+    let tag : drop n (take m x) ≡ codes "</p>" = (bytes_eq-Decides _ _).0 h in
     let fits : n ≤ length (take m x) = omega (arith, length-drop n (take m x), ap length tag) in
     let last : drop n x ≡ codes "</p>" ++ drop m x =
     ap (λ y. drop n y) (sym (take-append-drop m x)) ∙ drop-append-le n (take m x) (drop m x) fits
@@ -91,43 +78,21 @@ cut-off x h =
 body-moves : (e : List ℕ) (n a k : ℕ) → Escaped e → (x back : List ℕ) → Leads 0 0 k x →
     Leads 0 0 2 back → a + (k + 2) ≤ n → Moves e n a a (body x back)
 body-moves e n a k h x back f g room =
-    by (bytes_eq (drop end (take (unended_length x) x)) (codes "</p>")) refl
-  where
-    end : ℕ
-    end = unended_length x - 4
-
-    by : (is : Bool) → bytes_eq (drop (unended_length x - 4) (take (unended_length x) x))
-        (codes "</p>") ≡ is →
-        Moves e n a a (cond is (Text (take (unended_length x - 4) x) ∷ Text (codes " ") ∷ Text back
-        ∷ Text (drop (unended_length x - 4) x) ∷ []) (Text x ∷ Needed ∷ Text back ∷ []))
-    by true is =
-        let y : List ℕ = take (unended_length x - 4) x in
-        let z = cut-off x is in
-        let whole : x ≡ y ++ (60 ∷ z.0) =
-        sym (take-append-drop (unended_length x - 4) x) ∙ ap (λ z. y ++ z) z.1 in
-        let put : Leads 0 0 (k + 2) (y ++ ((32 ∷ back) ++ (60 ∷ z.0))) =
-        leads-put k 2 y (32 ∷ back) z.0 (subst (Leads 0 0 k) whole f) (spaced back g) in
-        joined y back (drop (unended_length x - 4) x)
-        (subst (λ z. Leads 0 0 (k + 2) (y ++ ((32 ∷ back) ++ z))) (sym z.1) put)
-      where
-        joined : (y back z : List ℕ) → Leads 0 0 (k + 2) (y ++ ((32 ∷ back) ++ z)) →
-            Moves e n a a (Text y ∷ Text (codes " ") ∷ Text back ∷ Text z ∷ [])
-        joined y back z f = texts-joined y (codes " ") back z
-            (kept f room)
-          where
-            texts-joined : (y s b z : List ℕ) → Moves e n a a (Text (y ++ (s ++ (b ++ z))) ∷ []) →
-                Moves e n a a (Text y ∷ Text s ∷ Text b ∷ Text z ∷ [])
-            texts-joined y s b z f = record {
-              moves = λ st text l t few before.
-                  ap (run st) (regrouped text y s b z) ∙ f.moves st text l t few before;
-            }
-              where
-                regrouped : (text y s b z : List ℕ) →
-                    (((text ++ y) ++ s) ++ b) ++ z ≡ text ++ (y ++ (s ++ (b ++ z)))
-                regrouped text y s b z = simp append_assoc
-    by false is =
-        kept f (omega arith) ▸ needed h
-        ▸ kept g (omega arith)
+    let end : ℕ = unended_length x - 4 in
+    elim (cases_Bool (bytes_eq (drop end (take (unended_length x) x)) (codes "</p>"))) [
+      | inl is ↦
+          let y : List ℕ = take end x in
+          let z = cut-off x is in
+          let whole : x ≡ y ++ (60 ∷ z.0) =
+          sym (take-append-drop end x) ∙ ap (λ z. y ++ z) z.1 in
+          let put : Moves e n a a (Text (y ++ ((32 ∷ back) ++ (60 ∷ z.0))) ∷ []) =
+          kept (leads-put k 2 y (32 ∷ back) z.0 (rw whole at f) (leads-quiet (32 ∷ []) refl ▹ g))
+          room in
+          rw (is, z.1) (record {
+            moves = λ s text l t few before. simp append_assoc (put.moves s text l t few before);
+          })
+      | inr is ↦ rw is (kept f (omega arith) ▸ needed h ▸ kept g (omega arith))
+    ]
 
 -- ---- an item, and all
 
@@ -149,14 +114,8 @@ item-moves e n a k h context footnotes identifier f room =
 found-leads : (k : ℕ) (footnotes : List Footnote) (identifier : List ℕ) → TextsLead k footnotes →
     Leads 0 0 k (text_among footnotes identifier)
 found-leads k [] identifier h = leads-quiet [] refl
-found-leads k (footnote ∷ others) identifier h = by (bytes_eq footnote.identifier identifier)
-    (found-leads k others identifier h.1)
-  where
-    by : (is : Bool) → Leads 0 0 k (text_among others identifier) →
-        Leads 0 0 k (option_map_or (λ footnote. footnote.text) (cond is (Some footnote)
-        (find (λ footnote. bytes_eq footnote.identifier identifier) others)) [])
-    by true later = h.0
-    by false later = later
+found-leads k (footnote ∷ others) identifier h =
+    grind (arith, h, found-leads k others identifier h.1)
 
 items-move : (e : List ℕ) (n a k : ℕ) → Escaped e → (context : Context)
     (footnotes : List Footnote) →
@@ -177,8 +136,7 @@ head_of tag attributes label =
 two-texts : (e : List ℕ) (n a b : ℕ) (x y : List ℕ) → Moves e n a b (Text (x ++ y) ∷ []) →
     Moves e n a b (Text x ∷ Text y ∷ [])
 two-texts e n a b x y f = record {
-  moves = λ s text l t few before.
-      ap (run s) (append_assoc text x y) ∙ f.moves s text l t few before;
+  moves = λ s text l t few before. rw append_assoc (f.moves s text l t few before);
 }
 
 head-moves : (e : List ℕ) (n : ℕ) → 2 ≤ n → (label : List ℕ) → Escaped label →
@@ -197,16 +155,10 @@ start-moves : (e : List ℕ) (n : ℕ) → 2 ≤ n → Escaped e → (options : 
     options.gfm_footnote_label_tag_name ≡ None → options.gfm_footnote_label_attributes ≡ None →
     Moves e n 0 2 (section_start options)
 start-moves e n room h options no_tag no_attributes =
-    let tag : tag_of options ≡ codes "h2" =
-    ap (λ o. option_or (option_map string_bytes o) (codes "h2")) no_tag in
-    let attributes : attributes_of options ≡ codes "class=\"sr-only\"" =
-    ap (λ o. option_map_or string_bytes o (codes "class=\"sr-only\"")) no_attributes in
     let head : Moves e n 0 1 (head_of (tag_of options) (attributes_of options)
     (heading_label_of options)) =
-    subst (λ tag. Moves e n 0 1 (head_of tag (attributes_of options) (heading_label_of options)))
-    (sym tag) (subst (λ attributes. Moves e n 0 1 (head_of (codes "h2") attributes
-    (heading_label_of options))) (sym attributes)
-    (head-moves e n room (heading_label_of options) (label-escaped options))) in
+    rw (no_tag, no_attributes)
+    (head-moves e n room (heading_label_of options) (label-escaped options)) in
     needed h ▸ head ▸ forced h
     ▸ open_tag (codes "<ol>") (λ l t. refl) room
 

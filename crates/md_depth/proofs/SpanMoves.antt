@@ -1,10 +1,9 @@
 -- Spans leave no element open, and open two at most beside what their children open.
-use Rattle.std.specs.List.{list_all}
-use Rattle.std.proofs.Common.{◌≡◌, ℕ, ◌≤◌, suc, Bool, true, false, not, ◌||◌, cond}
-use Rattle.std.proofs.Common.{List, [], ◌∷◌, ◌++◌, refl, sym, subst, inl, inr, arith, codes}
+use Rattle.std.proofs.Common.{◌≡◌, ℕ, ◌≤◌, suc, Bool, true, not, cond}
+use Rattle.std.proofs.Common.{List, [], ◌∷◌, ◌++◌, refl, inl, inr, arith, codes}
 use Rattle.std.specs.Prelude.{Option, Some, None}
 use Rattle.std.specs.Fmt.{decimal}
-use Rattle.std.proofs.lemmas.Bool.{cond_both, or_cases}
+use Rattle.std.proofs.lemmas.Bool.{or_cases}
 use Rattle.md_base.proofs.Lies.{lie}
 use Rattle.md_base.specs.declared.event.Name.{Name}
 use Rattle.md_base.specs.declared.event.Name.TheVariants as name_variants
@@ -14,15 +13,13 @@ use name_variants.{GfmAutolinkLiteralMailto, GfmAutolinkLiteralProtocol, GfmAuto
 use name_variants.{GfmAutolinkLiteralXmpp}
 use Rattle.md_text.specs.declared.options.CompileOptions.{CompileOptions}
 use Rattle.md_text.specs.Encode.{encoded}
-use Rattle.md_text.specs.Url.{sanitized, sanitized_with, link_protocols, image_protocols}
-use Rattle.md_text.proofs.HtmlNames.{no_angle}
 use Rattle.md_text.proofs.EncodeLaws.{is_escaped-encoded}
 use Rattle.md_text.proofs.EscapedLemmas.{sanitized-escaped, sanitized_with-escaped}
 use Rattle.md_meaning.specs.Meaning.At.{Target, At, text_in, identifier_of}
 use Rattle.md_meaning.specs.Meaning.Layout.{Piece, layout, said}
 use Rattle.md_meaning.specs.Meaning.Means.{prints}
 use Rattle.md_meaning.specs.Meaning.Spans.{span, task_start, code, trimmed, without_escapes}
-use Rattle.md_meaning.specs.Meaning.Media.{url, href, src, title_attribute, anchor, picture}
+use Rattle.md_meaning.specs.Meaning.Media.{href, src, title_attribute, anchor, picture}
 use Rattle.md_meaning.specs.Meaning.Media.{leads_to, autolink}
 use Rattle.md_meaning.specs.Meaning.Footnotes.{id_of, call_id, place_among, distinct, count_of}
 use Rattle.md_content.specs.Built.{Blocks, content_of, is_autolink}
@@ -54,12 +51,6 @@ around e m n room in_image o c opens closes inner a =
 
 -- ---- links and images
 
-url-escaped : (any : Bool) (protocols : List (List ℕ)) (destination : List ℕ) →
-    Escaped (url any protocols destination)
-url-escaped any protocols destination =
-    cond_both any (sanitized destination) (sanitized_with protocols destination) Escaped
-    (λ _. sanitized-escaped destination) (λ _. sanitized_with-escaped protocols destination)
-
 title-moves : {e : List ℕ} {n a : ℕ} (title : Option (List ℕ)) → IsEscapedTitle title →
     Moves e n a a (title_attribute title)
 title-moves None h = none
@@ -72,7 +63,7 @@ anchor-moves : (e : List ℕ) (m n : ℕ) → Room m n → (options : CompileOpt
 anchor-moves e m n room options target title label f =
     open_tag (codes "<a href=\"") (λ l t. refl) (omega arith)
     ▸ plain (href options target.destination)
-    (url-escaped _ link_protocols target.destination)
+    (grind (arith, sanitized-escaped, sanitized_with-escaped))
     ▸ part (codes "\"") refl ▸ title-moves target.title title
     ▸ part (codes ">") refl ▸ kept f (omega arith)
     ▸ close_tag (codes "</a>") (λ l t. refl)
@@ -83,7 +74,7 @@ picture-moves : (e : List ℕ) (m n : ℕ) → Room m n → (options : CompileOp
 picture-moves e m n room options target title label h =
     void_tag (codes "<img src=\"") (λ l t. refl) (omega arith)
     ▸ plain (src options target.destination)
-    (url-escaped _ image_protocols target.destination)
+    (grind (arith, sanitized-escaped, sanitized_with-escaped))
     ▸ part (codes "\" alt=\"") refl ▸ plain label h ▸ part (codes "\"") refl
     ▸ title-moves target.title title ▸ part (codes " />") refl
 
@@ -92,23 +83,12 @@ picture-moves e m n room options target title label h =
 code-moves : (e : List ℕ) (m n : ℕ) → Room m n → (t : At) (math : Bool) (x : List ℕ) → Escaped x →
     Moves e n 0 0 (code t (code_opening math) x)
 code-moves e m n room t math x h =
+    let unescaped : List ℕ = cond t.around.in_table (without_escapes x) x in
+    let shown : List ℕ = trimmed unescaped in
+    let all : Escaped shown = trimmed-escaped unescaped (grind (arith, pipes-escaped, h)) in
     choose t.around.in_image (plain shown all)
-    (open_tag (code_opening math) (opens math) (omega arith) ▸ plain shown all
+    (open_tag (code_opening math) (λ l t. grind arith) (omega arith) ▸ plain shown all
     ▸ close_tag (codes "</code>") (λ l t. refl))
-  where
-    unescaped : List ℕ
-    unescaped = cond t.around.in_table (without_escapes x) x
-
-    shown : List ℕ
-    shown = trimmed unescaped
-
-    all : Escaped shown
-    all = trimmed-escaped unescaped (cond_both t.around.in_table (without_escapes x) x Escaped
-        (λ _. pipes-escaped x h) (λ _. h))
-
-    opens : (math : Bool) → IsOpening (code_opening math)
-    opens true = λ l t. refl
-    opens false = λ l t. refl
 
 -- ---- calls, breaks and tasks
 
@@ -128,16 +108,12 @@ call-moves e m n room options identifier number occurrence =
     ▸ moves.text (leads-close (codes "</a>") (λ l t. refl)
     ▹ leads-close (codes "</sup>") (λ l t. refl))
 
-done-quiet : (in_image : Bool) (x : List ℕ) → IsDone in_image x → list_all no_angle x ≡ true
-done-quiet in_image x (inl is) = subst (λ x. list_all no_angle x ≡ true) (sym is) refl
-done-quiet in_image x (inr is) = subst (λ x. list_all no_angle x ≡ true) (sym is.1) refl
-
 task-moves : (s : Setting) (t : At) (m n : ℕ) → Room m n → (inner : List Piece) →
     Prints s (IsDone t.around.in_image) inner →
     Moves s.context.ending n 0 0 (span t (task_start s.context) inner (said (codes "/>")))
 task-moves s t m n room inner a =
     let mark : Moves s.context.ending n 0 0 inner =
-    adds-quiet inner (adds-weaker (done-quiet t.around.in_image) a) in
+    adds-quiet inner (adds-weaker (λ x done. grind arith) a) in
     choose t.around.in_image mark
     ((void_tag (codes "<input type=\"checkbox\" ") (λ l t. refl) (omega arith)
     ▸ choose (not s.context.options.gfm_task_list_item_checkable)
@@ -155,18 +131,12 @@ pair-moves : (s : Setting) (t : At) (m n : ℕ) → Room m n → (name : Name) �
 pair-moves s t m n room name is inner below =
     let e : List ℕ = s.context.ending in
     let tag : List ℕ = pair_tag name in
-    subst (Moves e n 0 0) (sym (pair-prints s.context t name is inner))
-    (around e m n room t.around.in_image (60 ∷ (tag ++ (62 ∷ []))) (60 ∷ 47 ∷ (tag ++ (62 ∷ [])))
+    rw (pair-prints s.context t name is inner) (around e m n room t.around.in_image
+    (60 ∷ (tag ++ (62 ∷ []))) (60 ∷ 47 ∷ (tag ++ (62 ∷ [])))
     (by_pair (λ tag. IsOpening (60 ∷ (tag ++ (62 ∷ [])))) (λ l t. refl) (λ l t. refl)
     (λ l t. refl) name is)
     (by_pair (λ tag. IsClosing (60 ∷ 47 ∷ (tag ++ (62 ∷ [])))) (λ l t. refl) (λ l t. refl)
-    (λ l t. refl) name is) inner (below (blocks name is)))
-  where
-    blocks : (name : Name) → is_pair name ≡ true → is_blocks (content_of name Blocks) ≡ true
-    blocks name_variants.Emphasis is = refl
-    blocks name_variants.Strong is = refl
-    blocks name_variants.GfmStrikethrough is = refl
-    blocks _ is = lie is
+    (λ l t. refl) name is) inner (below (grind arith)))
 
 single-moves : (s : Setting) (t : At) (m n : ℕ) → Room m n → (name : Name) →
     is_single name ≡ true → IsGoodTarget t.found.resource → (inner : List Piece) →
@@ -204,7 +174,7 @@ pub span-moves : (s : Setting) (t : At) (m n : ℕ) → Room m n → (name : Nam
 span-moves s t m n room name e is good inner a below = elim (or_cases (is_pair name) _ is) [
   | inl is ↦ pair-moves s t m n room name is inner below
   | inr c ↦ elim (or_cases (is_code name) (is_single name) c) [
-    | inl is ↦ subst (Moves s.context.ending n 0 0) (sym (code-prints s.context t name is inner))
+    | inl is ↦ rw (code-prints s.context t name is inner)
         (code-moves s.context.ending m n room t (is_math name) (layout s.context.ending inner)
         (code-text s t Blocks name e is inner a))
     | inr is ↦ single-moves s t m n room name is good inner a below
@@ -227,18 +197,13 @@ link-moves s t m n room prefix plainly =
 pub autolink-moves : (s : Setting) (t : At) (m n : ℕ) → Room m n → (name : Name) →
     is_autolink name ≡ true → (inner : List Piece) →
     Moves s.context.ending n 0 0 (prints s.context t name inner)
-autolink-moves s t m n room AutolinkEmail is inner =
-    link-moves s t m n room (codes "mailto:") t.around.in_image
-autolink-moves s t m n room AutolinkProtocol is inner =
-    link-moves s t m n room [] t.around.in_image
+autolink-moves s t m n room AutolinkEmail is inner = link-moves s t m n room (codes "mailto:") _
+autolink-moves s t m n room AutolinkProtocol is inner = link-moves s t m n room [] _
 autolink-moves s t m n room GfmAutolinkLiteralEmail is inner =
-    link-moves s t m n room (codes "mailto:") (t.around.in_image || t.around.in_link)
-autolink-moves s t m n room GfmAutolinkLiteralMailto is inner =
-    link-moves s t m n room [] (t.around.in_image || t.around.in_link)
-autolink-moves s t m n room GfmAutolinkLiteralProtocol is inner =
-    link-moves s t m n room [] (t.around.in_image || t.around.in_link)
+    link-moves s t m n room (codes "mailto:") _
+autolink-moves s t m n room GfmAutolinkLiteralMailto is inner = link-moves s t m n room [] _
+autolink-moves s t m n room GfmAutolinkLiteralProtocol is inner = link-moves s t m n room [] _
 autolink-moves s t m n room GfmAutolinkLiteralWww is inner =
-    link-moves s t m n room (codes "http://") (t.around.in_image || t.around.in_link)
-autolink-moves s t m n room GfmAutolinkLiteralXmpp is inner =
-    link-moves s t m n room [] (t.around.in_image || t.around.in_link)
+    link-moves s t m n room (codes "http://") _
+autolink-moves s t m n room GfmAutolinkLiteralXmpp is inner = link-moves s t m n room [] _
 autolink-moves s t m n room _ is inner = lie is

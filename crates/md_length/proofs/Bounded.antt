@@ -1,24 +1,22 @@
 -- The text of a document is bounded by its events, its work and what it uses again.
-use Rattle.std.proofs.Common.{◌≡◌, ℕ, ◌+◌, ◌*◌, ◌^◌, ◌≤◌, ◌<◌, Bool, List, []}
-use Rattle.std.proofs.Common.{◌∷◌, ◌++◌, length, refl, ap, arith}
-use Rattle.std.specs.Prelude.{if◌then◌else◌}
+use Rattle.std.proofs.Common.{◌≡◌, ℕ, ◌+◌, ◌^◌, ◌≤◌, ◌<◌, Bool, List, []}
+use Rattle.std.proofs.Common.{◌∷◌, ◌++◌, length, refl, arith}
 use Rattle.std.proofs.Math.Nat.{mul-le-mul_left}
 use Rattle.md_base.specs.declared.event.Event.{Event}
 use Rattle.md_base.specs.declared.event.Name.{Name}
-use Rattle.md_base.specs.declared.event.Name.TheVariants.{GfmFootnoteCall}
 use Rattle.md_base.specs.Is.{is}
-use Rattle.md_base.specs.Tree.{Forest, Empty, Node, flatten, exiting}
+use Rattle.md_base.specs.Tree.{Forest, Empty, Node, flatten}
 use Rattle.md_text.specs.declared.options.CompileOptions.{CompileOptions}
 use Rattle.md_tree.specs.Grammar.{IsGrammatical}
 use Rattle.md_meaning.specs.Meaning.{meaning}
-use Rattle.md_length.specs.Bound.{for_work, text_bound}
-use Rattle.md_length.specs.Reuse.{is_call, entries, call_texts, reuse, referred as reused}
+use Rattle.md_length.specs.Bound.{text_bound}
+use Rattle.md_length.specs.Reuse.{is_call, entries, reuse}
 use Rattle.md_length.specs.Uses.{called}
 use Rattle.md_length.specs.Work.{work}
 use Rattle.md_length.proofs.Cells.{values-few}
 use Rattle.md_length.proofs.Heads.{grammatical-cells}
 use Rattle.md_length.proofs.Lengths.{read-no_less}
-use Rattle.md_length.proofs.Units.{half_unit, events-nodes, nodes-units}
+use Rattle.md_length.proofs.Units.{events-nodes, nodes-units}
 use Rattle.md_length.proofs.Links.{referred-short}
 use Rattle.md_length.proofs.Kept.{calls-few-nodes}
 use Rattle.md_length.proofs.Whole.{meaning-short}
@@ -29,24 +27,11 @@ entries-append : (test : Name → Bool) (xs ys : List Event) →
 entries-append test [] ys = omega arith
 entries-append test (x ∷ xs) ys = omega (arith, entries-append test xs ys)
 
-abbrev one : Bool → ℕ
-one holds = if holds then 1 else 0
-
 calls-entered : (bytes : List ℕ) (forest : Forest) →
     called (λ identifier. 1) bytes forest ≡ entries is_call (flatten forest)
 calls-entered bytes Empty = refl
 calls-entered bytes (Node name start end children rest) =
-    omega (
-      arith,
-      own name,
-      calls-entered bytes children,
-      calls-entered bytes rest,
-      entries-append is_call (flatten children) (exiting name end ∷ flatten rest),
-    )
-  where
-    own : (name : Name) → one (is GfmFootnoteCall name) ≡ one (is_call name)
-    own GfmFootnoteCall = refl
-    own _ = refl
+    grind (arith, calls-entered bytes children, calls-entered bytes rest, entries-append)
 
 pub text-bounded : (options : CompileOptions) (names : List (List ℕ × List ℕ)) (bytes : List ℕ)
     (document : Forest) → IsGrammatical bytes names document →
@@ -55,30 +40,22 @@ pub text-bounded : (options : CompileOptions) (names : List (List ℕ × List �
     ≤ text_bound options names (length (flatten document))
     (work (flatten document) + reuse options bytes document)
 text-bounded options names bytes document is few =
-    let events : List Event = flatten document in
-    let used : ℕ = reuse options bytes document in
-    let few_own : reused bytes document ≤ used = omega arith in
-    let half = events-nodes document in
-    let short = meaning-short options names bytes document is (omega (arith, few, half)) in
-    omega (
+    grind (
       arith,
-      short,
-      half,
-      nodes-units names document,
-      read-no_less document,
-      referred-short options names bytes document is,
-      grammatical-cells bytes names document is,
-      values-few document,
-      ap (λ n. n * call_texts options) (calls-entered bytes document),
-      calls-few-nodes bytes document,
-      mul-le-mul_left (half_unit names) few_own,
+      events-nodes,
+      meaning-short,
+      nodes-units,
+      read-no_less,
+      referred-short,
+      grammatical-cells,
+      values-few,
+      calls-entered,
+      calls-few-nodes,
+      mul-le-mul_left,
     )
 
 -- more work bounds a longer text
 pub bound-grows : (options : CompileOptions) (names : List (List ℕ × List ℕ)) (events few many : ℕ)
     →
     few ≤ many → text_bound options names events few ≤ text_bound options names events many
-bound-grows options names events few many h =
-    let more : for_work names * few ≤ for_work names * many =
-    mul-le-mul_left (for_work names) h in
-    omega (arith, more)
+bound-grows options names events few many h = grind arith

@@ -1,28 +1,23 @@
 -- The cells of tables' rows are bounded by what work counts for them: after a table's columns are
 -- known, each row counts all of them, and its head has one row before.
-use Rattle.std.proofs.Common.{◌≡◌, ℕ, ◌+◌, ◌*◌, ◌≤◌, Bool, true, false, ◌&&◌, not, List, [], ◌∷◌}
-use Rattle.std.proofs.Common.{◌++◌, length, refl, sym, ap, ◌∙◌, arith, append_assoc}
+use Rattle.std.proofs.Common.{◌≡◌, ℕ, ◌+◌, ◌*◌, ◌≤◌, Bool, true, false, List, ◌∷◌}
+use Rattle.std.proofs.Common.{◌++◌, length, refl, ◌∙◌, arith, append_assoc}
 use Rattle.std.specs.Prelude.{if◌then◌else◌}
-use Rattle.std.proofs.Math.Nat.{add-zero}
 use Rattle.std.proofs.lemmas.List.{length-append}
-use Rattle.md_base.proofs.Lies.{lie}
 use Rattle.md_base.specs.declared.event.AlignKind.{AlignKind}
 use Rattle.md_base.specs.declared.event.Event.{Event}
-use Rattle.md_base.specs.declared.event.Name.{Name}
 use Rattle.md_base.specs.declared.event.Name.TheVariants as name_variants
-use name_variants.{GfmTable, GfmTableRow, Data, GfmTableDelimiterCellValue}
-use Rattle.md_base.specs.declared.event.Point.{Point}
+use name_variants.{GfmTable}
 use Rattle.md_base.specs.Is.{is}
-use Rattle.md_base.specs.NameTests.{leads_to_values}
-use Rattle.md_base.specs.Tree.{Forest, Empty, Node, flatten, entering, exiting}
-use Rattle.md_pattern.specs.Alignments.{alignments, alignment_of}
-use Rattle.md_steps.specs.Content.{Content, Blocks, BeforeLabel, Rows, Fits, is_allowed}
-use Rattle.md_steps.specs.Content.{content_inside, content_past, content_after_node}
+use Rattle.md_base.specs.Tree.{Forest, Empty, Node, flatten, exiting}
+use Rattle.md_pattern.specs.Alignments.{alignments}
+use Rattle.md_steps.specs.Content.{Content, Blocks, Rows, Fits}
+use Rattle.md_steps.specs.Content.{content_inside, content_after_node}
 use Rattle.md_steps.proofs.Staying.{node-same}
 use Rattle.md_length.specs.Costs.{nodes}
 use Rattle.md_length.proofs.Pieces.{either-number}
-use Rattle.md_length.specs.Uses.{cells, columns_in}
-use Rattle.md_length.specs.Work.{is_row, is_column, exits, columns_after, cells as counted}
+use Rattle.md_length.specs.Uses.{cells}
+use Rattle.md_length.specs.Work.{is_column, cells as counted}
 
 -- ---- where no table stands
 abbrev pub is_inner : Content → Bool
@@ -31,47 +26,6 @@ is_inner content = elim content [ Blocks ↦ false | _ ↦ true ]
 -- and no row
 abbrev pub is_rowless : Content → Bool
 is_rowless content = elim content [ Blocks ↦ false | Rows ↦ false | _ ↦ true ]
-
-past-inner : (content : Content) → is_inner (content_past content) ≡ is_inner content
-past-inner BeforeLabel = refl
-past-inner _ = refl
-
-past-rowless : (content : Content) → is_rowless (content_past content) ≡ is_rowless content
-past-rowless BeforeLabel = refl
-past-rowless _ = refl
-
--- what stands there is neither a table nor a row, and the same holds in it
-abbrev is_tableless : Content → Name → Bool
-is_tableless content name = not (is GfmTable name) && is_inner (content_inside content name)
-
-abbrev is_unrowed : Content → Name → Bool
-is_unrowed content name = not (is GfmTable name)
-    && (not (is GfmTableRow name) && is_rowless (content_inside content name))
-
-tableless : (content : Content) (name : Name) →
-    (if is_inner content && is_allowed content name then is_tableless content name else true) ≡ true
-tableless Blocks name = refl
-tableless _ Data = refl
-tableless _ _ = refl
-
-unrowed : (content : Content) (name : Name) →
-    (if is_rowless content && is_allowed content name then is_unrowed content name else true)
-    ≡ true
-unrowed Blocks name = refl
-unrowed Rows name = refl
-unrowed _ Data = refl
-unrowed _ _ = refl
-
-inner-name : (content : Content) (name : Name) → is_inner content ≡ true →
-    is_allowed content name ≡ true →
-    (is GfmTable name ≡ false) × (is_inner (content_inside content name) ≡ true)
-inner-name content name h may = grind (arith, tableless content name)
-
-rowless-name : (content : Content) (name : Name) → is_rowless content ≡ true →
-    is_allowed content name ≡ true →
-    (is GfmTable name ≡ false) × (is GfmTableRow name ≡ false)
-    × (is_rowless (content_inside content name) ≡ true)
-rowless-name content name h may = grind (arith, unrowed content name)
 
 -- ---- how many columns are entered
 abbrev pub values : Forest → ℕ
@@ -87,75 +41,38 @@ values-few (Node name start end children rest) =
 pub aligned-few : (forest : Forest) → length (alignments forest) ≤ values forest
 aligned-few Empty = omega arith
 aligned-few (Node name start end children rest) =
-    omega (
-      arith,
-      own name (aligned-few children),
-      aligned-few rest,
-      length-append {A = AlignKind},
-    )
-  where
-    own : (name : Name) → length (alignments children) ≤ values children →
-        length (if is GfmTableDelimiterCellValue name
-        then alignment_of children ∷ []
-        else (if leads_to_values name then alignments children else []))
-        ≤ (if is_column name then 1 else 0) + values children
-    own GfmTableDelimiterCellValue few = omega arith
-    own _ few = omega arith
+    grind (arith, aligned-few children, aligned-few rest, length-append)
 
 -- ---- rows after their columns are known
--- a row counts what it has
-own-row : (name : Name) (columns : List AlignKind) (k : ℕ) (end : Point) → length columns ≤ k →
-    5 * (if is GfmTableRow name then length columns else 0)
-    ≤ (if exits is_row (exiting name end) then 5 * k else 0)
-own-row GfmTableRow columns k end few = omega arith
-own-row _ columns k end few = omega arith
-
--- the columns that are known after a node is entered that is no table
-entered-columns : (name : Name) (start : Point) (k : ℕ) → is GfmTable name ≡ false →
-    columns_after k (entering name start) ≡ (if is_column name then 1 else 0) + k
-entered-columns GfmTable start k other = lie (sym other)
-entered-columns _ start k other = omega arith
-
-pub same-columns : (columns : List AlignKind) (name : Name) (children : Forest) →
-    is GfmTable name ≡ false → columns_in columns name children ≡ columns
-same-columns columns name children other =
-    ap (λ b. if b then alignments children else columns) other
-
 pub rows-counted : (content : Content) (columns : List AlignKind) (k after : ℕ) (forest : Forest)
     (tail : List Event) → is_inner content ≡ true → Fits content forest → length columns ≤ k →
     after ≡ k + values forest →
     5 * cells columns forest + counted after tail ≤ counted k (flatten forest ++ tail)
-rows-counted content columns k after Empty tail inner fits few e =
-    omega (arith, ap (λ n. counted n tail) (e ∙ add-zero k))
+rows-counted content columns k after Empty tail inner fits few e = grind arith
 rows-counted content columns k after (Node name start end children rest) tail inner fits few e =
-    let known = inner-name content name inner fits.0 in
+    let known : (is GfmTable name ≡ false) × (is_inner (content_inside content name) ≡ true) =
+    grind arith in
     let begun : ℕ = (if is_column name then 1 else 0) + k in
     let middle : ℕ = begun + values children in
-    omega (
+    grind (
       arith,
-      ap (λ n. counted n ((flatten children ++ exiting name end ∷ flatten rest) ++ tail))
-          (entered-columns name start k known.0)
-          ∙ ap (λ events. counted begun events)
-          (append_assoc (flatten children) (exiting name end ∷ flatten rest) tail),
+      append_assoc,
+      known,
       rows-counted (content_inside content name) columns begun middle children
           (exiting name end ∷ (flatten rest ++ tail)) known.1 fits.1 (omega arith) refl,
       rows-counted (content_after_node content name children) columns middle after rest tail
-          (node-same is_inner past-inner content name children ∙ inner) fits.2 (omega arith)
-          (omega arith),
-      own-row name columns middle end (omega arith),
-      ap (λ cs. cells cs children) (same-columns columns name children known.0),
+          (node-same is_inner (λ content. grind arith) content name children ∙ inner) fits.2
+          (omega arith) (omega arith),
     )
 
 pub no-cells : (content : Content) (columns : List AlignKind) (forest : Forest) →
     is_rowless content ≡ true → Fits content forest → cells columns forest ≡ 0
 no-cells content columns Empty h fits = refl
 no-cells content columns (Node name start end children rest) h fits =
-    let known = rowless-name content name h fits.0 in
-    omega (
+    let inside : is_rowless (content_inside content name) ≡ true = grind arith in
+    grind (
       arith,
-      ap (λ b. if b then length columns else 0) known.1,
-      ap (λ cs. cells cs children) (same-columns columns name children known.0),
-      no-cells (content_inside content name) columns children known.2 fits.1,
+      no-cells (content_inside content name) columns children inside fits.1,
       no-cells (content_after_node content name children) columns rest
-          (node-same is_rowless past-rowless content name children ∙ h) fits.2,
+          (node-same is_rowless (λ content. grind arith) content name children ∙ h) fits.2,
     )

@@ -1,31 +1,23 @@
 -- The events of a definition: those of its children, before the next event of a definition.
-use Rattle.std.proofs.Common.{◌≡◌, ℕ, zero, suc, true, false, List, ◌∷◌, [], ◌++◌, drop, refl}
-use Rattle.std.proofs.Common.{ap, sym, ◌∙◌, append_assoc, arith}
-use Rattle.md_base.proofs.Lies.{lie}
+use Rattle.std.proofs.Common.{◌≡◌, ℕ, zero, suc, true, List, ◌∷◌, [], ◌++◌, drop, refl}
+use Rattle.std.proofs.Common.{sym, ◌∙◌, append_assoc, arith}
 use Rattle.md_base.specs.declared.event.Event.{Event}
 use Rattle.md_base.specs.declared.event.Name.{Name}
-use Rattle.md_base.specs.declared.event.Name.TheVariants.{Definition}
 use Rattle.md_base.specs.declared.event.Point.{Point}
 use Rattle.md_base.specs.Tree.{Forest, Empty, Node, flatten, entering, exiting}
 use Rattle.md_pattern.specs.Partners.{index_after}
 use Rattle.md_steps.specs.Content.{Content, Fits, content_inside, content_after_node}
-use Rattle.md_steps.proofs.AlikeStrings.{is_plain, plain}
+use Rattle.md_steps.proofs.AlikeStrings.{plain}
 use Rattle.md_steps.proofs.Quiet.{past-callless}
 use Rattle.md_steps.proofs.Standing.{allowed-facts, is_callless}
 use Rattle.md_steps.proofs.Staying.{node-same}
-use Rattle.md_length.specs.Work.{before_definition, is_definition}
-
-not-defining : (name : Name) → is_plain name ≡ true → is_definition name ≡ false
-not-defining Definition h = lie h
-not-defining _ h = refl
+use Rattle.md_length.specs.Work.{before_definition}
 
 -- the events of a node with its children, and those after it
 pub node-events : (name : Name) (start end : Point) (children rest : Forest) (tail : List Event) →
     flatten (Node name start end children rest) ++ tail
     ≡ entering name start ∷ (flatten children ++ exiting name end ∷ (flatten rest ++ tail))
-node-events name start end children rest tail =
-    ap (λ events. entering name start ∷ events)
-    (append_assoc (flatten children) (exiting name end ∷ flatten rest) tail)
+node-events name start end children rest tail = grind (arith, append_assoc)
 
 -- no definition stands in one
 pub before-low : (content : Content) (forest : Forest) (tail : List Event) →
@@ -33,7 +25,7 @@ pub before-low : (content : Content) (forest : Forest) (tail : List Event) →
     before_definition (flatten forest ++ tail) ≡ flatten forest ++ before_definition tail
 before-low content Empty tail low fits = refl
 before-low content (Node name start end children rest) tail low fits =
-    let other = not-defining name (plain content name low fits.0) in
+    let other = plain content name low fits.0 in
     let inner = before-low (content_inside content name) children
     (exiting name end ∷ (flatten rest ++ tail)) ((allowed-facts content name fits.0).callless low).0
     fits.1 in
@@ -56,8 +48,7 @@ pub inside_node : (events : List Event) (index : ℕ) (name : Name) (start end :
     drop index events ≡ flatten (Node name start end children rest) ++ tail →
     drop (suc index) events ≡ flatten children ++ exiting name end ∷ (flatten rest ++ tail)
 inside_node events index name start end children rest tail split =
-    dropped events index (entering name start) _
-    (split ∙ node-events name start end children rest tail)
+    grind (arith, dropped, node-events)
 
 behind : (events : List Event) (index : ℕ) (forest : Forest) (tail : List Event) →
     drop index events ≡ flatten forest ++ tail → drop (index_after index forest) events ≡ tail

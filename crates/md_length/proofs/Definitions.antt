@@ -5,26 +5,25 @@ use Rattle.std.proofs.Common.{length, map, drop, refl, ap, ◌∙◌, arith}
 use Rattle.std.proofs.Common.{bytes_eq, append_assoc, append-nil}
 use Rattle.std.specs.Prelude.{if◌then◌else◌, find}
 use Rattle.std.specs.Option.{option_map_or}
-use Rattle.md_base.proofs.Lies.{lie}
 use Rattle.md_base.specs.declared.event.Event.{Event}
 use Rattle.md_base.specs.declared.event.Name.{Name}
 use Rattle.md_base.specs.declared.event.Name.TheVariants as name_variants
-use name_variants.{Definition, Resource}
+use name_variants.{Definition}
 use Rattle.md_base.specs.Is.{is}
 use Rattle.md_base.specs.Children.{is_empty}
-use Rattle.md_base.specs.NameTests.{is_transparent, is_link_definition}
+use Rattle.md_base.specs.NameTests.{is_link_definition}
 use Rattle.md_base.specs.Tree.{Forest, Empty, Node, flatten, exiting}
 use Rattle.md_meaning.specs.declared.surroundings.Surroundings.{Surroundings}
-use Rattle.md_meaning.specs.Meaning.At.{Context, At, Before, Defined, target_in}
+use Rattle.md_meaning.specs.Meaning.At.{Context, Before, Defined, target_in}
 use Rattle.md_meaning.specs.Meaning.At.{identifier_of, nothing_found}
 use Rattle.md_meaning.specs.Meaning.Before.{before_children}
-use Rattle.md_meaning.specs.Meaning.Layout.{layout, when}
-use Rattle.md_meaning.specs.Meaning.Nodes.{Outcome, outcome, found_at}
+use Rattle.md_meaning.specs.Meaning.Layout.{when}
+use Rattle.md_meaning.specs.Meaning.Nodes.{outcome}
 use Rattle.md_pattern.specs.Partners.{index_after, definition_entries}
 use Rattle.md_content.specs.References.{first_of}
-use Rattle.md_steps.specs.Claim.{inner_of, at_node, node_of, next_before}
+use Rattle.md_steps.specs.Claim.{inner_of, next_before}
 use Rattle.md_steps.specs.Content.{Content, Sources, Fits, content_inside, content_after_node}
-use Rattle.md_steps.proofs.AlikeStrings.{is_plain, plain}
+use Rattle.md_steps.proofs.AlikeStrings.{plain}
 use Rattle.md_steps.proofs.Quiet.{past-callless}
 use Rattle.md_steps.proofs.Standing.{allowed-facts, is_callless}
 use Rattle.md_steps.proofs.Staying.{node-same}
@@ -39,41 +38,28 @@ use Rattle.md_length.proofs.Strings.{around_in, strings-short}
 use Rattle.md_length.proofs.Units.{half_unit, inner_length, cost-short}
 
 -- ---- the content of a definition
--- what is kept of a node in a definition
-source-kept : (at : At) (name : Name) (text : List ℕ) (spent : ℕ) → is_plain name ≡ true →
-    6 * length text ≤ spent → (is_transparent name ≡ true → kept at.found ≤ spent) →
-    kept (found_at at name text) ≤ spent
-source-kept at Resource text spent is few clear = lie is
-source-kept at _ text spent is few clear = grind (arith, clear)
-
 sources-short : (context : Context) (around : Surroundings) (before : Before) (content : Content)
     (forest : Forest) →
     length context.ending ≤ 2 → is_callless content ≡ true → Fits content forest →
     kept (outcome context around before forest).found ≤ cost context.names forest
 sources-short context around before content Empty few low fits = omega arith
 sources-short context around before content (Node name start end children rest) few low fits =
-    let last : Bool = around.is_outermost && is_empty rest in
-    let inner : Outcome = inner_of context around before name children in
-    let at : At = at_node context around before last name start end children in
-    let here : Outcome = node_of context around before last name start end children in
-    let next : Before = next_before context around before last name start end children in
-    let nested : Surroundings = around_in context around name children in
-    let within : Before = before_children name children before in
+    let is = plain content name low fits.0 in
+    let later = node-same is_callless past-callless content name children ∙ low in
     let inside = ((allowed-facts content name fits.0).callless low).0 in
-    let text = layout context.ending inner.pieces in
-    let few_text : 6 * length text ≤ cost context.names children = omega (
+    grind (
       arith,
-      strings-short context nested within (content_inside content name) children inside fits.1,
-      layout-short context.ending inner.pieces few,
-    ) in
-    omega (
-      arith,
-      source-kept at name text (cost context.names children) (plain content name low fits.0)
-          few_text (λ clear. sources-short context nested within (content_inside content name)
-          children few inside fits.1),
-      sources-short context around next (content_after_node content name children) rest few
-          (node-same is_callless past-callless content name children ∙ low) fits.2,
-      both-kept (outcome context around next rest).found here.found,
+      is,
+      both-kept,
+      layout-short context.ending,
+      λ (around : Surroundings) (before : Before).
+          strings-short context around before (content_inside content name) children inside fits.1,
+      λ (around : Surroundings) (before : Before).
+          sources-short context around before (content_inside content name) children few inside
+          fits.1,
+      λ (around : Surroundings) (before : Before).
+          sources-short context around before (content_after_node content name children) rest few
+          later fits.2,
     )
 
 -- ---- the definitions, in the order of their exits

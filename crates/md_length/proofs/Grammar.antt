@@ -1,15 +1,12 @@
 -- What the lengths ask of a document holds of each document of the grammar.
-use Rattle.std.proofs.Common.{◌≡◌, ℕ, ◌≤◌, true, List, [], ◌∷◌, length, arith, Option, Some, None}
+use Rattle.std.proofs.Common.{◌≡◌, ℕ, ◌≤◌, true, List, length, arith, Option, None}
 use Rattle.std.proofs.Common.{lit≤}
-use Rattle.std.specs.Prelude.{if◌then◌else◌}
 use Rattle.std.specs.Option.{option_map_or}
-use Rattle.std.proofs.lemmas.Slice.Eq.{bytes_eq-Decides}
 use Rattle.md_base.specs.declared.event.Name.{Name}
 use Rattle.md_base.specs.declared.event.Name.TheVariants as name_variants
 use name_variants.{Link, Image, HeadingAtx, LineEnding, BlankLineEnding}
 use Rattle.md_base.specs.declared.event.Point.{Point}
 use Rattle.md_base.specs.declared.event.Position.{Position}
-use Rattle.md_base.specs.NameTests.{is_line_ending as is_ending}
 use Rattle.md_base.specs.Place.{text_between}
 use Rattle.md_base.specs.Tree.{Forest, Empty, Node}
 use Rattle.md_pattern.specs.declared.kinds.Role.TheVariants as role
@@ -17,13 +14,9 @@ use Rattle.md_pattern.specs.declared.kinds.Symbol.{Symbol}
 use Rattle.md_pattern.specs.declared.kinds.Role.{Role}
 use Rattle.md_pattern.specs.Standing.{standing_of}
 use Rattle.md_text.specs.declared.options.CompileOptions.{CompileOptions}
-use Rattle.md_text.specs.declared.line_ending.LineEnding.{LineEnding as Ending}
-use Rattle.md_text.specs.LineEnding.{ending_text}
-use Rattle.md_tree.specs.declared.mention.Referral.{Referral}
-use Rattle.md_tree.specs.declared.mention.Referral.TheVariants as referral
 use Rattle.md_tree.specs.declared.rule.Rule.TheVariants as rule
 use Rattle.md_tree.specs.Grammar.{IsGrammatical}
-use Rattle.md_tree.specs.Rules.{place, is_line_ending, broken_by_target}
+use Rattle.md_tree.specs.Rules.{place, is_line_ending}
 use Rattle.md_pattern.specs.Shape.{inner_role, inner_before}
 use Rattle.md_meaning.specs.Meaning.{ending_at}
 use Rattle.md_meaning.specs.Meaning.At.{text_in}
@@ -34,13 +27,8 @@ use Rattle.md_content.proofs.Fitting.{fit}
 use Rattle.md_content.proofs.RanksAndNumbers.{text_fits}
 use Rattle.md_content.proofs.TextsThere.{everywhere}
 use Rattle.md_length.specs.Sound.{IsSound}
-use Rattle.md_length.proofs.Pieces.{either-some}
 
 -- ---- targets and ranks
-media-target : (target : Referral) → broken_by_target target ≡ None →
-    target ≡ referral.Missing → ⊥
-media-target target e h = cc
-
 pub grammatical-sound : (bytes : List ℕ) (names : List (List ℕ × List ℕ)) (document : Forest) →
     IsGrammatical bytes names document → Everywhere IsSound document
 grammatical-sound bytes names document is =
@@ -51,21 +39,15 @@ grammatical-sound bytes names document is =
         (children : Forest) → IsFine bytes names around before name start end children →
         AreFine bytes names children (inner_role (standing_of name) around before)
         (inner_before (standing_of name) before) → IsSound name start end children
-    each around before Link start end children here inside = media-target _ here.1
-    each around before Image start end children here inside = media-target _ here.1
+    each around before Link start end children here inside = λ missing. cc (here.1, missing)
+    each around before Image start end children here inside = λ missing. cc (here.1, missing)
     each around before HeadingAtx start end children here inside =
         (fit bytes names HeadingAtx around before start end children here inside).1
     each around before _ start end children here inside = tt
 
 -- ---- line endings
 ending-few : (text : List ℕ) → is_line_ending text ≡ true → length text ≤ 2
-ending-few text h =
-    grind (
-      arith,
-      (bytes_eq-Decides (13 ∷ 10 ∷ []) text).0,
-      (bytes_eq-Decides (13 ∷ []) text).0,
-      (bytes_eq-Decides (10 ∷ []) text).0,
-    )
+ending-few text h = grind arith
 
 -- the text of a line ending has at most two bytes
 abbrev HasShortEnding : List ℕ → Name → Point → Point → Forest → Type 0
@@ -77,27 +59,11 @@ HasShortEnding bytes _ start end children = Unit {0}
 abbrev found_length : List ℕ → Option Position → ℕ
 found_length bytes found = option_map_or (λ at. length (text_in bytes at)) found 0
 
-own-ending : (bytes : List ℕ) (name : Name) (start end : Point) (children : Forest) →
-    HasShortEnding bytes name start end children →
-    found_length bytes (if is_ending name then Some (place start end) else None) ≤ 2
-own-ending bytes LineEnding start end children h = h
-own-ending bytes BlankLineEnding start end children h = h
-own-ending bytes _ start end children h = lit≤ tt
-
 first-few : (bytes : List ℕ) (forest : Forest) → Everywhere (HasShortEnding bytes) forest →
     found_length bytes (first_ending forest) ≤ 2
 first-few bytes Empty all = lit≤ tt
 first-few bytes (Node name start end children rest) all =
-    omega (
-      arith,
-      either-some {A = Position},
-      own-ending bytes name start end children all.0,
-      first-few bytes children all.1,
-      first-few bytes rest all.2,
-    )
-
-default-few : (ending : Ending) → length (ending_text ending) ≤ 2
-default-few ending = grind arith
+    grind (arith, first-few bytes children all.1, first-few bytes rest all.2)
 
 pub grammatical-ending : (options : CompileOptions) (bytes : List ℕ)
     (names : List (List ℕ × List ℕ)) (document : Forest) → IsGrammatical bytes names document →
@@ -105,7 +71,6 @@ pub grammatical-ending : (options : CompileOptions) (bytes : List ℕ)
 grammatical-ending options bytes names document is =
     grind (
       arith,
-      default-few options.default_line_ending,
       first-few bytes document (everywhere bytes names (HasShortEnding bytes) each document
           role.Flow None (fine bytes names document role.Flow None is.shape.0 is.rules)),
     )

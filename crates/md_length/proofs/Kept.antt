@@ -1,27 +1,20 @@
 -- What of nodes is kept to be printed elsewhere, and the target of a link or an image.
-use Rattle.std.proofs.Common.{◌≡◌, ℕ, ◌+◌, ◌*◌, ◌≤◌, Bool, true, ◌&&◌, List, [], ◌∷◌, ◌++◌, length}
+use Rattle.std.proofs.Common.{◌≡◌, ℕ, ◌+◌, ◌*◌, ◌≤◌, Bool, true, List, [], ◌∷◌, ◌++◌, length}
 use Rattle.std.proofs.Common.{refl, arith, Option, unwrap_or}
 use Rattle.std.specs.Prelude.{if◌then◌else◌, is_some}
 use Rattle.std.specs.Option.{option_map_or}
-use Rattle.md_base.specs.declared.event.Name.TheVariants as name_variants
-use name_variants.{GfmFootnoteCall}
-use Rattle.md_base.specs.Is.{is}
-use Rattle.md_base.specs.Children.{is_empty, or_else}
+use Rattle.md_base.specs.Children.{or_else}
 use Rattle.md_base.specs.Tree.{Forest, Empty, Node}
 use Rattle.md_tree.specs.declared.mention.Referral.TheVariants as referral
 use Rattle.md_tree.specs.Rules.{target_of}
 use Rattle.md_meaning.specs.declared.surroundings.Surroundings.{Surroundings}
 use Rattle.md_meaning.specs.Meaning.At.{Target, Context, At, Before, Found}
 use Rattle.md_meaning.specs.Meaning.At.{target_in, identifier_of}
-use Rattle.md_meaning.specs.Meaning.Before.{before_children}
-use Rattle.md_meaning.specs.Meaning.Layout.{when}
 use Rattle.md_meaning.specs.Meaning.Media.{target_defined}
 use Rattle.md_meaning.specs.Meaning.Nodes.{outcome}
-use Rattle.md_steps.specs.Claim.{next_before}
 use Rattle.md_length.specs.Costs.{nodes}
-use Rattle.md_length.proofs.Pieces.{either-number, either-some}
+use Rattle.md_length.proofs.Pieces.{either-some}
 use Rattle.md_length.specs.Uses.{weight, led, called, sum_of}
-use Rattle.md_length.proofs.Strings.{around_in}
 
 -- ---- what is kept of nodes
 abbrev pub title_length : Option (List ℕ) → ℕ
@@ -53,41 +46,28 @@ sum-append : (f : List ℕ → ℕ) (xs ys : List (List ℕ)) →
 sum-append f [] ys = omega arith
 sum-append f (x ∷ xs) ys = omega (arith, sum-append f xs ys)
 
-one-sum : (f : List ℕ → ℕ) (b : Bool) (identifier : List ℕ) →
-    sum_of f (when b (identifier ∷ [])) ≡ (if b then f identifier else 0)
-one-sum f b identifier = grind arith
-
 pub calls-sum : (f : List ℕ → ℕ) (context : Context) (around : Surroundings) (before : Before)
     (forest : Forest) →
     sum_of f (outcome context around before forest).calls ≡ called f context.bytes forest
 calls-sum f context around before Empty = refl
 calls-sum f context around before (Node name start end children rest) =
-    let last : Bool = around.is_outermost && is_empty rest in
-    let next : Before = next_before context around before last name start end children in
-    omega (
+    grind (
       arith,
       sum-append,
-      calls-sum f context (around_in context around name children)
-          (before_children name children before) children,
-      calls-sum f context around next rest,
-      one-sum f (is GfmFootnoteCall name) (identifier_of context.bytes children),
+      λ (around : Surroundings) (before : Before). calls-sum f context around before children,
+      λ (around : Surroundings) (before : Before). calls-sum f context around before rest,
     )
 
 pub calls-few-nodes : (bytes : List ℕ) (forest : Forest) →
     called (λ identifier. 1) bytes forest ≤ nodes forest
 calls-few-nodes bytes Empty = omega arith
 calls-few-nodes bytes (Node name start end children rest) =
-    omega (arith, either-number, calls-few-nodes bytes children, calls-few-nodes bytes rest)
+    grind (arith, calls-few-nodes bytes children, calls-few-nodes bytes rest)
 
 pub calls-few : (context : Context) (around : Surroundings) (before : Before) (forest : Forest) →
     length (outcome context around before forest).calls ≤ nodes forest
 calls-few context around before forest =
-    omega (
-      arith,
-      counted (outcome context around before forest).calls,
-      calls-sum (λ identifier. 1) context around before forest,
-      calls-few-nodes context.bytes forest,
-    )
+    omega (arith, counted, calls-sum (λ identifier. 1), calls-few-nodes)
   where
     counted : (calls : List (List ℕ)) → length calls ≡ sum_of (λ identifier. 1) calls
     counted [] = refl

@@ -1,13 +1,7 @@
 -- The identifiers of footnote calls are at most twelve times as long as their labels, each of which
 -- is read once.
-use Rattle.std.proofs.Common.{ℕ, ◌+◌, ◌*◌, ◌≤◌, Bool, List, [], length, arith, unwrap_or}
-use Rattle.std.specs.Prelude.{if◌then◌else◌}
-use Rattle.md_base.specs.declared.event.Name.{Name}
-use Rattle.md_base.specs.declared.event.Name.TheVariants as name_variants
-use name_variants.{GfmFootnoteCall}
-use Rattle.md_base.specs.declared.event.Point.{Point}
+use Rattle.std.proofs.Common.{ℕ, ◌+◌, ◌*◌, ◌≤◌, List, [], length, arith, unwrap_or}
 use Rattle.md_base.specs.declared.event.Position.{Position}
-use Rattle.md_base.specs.Is.{is}
 use Rattle.md_base.specs.Tree.{Forest, Empty, Node}
 use Rattle.md_pattern.specs.Standing.{standing_of}
 use Rattle.md_tree.specs.declared.mention.Referral.{Referral}
@@ -15,7 +9,7 @@ use Rattle.md_tree.specs.declared.mention.Referral.TheVariants as referral
 use Rattle.md_tree.specs.Mentions.{identifier_at}
 use Rattle.md_tree.specs.Rules.{place, target_of, target_after}
 use Rattle.md_meaning.specs.Meaning.At.{identifier_of}
-use Rattle.md_length.specs.Costs.{own, span}
+use Rattle.md_length.specs.Costs.{span}
 use Rattle.md_length.specs.Lengths.{lengths}
 use Rattle.md_length.specs.Uses.{called}
 use Rattle.md_length.proofs.Places.{label-short}
@@ -39,30 +33,19 @@ referred-short : (bytes : List ℕ) (left : Referral) →
     length (left_identifier bytes left) ≤ 12 * label_span left
 referred-short bytes left = grind (arith, identifier-short)
 
--- what a node leaves, of what its children take
-node-left : (bytes : List ℕ) (name : Name) (start end : Point) (children : Forest)
-    (left : Referral) (inside spent : ℕ) →
-    inside + 12 * label_span (target_of children left) ≤ 12 * spent + 12 * label_span left →
-    inside + 12 * label_span (target_of children referral.Missing) ≤ 12 * spent →
-    (if is GfmFootnoteCall name then length (identifier_of bytes children) else 0) + inside
-    + 12 * label_span (target_after (standing_of name) left (target_of children) (place start end))
-    ≤ 12 * own name (place start end) + 12 * spent + 12 * label_span left
-node-left bytes GfmFootnoteCall start end children left inside spent h k =
-    omega (arith, referred-short bytes (target_of children referral.Missing))
-node-left bytes _ start end children left inside spent h k = omega arith
-
 labels-left : (bytes : List ℕ) (forest : Forest) (left : Referral) →
     called (λ identifier. length identifier) bytes forest
     + 12 * label_span (target_of forest left) ≤ 12 * lengths forest + 12 * label_span left
 labels-left bytes Empty left = omega arith
 labels-left bytes (Node name start end children rest) left =
-    let middle : Referral =
-    target_after (standing_of name) left (target_of children) (place start end) in
-    let inside : ℕ = called (λ identifier. length identifier) bytes children in
-    let here = node-left bytes name start end children left inside (lengths children)
-    (labels-left bytes children left)
-    (omega (arith, labels-left bytes children referral.Missing)) in
-    omega (arith, here, labels-left bytes rest middle)
+    grind (
+      arith,
+      referred-short,
+      labels-left bytes children left,
+      labels-left bytes children referral.Missing,
+      labels-left bytes rest
+          (target_after (standing_of name) left (target_of children) (place start end)),
+    )
 
 pub labels-short : (bytes : List ℕ) (forest : Forest) →
     called (λ identifier. length identifier) bytes forest ≤ 12 * lengths forest
@@ -76,14 +59,9 @@ pub called-split : (f : List ℕ → ℕ) (fixed times : ℕ) (bytes : List ℕ)
     + times * called (λ identifier. length identifier) bytes forest
 called-split f fixed times bytes Empty each = omega arith
 called-split f fixed times bytes (Node name start end children rest) each =
-    omega (
+    grind (
       arith,
-      own (is GfmFootnoteCall name) _ _ (each (identifier_of bytes children)),
+      each (identifier_of bytes children),
       called-split f fixed times bytes children each,
       called-split f fixed times bytes rest each,
     )
-  where
-    own : (b : Bool) (taken long : ℕ) → taken ≤ fixed + times * long →
-        (if b then taken else 0)
-        ≤ (if b then 1 else 0) * fixed + times * (if b then long else 0)
-    own b taken long h = grind arith

@@ -1,9 +1,9 @@
 -- What work counts as read is no less than the lengths of a document's nodes that are read, and
 -- just these where no index goes back: one induction over the nodes for both.
 use Rattle.std.proofs.Common.{◌≡◌, ℕ, ◌+◌, ◌-◌, ◌*◌, ◌≤◌, suc, Bool, true, false, List, [], ◌∷◌}
-use Rattle.std.proofs.Common.{◌++◌, refl, ap, sym, ◌∙◌, subst, append_assoc, arith}
+use Rattle.std.proofs.Common.{◌++◌, refl, ap, sym, ◌∙◌, append_assoc, arith}
 use Rattle.std.specs.Prelude.{if◌then◌else◌}
-use Rattle.std.proofs.Math.Nat.{le_trans, le_of_eq, mul-le-mul_left, mul-add, mul-zero, sub_self}
+use Rattle.std.proofs.Math.Nat.{le_trans, le_of_eq, mul-le-mul_left, mul-add, mul-zero}
 use Rattle.std.proofs.lemmas.List.{append-nil}
 use Rattle.md_base.proofs.Lies.{lie}
 use Rattle.md_base.specs.declared.event.Event.{Event}
@@ -29,8 +29,7 @@ own read length = if read then length else 0
 
 exit_depth : (read : Bool) (depth : ℕ) →
     (if read then inside read depth - 1 else inside read depth) ≡ depth
-exit_depth true depth = omega arith
-exit_depth false depth = refl
+exit_depth read depth = grind arith
 
 once : (read : Bool) (depth n : ℕ) → inside read depth * n ≡ depth * n + own read n
 once true depth n = omega arith
@@ -40,10 +39,6 @@ once false depth n = omega arith
 abbrev AtLeast : Bool → ℕ → ℕ → Type 0
 AtLeast true most few = most ≡ few
 AtLeast false most few = few ≤ most
-
-same-at_least : (forward : Bool) (most few : ℕ) → most ≡ few → AtLeast forward most few
-same-at_least true most few e = e
-same-at_least false most few e = omega arith
 
 -- a way over a place between, as often as it is gone
 way : (forward : Bool) (depth a b c : ℕ) → (forward ≡ true → (a ≤ b) × (b ≤ c)) →
@@ -95,34 +90,24 @@ record IsRead (forward : Bool) (forest : Forest) (index depth : ℕ) (after : Li
 nodes-read : (forward : Bool) (forest : Forest) (index depth : ℕ) (after : List Event) →
     (forward ≡ true → GoesForward index (flatten forest ++ after)) →
     IsRead forward forest index depth after
-nodes-read forward Empty index depth after goes =
-    let none : depth * (index - index) ≡ 0 =
-    ap (λ n. depth * n) (sub_self index) ∙ mul-zero depth in
-    record {
-      read = same-at_least forward _ _ (omega (arith, none));
-      ordered = λ e. (omega arith, goes e);
-    }
+nodes-read forward Empty index depth after goes = record {
+  read = grind (arith, mul-zero);
+  ordered = λ e. (omega arith, goes e);
+}
 nodes-read forward (Node name start end children rest) index depth after goes =
     let is : Bool = is_read name in
     let inner : ℕ = inside is depth in
     let later : List Event = flatten rest ++ after in
     let split = append_assoc (flatten children) (exiting name end ∷ flatten rest) after in
-    let goes_in = λ (e : forward ≡ true).
-    subst (λ events. GoesForward start.index events) split (goes e).1 in
     let in_children : IsRead forward children start.index inner (exiting name end ∷ later) =
-    nodes-read forward children start.index inner (exiting name end ∷ later) goes_in in
+    nodes-read forward children start.index inner (exiting name end ∷ later)
+    (λ e. rw split at (goes e).1) in
     let in_rest : IsRead forward rest end.index depth after =
     nodes-read forward rest end.index depth after (λ e. (in_children.ordered e).1.1) in
-    let middle : ℕ = last_index start.index children in
-    let exit = ap (λ n. read_from end.index n later) (exit_depth is depth) in
     record {
-      read = subst (λ events. AtLeast forward
-          (depth * (start.index - index) + read_from start.index inner events)
-          ((own is (end.index - start.index) + lengths children + lengths rest)
-          + (depth * (last_index end.index rest - index)
-          + read_from (last_index end.index rest) depth after))) (sym split)
-          (node-read forward is depth index start.index middle end.index
-          (last_index end.index rest) (lengths children) (lengths rest) _
+      read = rw split (node-read forward is depth index start.index
+          (last_index start.index children) end.index (last_index end.index rest)
+          (lengths children) (lengths rest) _
           (read_from end.index depth later) (read_from (last_index end.index rest) depth after)
           (λ e. (
             (goes e).0,
@@ -130,18 +115,9 @@ nodes-read forward (Node name start end children rest) index depth after goes =
             (in_children.ordered e).1.0,
             (in_rest.ordered e).0,
           ))
-          (subst (λ n. AtLeast forward
-          (read_from start.index inner (flatten children ++ exiting name end ∷ later))
-          (lengths children + (inner * (middle - start.index) + (inner * (end.index - middle)
-          + n)))) exit in_children.read) in_rest.read);
+          (rw (exit_depth is depth) at in_children.read) in_rest.read);
       ordered = λ e. (
-        omega (
-          arith,
-          (goes e).0,
-          (in_children.ordered e).0,
-          (in_children.ordered e).1.0,
-          (in_rest.ordered e).0,
-        ),
+        omega (arith, goes e, in_children.ordered e, in_rest.ordered e),
         (in_rest.ordered e).1,
       );
     }
@@ -152,10 +128,7 @@ whole-read : (forward : Bool) (document : Forest) →
     (lengths document + (0 * (last_index 0 document - 0) + 0))
 whole-read forward document goes =
     let all = append-nil (flatten document) in
-    subst (λ events. AtLeast forward (read_from 0 0 events)
-    (lengths document + (0 * (last_index 0 document - 0) + 0))) all
-    (nodes-read forward document 0 0 []
-    (λ e. subst (λ events. GoesForward 0 events) (sym all) (goes e))).read
+    rw all at (nodes-read forward document 0 0 [] (λ e. rw all (goes e))).read
 
 pub read-no_less : (document : Forest) → lengths document ≤ read_length (flatten document)
 read-no_less document = omega (arith, whole-read false document (λ e. lie e))

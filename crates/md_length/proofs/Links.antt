@@ -1,9 +1,8 @@
 -- The reuse bounds the length of definitions for the links and images that refer to them.
-use Rattle.std.proofs.Common.{◌≡◌, ℕ, ◌+◌, ◌*◌, ◌≤◌, List, [], ◌∷◌, ◌++◌, refl, sym, ap, subst}
+use Rattle.std.proofs.Common.{◌≡◌, ℕ, ◌+◌, ◌*◌, ◌≤◌, List, [], ◌∷◌, ◌++◌, sym, ap}
 use Rattle.std.proofs.Common.{arith, append-nil, Option}
 use Rattle.std.specs.Prelude.{if◌then◌else◌}
 use Rattle.md_base.specs.declared.event.Name.{Name}
-use Rattle.md_base.specs.declared.event.Name.TheVariants.{Link, Image}
 use Rattle.md_base.specs.declared.event.Position.{Position}
 use Rattle.md_base.specs.Tree.{Forest, Empty, Node, flatten}
 use Rattle.md_pattern.specs.Standing.{standing_of}
@@ -15,12 +14,10 @@ use Rattle.md_tree.specs.Numbers.{definition_for}
 use Rattle.md_tree.specs.Rules.{target_of, reading_of}
 use Rattle.md_tree.specs.declared.mention.Mention.{Mention}
 use Rattle.md_tree.specs.declared.mention.Mention.TheVariants.{Reference}
-use Rattle.md_tree.specs.declared.mention.Referral.{Referral}
 use Rattle.md_tree.specs.declared.mention.Referral.TheVariants as referral
-use Rattle.md_meaning.specs.Meaning.At.{Context, identifier_of}
+use Rattle.md_meaning.specs.Meaning.At.{identifier_of}
 use Rattle.md_meaning.specs.Meaning.Inherited.{outermost}
 use Rattle.md_meaning.specs.Meaning.Before.{nothing_before}
-use Rattle.md_meaning.specs.Meaning.Media.{target_defined}
 use Rattle.md_content.specs.References.{Everywhere, ResolvesAlike, defined_in, first_of}
 use Rattle.md_content.proofs.Alike.{leads-alike}
 use Rattle.md_content.proofs.Listed.{definitions-listed}
@@ -28,7 +25,7 @@ use Rattle.md_steps.specs.Content.{Blocks}
 use Rattle.md_steps.proofs.ContentFits.{shaped-fits}
 use Rattle.md_length.specs.Reuse.{length_at, resolved_lengths, definition_lengths, is_media}
 use Rattle.md_length.specs.Reuse.{referred as reused}
-use Rattle.md_length.specs.Uses.{referred, led, weight}
+use Rattle.md_length.specs.Uses.{referred, led}
 use Rattle.md_length.proofs.Definitions.{definitions-below, first-below}
 use Rattle.md_length.proofs.Grammar.{grammatical-ending}
 use Rattle.md_length.proofs.Whole.{called_in, given_in}
@@ -58,40 +55,12 @@ target-led : (bytes : List ℕ) (names : List (List ℕ × List ℕ)) (options :
     ≡ first_of (defined_in bytes document) (identifier_of bytes children)) →
     IsLed bytes names options document children
 target-led bytes names options document grammatical children same =
-    by (target_of children referral.Missing) same
-  where
-    called : Context
-    called = called_in options names bytes document
-
-    context : Context
-    context = given_in options names bytes document
-
-    identifier : List ℕ
-    identifier = identifier_of bytes children
-
-    taken : ℕ
-    taken = weight (target_defined context identifier)
-
-    found : taken ≤ half_unit names
-        * length_at (definition_lengths document) (first_of (defined_in bytes document) identifier)
-    found = subst (λ known. taken ≤ half_unit names
-        * length_at (definition_lengths document) (first_of known identifier))
-        (definitions-listed called outermost nothing_before document)
-        (first-below identifier
-        (definitions-below called outermost nothing_before Blocks document (flatten document) 0 []
-        (grammatical-ending options bytes names document grammatical)
-        (shaped-fits document grammatical.shape) (sym (append-nil (flatten document)))))
-
-    by : (left : Referral) → ((label : Position) → left ≡ referral.Label label →
-        definition_for bytes (mentions_of document) (Reference label)
-        ≡ first_of (defined_in bytes document) identifier) →
-        (elim left [ referral.Label at ↦ taken | _ ↦ 0 ])
-        ≤ half_unit names * length_at (definition_lengths document)
-        (definition_for bytes (mentions_of document) (mention_of reading.Media left))
-    by (referral.Label label) same =
-        subst (λ place. taken ≤ half_unit names * length_at (definition_lengths document) place)
-        (sym (same label refl)) found
-    by _ same = omega arith
+    let known = called_in options names bytes document in
+    let found = first-below (identifier_of bytes children)
+    (definitions-below known outermost nothing_before Blocks document (flatten document) 0 []
+    (grammatical-ending options bytes names document grammatical)
+    (shaped-fits document grammatical.shape) (sym (append-nil (flatten document)))) in
+    grind (arith, found, definitions-listed known outermost nothing_before document, same)
 
 links-led : (bytes : List ℕ) (names : List (List ℕ × List ℕ)) (options : CompileOptions)
     (document : Forest) → IsGrammatical bytes names document → (forest : Forest) →
@@ -119,9 +88,7 @@ links-led bytes names options document is (Node name start end children rest) al
         ≤ half_unit names * length_at (definition_lengths document)
         (definition_for bytes (mentions_of document)
         (mention_of (reading_of (standing_of name)) (target_of children referral.Missing)))
-    own Link h = h
-    own Image h = h
-    own _ h = omega arith
+    own name h = grind arith
 
 pub referred-short : (options : CompileOptions) (names : List (List ℕ × List ℕ)) (bytes : List ℕ)
     (document : Forest) → IsGrammatical bytes names document →

@@ -1,13 +1,10 @@
 -- What a node prints, and what is kept of it, is no longer than what it may print, what it uses
 -- and what its children may.
 use Rattle.std.proofs.Common.{◌≡◌, ℕ, ◌+◌, ◌*◌, ◌≤◌, Bool, true, false, arith, length}
-use Rattle.std.proofs.Common.{unwrap_or, lit<}
+use Rattle.std.proofs.Common.{unwrap_or}
 use Rattle.std.specs.Prelude.{if◌then◌else◌, is_some}
-use Rattle.std.specs.Fmt.{decimal}
 use Rattle.std.proofs.lemmas.Fmt.{length-decimal-le}
 use Rattle.md_base.specs.declared.event.Name.{Name}
-use Rattle.md_base.specs.declared.event.Name.TheVariants as name_variants
-use name_variants.{Link}
 use Rattle.md_base.specs.NameTests.{is_transparent}
 use Rattle.md_tree.specs.declared.mention.Referral.TheVariants as referral
 use Rattle.md_tree.specs.Rules.{target_of}
@@ -26,9 +23,6 @@ use Rattle.md_length.proofs.Pieces.{size}
 use Rattle.md_length.proofs.Prints.{IsShort}
 use Rattle.md_length.proofs.Strings.{notes, notes-append}
 use Rattle.md_length.proofs.Kept.{kept, held, target-kept, media-leads}
-
-rank-short : (rank : ℕ) → rank ≤ 6 → length (decimal rank) ≤ 1
-rank-short rank few = length-decimal-le 1 rank (lit< tt) (omega arith) (omega arith)
 
 -- what is known of a node and of what its children print
 pub record Known (context : Context) (at : At) (waits : Bool) (content : Content) (inner : Outcome)
@@ -63,19 +57,5 @@ pub node-short : (context : Context) (at : At) (waits : Bool) (content : Content
     (inner : Outcome) (name : Name) (spent : ℕ) →
     Known context at waits content inner name spent →
     IsNodeShort context at waits inner name spent
-node-short context at waits content inner Link spent known =
-    omega (
-      arith,
-      notes-append,
-      known,
-      media-leads context at at.found.resource known.sound known.resource,
-    )
-node-short context at waits content inner _ spent known =
-    grind (
-      arith,
-      notes-append,
-      rank-short,
-      target-kept at.found,
-      media-leads context at at.found.resource,
-      known,
-    )
+node-short context at waits content inner name spent known =
+    grind (arith, notes-append, media-leads, length-decimal-le, target-kept)

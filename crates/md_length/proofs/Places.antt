@@ -1,14 +1,13 @@
 -- How long what is read at a place is.
 use Rattle.std.proofs.Common.{ℕ, suc, ◌+◌, ◌-◌, ◌≤◌, List, [], ◌∷◌, length, arith, lit≤, unwrap_or}
-use Rattle.std.specs.Prelude.{if◌then◌else◌, slice_range}
+use Rattle.std.specs.Prelude.{slice_range}
 use Rattle.std.proofs.lemmas.Grind.{common_steps}
 use Rattle.std.proofs.lemmas.Bool.Decides.{nat_tests}
 use Rattle.std.proofs.lemmas.List.{length-replicate}
 use Rattle.md_base.specs.declared.event.Point.{Point}
-use Rattle.md_base.specs.Place.{byte_index, bytes_between}
+use Rattle.md_base.specs.Place.{bytes_between}
 use Rattle.md_base.specs.Place.{text_between, serialized_between, label_between}
-use Rattle.md_base.specs.Reference.{named, numbered, decoded, is_replaced}
-use Rattle.std.specs.Str.Parse.{digits_value}
+use Rattle.md_base.specs.Reference.{named, numbered, decoded}
 use Rattle.md_length.specs.Costs.{span}
 use Rattle.md_length.specs.Longest.{longest}
 use Rattle.md_length.proofs.Pieces.{sizes, bytes-append}
@@ -19,11 +18,7 @@ range-short bytes from to = grind (arith, common_steps)
 
 between-short : (bytes : List ℕ) (start end : Point) →
     length (bytes_between bytes start end) ≤ suc (span start end)
-between-short bytes start end =
-    let here = range-short bytes (byte_index start) (byte_index end) in
-    let from : start.index ≤ byte_index start = grind (arith, nat_tests) in
-    let to : byte_index end ≤ suc end.index = grind (arith, nat_tests) in
-    omega (arith, here, from, to)
+between-short bytes start end = grind (arith, range-short, nat_tests)
 
 -- the text of a node, with the spaces of tabs
 pub text-short : (bytes : List ℕ) (start end : Point) →
@@ -33,13 +28,7 @@ text-short bytes start end = omega (sizes, between-short bytes start end)
 pub serialized-short : (bytes : List ℕ) (start end : Point) →
     length (unwrap_or (serialized_between bytes start end) []) ≤ 8 + span start end
 serialized-short bytes start end =
-    grind (
-      arith,
-      nat_tests,
-      bytes-append,
-      length-replicate {A = ℕ},
-      between-short bytes start end,
-    )
+    grind (arith, nat_tests, bytes-append, length-replicate, between-short)
 
 -- a label
 pub label-short : (bytes : List ℕ) (start end : Point) →
@@ -54,9 +43,7 @@ named-short (entry ∷ names) name = grind (arith, named-short names name)
 
 numbered-short : (radix : ℕ) (digits : List ℕ) →
     length (unwrap_or (numbered radix digits) []) ≤ 4
-numbered-short radix digits =
-    let code = digits_value radix digits in
-    omega (sizes, character-short (if is_replaced code then 0xFFFD else code))
+numbered-short radix digits = grind (arith, character-short)
 
 -- the text of a reference
 pub decoded-short : (names : List (List ℕ × List ℕ)) (marker : ℕ) (value : List ℕ) →

@@ -1,7 +1,6 @@
 -- How long the texts and the tags are that nodes print, by what they read.
-use Rattle.std.proofs.Common.{ℕ, suc, ◌+◌, ◌-◌, ◌*◌, ◌≤◌, Bool, List, [], ◌∷◌, ◌++◌}
-use Rattle.std.proofs.Common.{length, arith, codes, lit≤, lit<, true, Option, Some, None}
-use Rattle.std.specs.Prelude.{if◌then◌else◌, slice_get}
+use Rattle.std.proofs.Common.{ℕ, ◌+◌, ◌-◌, ◌*◌, ◌≤◌, Bool, List, [], ◌∷◌, ◌++◌}
+use Rattle.std.proofs.Common.{length, arith, codes, lit≤, Option, Some, None}
 use Rattle.std.specs.Option.{option_map_or}
 use Rattle.std.specs.List.{flat_map}
 use Rattle.std.specs.Fmt.{decimal}
@@ -9,14 +8,13 @@ use Rattle.std.proofs.lemmas.Fmt.{length-decimal-le}
 use Rattle.std.proofs.lemmas.List.{length-drop, length-take}
 use Rattle.md_base.specs.declared.event.AlignKind.{AlignKind}
 use Rattle.md_base.specs.declared.event.Position.{Position}
-use Rattle.md_text.specs.Encode.{encoded}
 use Rattle.md_text.specs.declared.options.CompileOptions.{CompileOptions}
 use Rattle.md_meaning.specs.Meaning.At.{Target, Context, At, text_in}
 use Rattle.md_meaning.specs.Meaning.Blocks.{without_zeros, underline_rank}
 use Rattle.md_meaning.specs.Meaning.Media.{title_attribute, anchor, picture, autolink}
-use Rattle.md_meaning.specs.Meaning.Spans.{escaped, reference, line_ending, html, marker, code}
-use Rattle.md_meaning.specs.Meaning.Spans.{trimmed, without_escapes}
-use Rattle.md_meaning.specs.Meaning.Tables.{cell_of, align_attribute}
+use Rattle.md_meaning.specs.Meaning.Spans.{escaped, reference, line_ending, html, code}
+use Rattle.md_meaning.specs.Meaning.Spans.{without_escapes}
+use Rattle.md_meaning.specs.Meaning.Tables.{cell_of}
 use Rattle.md_length.specs.Longest.{longest}
 use Rattle.md_length.specs.Costs.{span}
 use Rattle.md_length.specs.Uses.{weight}
@@ -25,43 +23,22 @@ use Rattle.md_length.proofs.Places.{text-short, decoded-short}
 use Rattle.md_length.proofs.Texts.{encoded-short, filtered-short, sanitized-short}
 
 -- ---- texts
-pub place-short : (bytes : List ℕ) (place : Position) →
-    length (text_in bytes place) ≤ suc (span place.start place.end)
-place-short bytes place = text-short bytes place.start place.end
-
 pub escaped-short : (context : Context) (at : At) →
     size (escaped at (text_in context.bytes at.place))
     ≤ 6 + 6 * span at.place.start at.place.end
-escaped-short context at =
-    omega (
-      arith,
-      encoded-short at.around.is_escaping (text_in context.bytes at.place),
-      place-short context.bytes at.place,
-    )
+escaped-short context at = grind (arith, encoded-short, text-short)
 
 pub line_ending-short : (context : Context) (at : At) →
     size (line_ending context at) ≤ 1 + span at.place.start at.place.end
-line_ending-short context at = omega (sizes, place-short context.bytes at.place)
+line_ending-short context at = omega (sizes, text-short)
 
 pub raw-short : (context : Context) (at : At) →
     size (escaped at (html context at)) ≤ 24 + 24 * span at.place.start at.place.end
-raw-short context at =
-    omega (
-      sizes,
-      encoded-short at.around.is_escaping (html context at),
-      filtered-short (text_in context.bytes at.place),
-      place-short context.bytes at.place,
-    )
+raw-short context at = grind (arith, encoded-short, filtered-short, text-short)
 
 pub reference-short : (context : Context) (at : At) →
     size (escaped at (reference context at)) ≤ 24 + 6 * longest context.names
-reference-short context at =
-    let last = slice_get at.before.spine (length at.before.spine - 1) in
-    omega (
-      arith,
-      encoded-short at.around.is_escaping (reference context at),
-      decoded-short context.names (option_map_or marker last 38) (text_in context.bytes at.place),
-    )
+reference-short context at = grind (arith, encoded-short, decoded-short)
 
 -- ---- targets
 title-short : (title : Option (List ℕ)) →
@@ -85,12 +62,7 @@ pub autolink-short : (context : Context) (at : At) (plain : Bool) (prefix : List
 autolink-short context at plain prefix few =
     let text = text_in context.bytes at.place in
     let target : Target = record { destination = prefix ++ text; title = None } in
-    omega (
-      sizes,
-      anchor-short context.options target (encoded true text),
-      encoded-short true text,
-      place-short context.bytes at.place,
-    )
+    omega (sizes, anchor-short context.options target, encoded-short, text-short)
 
 -- ---- blocks
 pub zeros-short : (digits : List ℕ) → length (without_zeros digits) ≤ length digits
@@ -104,37 +76,21 @@ pub number-short : (bytes : List ℕ) (found : Option Position) →
 number-short bytes found = grind (arith, zeros-short)
 
 pub rank-one : (context : Context) (at : At) → length (decimal (underline_rank context at)) ≤ 1
-rank-one context at =
-    grind (
-      arith,
-      length-decimal-le 1 2 (lit< tt) (lit< tt) (lit< tt),
-      length-decimal-le 1 1 (lit< tt) (lit< tt) (lit< tt),
-    )
+rank-one context at = grind (arith, length-decimal-le)
 
 -- ---- code
-trimmed-short : (text : List ℕ) → length (trimmed text) ≤ length text
-trimmed-short text = omega (sizes, length-take {A = ℕ}, length-drop {A = ℕ})
-
 unescaped-short : (text : List ℕ) → length (without_escapes text) ≤ length text
 unescaped-short [] = omega arith
 unescaped-short (byte ∷ bytes) = omega (sizes, unescaped-short bytes)
 
 pub code-short : (at : At) (tag text : List ℕ) →
     size (code at tag text) ≤ length tag + length text + 7
-code-short at tag text =
-    omega (
-      sizes,
-      trimmed-short (if at.around.in_table then without_escapes text else text),
-      unescaped-short text,
-    )
+code-short at tag text = grind (sizes, length-take, length-drop, unescaped-short)
 
 -- ---- cells
-align-short : (kind : AlignKind) → length (align_attribute kind) ≤ 15
-align-short kind = grind arith
-
 pub cell-short : (in_head : Bool) (text : List ℕ) (found : Option AlignKind) →
     size (option_map_or (λ kind. cell_of in_head text kind) found []) ≤ 32 + length text
-cell-short in_head text found = grind (arith, align-short)
+cell-short in_head text found = grind arith
 
 pub filled-short : (in_head : Bool) (columns : List AlignKind) →
     size (flat_map (cell_of in_head []) columns) ≤ 32 * length columns

@@ -15,7 +15,6 @@ use Rattle.md_base.specs.Place.{serialized_between}
 use Rattle.std.proofs.Common.{unwrap_or, true}
 use Rattle.md_meaning.specs.Meaning.At.{Context, At}
 use Rattle.md_meaning.specs.Meaning.Blocks.{atx_rank}
-use Rattle.md_meaning.specs.Meaning.Finds.{number_in_list}
 use Rattle.md_meaning.specs.Meaning.Footnotes.{call}
 use Rattle.md_meaning.specs.Meaning.Layout.{Piece, layout, said}
 use Rattle.md_meaning.specs.Meaning.Means.{prints}
@@ -53,30 +52,16 @@ chunk-short : (context : Context) (at : At) →
     length (encoded true
     (unwrap_or (serialized_between context.bytes at.place.start at.place.end) []))
     ≤ 48 + 6 * span at.place.start at.place.end
-chunk-short context at =
-    omega (
-      arith,
-      encoded-short true
-          (unwrap_or (serialized_between context.bytes at.place.start at.place.end) []),
-      serialized-short context.bytes at.place.start at.place.end,
-    )
+chunk-short context at = grind (arith, encoded-short, serialized-short)
 
 pub prints-short : (context : Context) (at : At) (inner : List Piece) (name : Name) →
     length context.ending ≤ 2 → IsShort context at inner name
 prints-short context at inner GfmTaskListItemCheck few =
     omega (sizes, size-append (task_start context) (inner ++ said (codes "/>")))
 prints-short context at inner Link few =
-    omega (
-      sizes,
-      anchor-short context.options (leads_to context at) (layout context.ending inner),
-      layout-short,
-    )
+    omega (sizes, anchor-short context.options (leads_to context at), layout-short)
 prints-short context at inner Image few =
-    omega (
-      sizes,
-      picture-short context.options (leads_to context at) (layout context.ending inner),
-      layout-short,
-    )
+    omega (sizes, picture-short context.options (leads_to context at), layout-short)
 prints-short context at inner GfmTableCell few =
     omega (
       arith,
@@ -92,7 +77,7 @@ prints-short context at inner _ few =
       reference-short context at,
       line_ending-short context at,
       chunk-short context at,
-      number-short context.bytes (number_in_list at.children),
+      number-short,
       rank-one context at,
       autolink-short,
       code-short,

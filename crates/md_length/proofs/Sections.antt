@@ -1,18 +1,15 @@
 -- The section of footnotes is no longer than its texts and what its calls take.
-use Rattle.std.proofs.Common.{ℕ, zero, suc, ◌+◌, ◌-◌, ◌*◌, ◌^◌, ◌≤◌, ◌<◌, Bool, not, List, [], ◌∷◌}
-use Rattle.std.proofs.Common.{length, arith, codes, lit≤, Option, bytes_eq, string_bytes}
-use Rattle.std.specs.Prelude.{filter, find, String}
-use Rattle.std.specs.declared.alloc.Global.{Global}
-use Rattle.std.specs.Option.{option_map_or}
+use Rattle.std.proofs.Common.{ℕ, zero, suc, ◌+◌, ◌-◌, ◌*◌, ◌^◌, ◌≤◌, ◌<◌, Bool, List, [], ◌∷◌}
+use Rattle.std.proofs.Common.{length, arith, codes, lit≤}
+use Rattle.std.specs.Prelude.{filter}
 use Rattle.std.specs.List.{flat_map}
 use Rattle.std.proofs.lemmas.List.{length-take, length-drop}
 use Rattle.md_text.specs.declared.options.CompileOptions.{CompileOptions}
 use Rattle.md_meaning.specs.Meaning.At.{Footnote, Context}
-use Rattle.md_meaning.specs.Meaning.Footnotes.{distinct, place_among, count_of, backreference}
-use Rattle.md_meaning.specs.Meaning.Footnotes.{backreferences, body, item, section_start, section}
+use Rattle.md_meaning.specs.Meaning.Footnotes.{distinct, place_among, count_of}
+use Rattle.md_meaning.specs.Meaning.Footnotes.{backreferences, item, section_start, section}
 use Rattle.md_meaning.proofs.Identifiers.{distinct-apart}
 use Rattle.md_length.specs.Uses.{back_cost, item_cost, sum_of}
-use Rattle.md_length.specs.Reuse.{option_length}
 use Rattle.md_length.specs.Bound.{for_document}
 use Rattle.md_length.proofs.Calls.{id-short, call_id-short, option-short, decimal-short, number-few}
 use Rattle.md_length.proofs.Calls.{count-few}
@@ -21,31 +18,19 @@ use Rattle.md_length.proofs.Strings.{notes}
 use Rattle.md_length.proofs.Sums.{counted, first_text, texts-once}
 
 -- ---- a footnote
-backreference-short : (options : CompileOptions) (identifier : List ℕ) (number occurrence : ℕ) →
-    number < 2 ^ 64 → occurrence < 2 ^ 64 →
-    length (backreference options identifier number occurrence) + 1 ≤ back_cost options identifier
-backreference-short options identifier number occurrence few rare =
-    omega (
-      sizes,
-      decimal-short occurrence rare,
-      option-short options.gfm_footnote_back_label (codes "Back to content"),
-      call_id-short options identifier number occurrence few rare,
-    )
-
 backs-short : (options : CompileOptions) (identifier : List ℕ) (number count : ℕ) →
     number < 2 ^ 64 → count < 2 ^ 63 →
     length (backreferences options identifier number count)
     ≤ count * back_cost options identifier
 backs-short options identifier number zero few rare = omega arith
 backs-short options identifier number (suc count) few rare =
-    omega (
+    grind (
       sizes,
-      backs-short options identifier number count few (omega arith),
-      backreference-short options identifier number (suc count) few (omega arith),
+      backs-short options identifier number count few,
+      decimal-short,
+      option-short,
+      call_id-short,
     )
-
-body-short : (text back : List ℕ) → size (body text back) ≤ length text + 2 + length back
-body-short text back = omega (sizes, length-take {A = ℕ}, length-drop {A = ℕ})
 
 item-short : (context : Context) (footnotes : List Footnote) (identifier : List ℕ) →
     length context.calls < 2 ^ 63 → size (item context footnotes identifier)
@@ -54,16 +39,13 @@ item-short : (context : Context) (footnotes : List Footnote) (identifier : List 
 item-short context footnotes identifier few =
     let number = place_among (distinct context.calls) identifier in
     let fits = number-few context.calls identifier few in
-    let footnote = find (λ footnote. bytes_eq footnote.identifier identifier) footnotes in
-    let text : List ℕ = option_map_or (λ footnote. footnote.text) footnote [] in
-    let count = count_of context.calls identifier in
-    let rare : count < 2 ^ 63 = omega (arith, count-few context.calls identifier, few) in
     omega (
-      arith,
-      size-append,
+      sizes,
       id-short context.options (codes "fn-") identifier number (lit≤ tt) fits,
-      body-short text (backreferences context.options identifier number count),
-      backs-short context.options identifier number count fits rare,
+      length-take {A = ℕ},
+      length-drop {A = ℕ},
+      backs-short context.options identifier number (count_of context.calls identifier) fits
+          (omega (arith, count-few, few)),
     )
 
 items-short : (context : Context) (footnotes : List Footnote) (identifiers : List (List ℕ)) →
@@ -74,13 +56,7 @@ items-short : (context : Context) (footnotes : List Footnote) (identifiers : Lis
     identifiers
 items-short context footnotes [] few = omega arith
 items-short context footnotes (identifier ∷ identifiers) few =
-    omega (
-      arith,
-      item-short context footnotes identifier few,
-      items-short context footnotes identifiers few,
-      size-append (item context footnotes identifier)
-          (flat_map (item context footnotes) identifiers),
-    )
+    grind (arith, item-short, size-append, items-short context footnotes identifiers few)
 
 filter-sum : (f : List ℕ → ℕ) (test : List ℕ → Bool) (identifiers : List (List ℕ)) →
     sum_of f (filter test identifiers) ≤ sum_of f identifiers
@@ -90,27 +66,11 @@ filter-sum f test (identifier ∷ identifiers) = grind (arith, filter-sum f test
 distinct-sum : (f : List ℕ → ℕ) (calls : List (List ℕ)) →
     sum_of f (distinct calls) ≤ sum_of f calls
 distinct-sum f [] = omega arith
-distinct-sum f (call ∷ calls) =
-    omega (
-      arith,
-      filter-sum f (λ other. not (bytes_eq other call)) (distinct calls),
-      distinct-sum f calls,
-    )
-
-attributes-short : (attributes : Option (String Global)) →
-    length (option_map_or string_bytes attributes (codes "class=\"sr-only\""))
-    ≤ 16 + option_length attributes
-attributes-short attributes = grind arith
+distinct-sum f (call ∷ calls) = grind (arith, filter-sum, distinct-sum f calls)
 
 start-short : (options : CompileOptions) →
     size (section_start options) ≤ for_document options - 32
-start-short options =
-    omega (
-      arith,
-      option-short options.gfm_footnote_label_tag_name (codes "h2"),
-      option-short options.gfm_footnote_label (codes "Footnotes"),
-      attributes-short options.gfm_footnote_label_attributes,
-    )
+start-short options = grind (arith, option-short)
 
 -- the section, for its calls and its footnotes
 pub section-short : (context : Context) (footnotes : List Footnote) → length context.calls < 2 ^

@@ -1,9 +1,8 @@
 -- A table's head comes before its body, and a head has one row, by their spines.
-use Rattle.std.proofs.Common.{◌≡◌, ℕ, ◌+◌, Bool, true, false, ◌&&◌, List, [], ◌∷◌, ◌++◌, refl, sym}
+use Rattle.std.proofs.Common.{◌≡◌, ℕ, ◌+◌, Bool, true, false, ◌&&◌, List, [], ◌∷◌, ◌++◌, refl}
 use Rattle.std.proofs.Common.{ap, ◌∙◌, subst, arith}
 use Rattle.std.specs.Prelude.{if◌then◌else◌}
 use Rattle.std.specs.List.{list_all}
-use Rattle.md_base.proofs.Lies.{lie}
 use Rattle.md_pattern.specs.declared.kinds.Class.TheVariants.{Only}
 use Rattle.md_pattern.specs.declared.kinds.Item.{Item}
 use Rattle.md_pattern.specs.declared.kinds.Item.TheVariants.{Once, Maybe, Many}
@@ -56,9 +55,7 @@ no-rows amount (seen ∷ symbols) h = grind (arith, no-rows amount symbols)
 tails : (test : Symbol → Bool) → test symbol.ReferenceMarker ≡ false →
     test symbol.SetextText ≡ false → (first : Symbol) (tail : List Symbol) → test first ≡ true →
     IsTail first tail → list_all test tail ≡ true
-tails test mark text symbol.ReferenceMarker tail h is = lie (sym mark ∙ h)
-tails test mark text symbol.SetextText tail h is = lie (sym text ∙ h)
-tails test mark text _ tail h is = ap (list_all test) is
+tails test mark text first tail h is = grind arith
 
 -- what may come after the head, and after its row
 abbrev head_followers : List Item

@@ -20,12 +20,7 @@ none-there : (wanted : List ℕ) (amount : ℕ) (identifiers : List (List ℕ)) 
     is_in wanted identifiers ≡ false → of_one wanted amount identifiers ≡ 0
 none-there wanted amount [] out = refl
 none-there wanted amount (identifier ∷ identifiers) out =
-    grind (
-      arith,
-      or_parts (bytes_eq identifier wanted) (is_in wanted identifiers) out,
-      bytes_eq-sym wanted identifier,
-      none-there wanted amount identifiers,
-    )
+    grind (arith, or_parts, bytes_eq-sym, none-there wanted amount identifiers)
 
 once : (wanted : List ℕ) (amount : ℕ) (identifiers : List (List ℕ)) → Apart identifiers →
     of_one wanted amount identifiers ≤ amount
@@ -33,7 +28,6 @@ once wanted amount [] apart = omega arith
 once wanted amount (identifier ∷ identifiers) apart =
     grind (
       arith,
-      apart,
       same wanted identifier,
       none-there wanted amount identifiers,
       once wanted amount identifiers apart.1,
@@ -65,26 +59,21 @@ one-more : (own : List ℕ) (amount most : ℕ) (now before : List ℕ → ℕ)
     ≤ (if bytes_eq own identifier then amount else 0) + before identifier) →
     sum_of before identifiers ≤ most → sum_of now identifiers ≤ amount + most
 one-more own amount most now before identifiers apart each h =
+    let own_amount = λ (identifier : List ℕ). if bytes_eq own identifier then amount else 0 in
     omega (
       arith,
-      sum-le now (λ identifier. (if bytes_eq own identifier then amount else 0)
-          + before identifier) identifiers each,
-      sum-add (λ identifier. if bytes_eq own identifier then amount else 0) before identifiers,
+      sum-le now (λ identifier. own_amount identifier + before identifier) identifiers each,
+      sum-add own_amount before identifiers,
       once own amount identifiers apart,
-      h,
     )
 
 -- what is taken for each call of an identifier
 pub counted : (f : List ℕ → ℕ) (identifiers calls : List (List ℕ)) → Apart identifiers →
     sum_of (λ identifier. count_of calls identifier * f identifier) identifiers ≤ sum_of f calls
-counted f identifiers [] apart =
-    no-sum (λ identifier. 0 * f identifier) identifiers (λ identifier. omega arith)
+counted f identifiers [] apart = no-sum _ identifiers (λ identifier. omega arith)
 counted f identifiers (call ∷ calls) apart =
-    one-more call (f call) (sum_of f calls)
-    (λ identifier. count_of (call ∷ calls) identifier * f identifier)
-    (λ identifier. count_of calls identifier * f identifier) identifiers apart
-    (λ identifier. grind (arith, same call identifier))
-    (counted f identifiers calls apart)
+    one-more call (f call) (sum_of f calls) _ _ identifiers apart
+    (λ identifier. grind (arith, same call identifier)) (counted f identifiers calls apart)
 
 -- the texts of the first footnotes with these identifiers
 abbrev pub first_text : List Footnote → List ℕ → ℕ
@@ -93,14 +82,8 @@ first_text footnotes identifier = length (option_map_or (λ (footnote : Footnote
 
 pub texts-once : (footnotes : List Footnote) (identifiers : List (List ℕ)) → Apart identifiers →
     sum_of (first_text footnotes) identifiers ≤ notes footnotes
-texts-once [] identifiers apart =
-    no-sum (λ identifier. 0) identifiers (λ identifier. omega arith)
+texts-once [] identifiers apart = no-sum _ identifiers (λ identifier. omega arith)
 texts-once (footnote ∷ footnotes) identifiers apart =
     one-more footnote.identifier (length footnote.text) (notes footnotes)
-    (first_text (footnote ∷ footnotes)) (first_text footnotes) identifiers apart each
-    (texts-once footnotes identifiers apart)
-  where
-    each : (identifier : List ℕ) → first_text (footnote ∷ footnotes) identifier
-        ≤ (if bytes_eq footnote.identifier identifier then length footnote.text else 0)
-        + first_text footnotes identifier
-    each identifier = grind arith
+    (first_text (footnote ∷ footnotes)) (first_text footnotes) identifiers apart
+    (λ identifier. grind arith) (texts-once footnotes identifiers apart)

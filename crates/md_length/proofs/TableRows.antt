@@ -1,7 +1,7 @@
 -- The rows of a table: the columns are known before each but the one of its head.
 use Rattle.std.proofs.Common.{◌≡◌, ◌⊎◌, inl, inr, ℕ, ◌+◌, ◌*◌, ◌≤◌, Bool, true, List, []}
 use Rattle.std.proofs.Common.{◌∷◌, ◌++◌, length, refl, ap, ◌∙◌, subst, arith, append_assoc}
-use Rattle.std.proofs.Common.{append-nil, Option}
+use Rattle.std.proofs.Common.{Option}
 use Rattle.std.specs.Prelude.{if◌then◌else◌}
 use Rattle.std.specs.List.{list_all}
 use Rattle.std.proofs.Math.Nat.{add-zero}
@@ -12,8 +12,8 @@ use Rattle.md_base.specs.declared.event.AlignKind.{AlignKind}
 use Rattle.md_base.specs.declared.event.Event.{Event}
 use Rattle.md_base.specs.declared.event.Name.{Name}
 use Rattle.md_base.specs.declared.event.Name.TheVariants as name_variants
-use name_variants.{GfmTableRow, GfmTableHead, LineEnding}
-use name_variants.{SpaceOrTab, GfmTableDelimiterRow, GfmTableDelimiterCellValue}
+use name_variants.{GfmTableRow, GfmTableHead}
+use name_variants.{GfmTableDelimiterCellValue}
 use Rattle.md_base.specs.Is.{is}
 use Rattle.md_base.specs.NameTests.{leads_to_values}
 use Rattle.md_base.specs.Tree.{Forest, Empty, Node, flatten, entering, exiting}
@@ -24,13 +24,13 @@ use Rattle.md_pattern.specs.declared.kinds.Role.TheVariants as role
 use Rattle.md_pattern.specs.Spine.{spine, shown, Matches}
 use Rattle.md_pattern.specs.Shape.{AreShaped, IsStanding, inner_role, inner_before}
 use Rattle.md_pattern.specs.Standing.{standing_of}
-use Rattle.md_steps.specs.Content.{Rows, Cells, Parts, Childless, Fits, is_allowed}
+use Rattle.md_steps.specs.Content.{Rows, Fits, is_allowed}
 use Rattle.md_steps.specs.Content.{content_inside, content_after_node}
 use Rattle.md_steps.proofs.Staying.{node-stays}
 use Rattle.md_length.specs.Uses.{cells, columns_in}
 use Rattle.md_length.specs.Work.{is_column, cells as counted}
 use Rattle.md_length.proofs.Cells.{values, aligned-few, rows-counted, no-cells}
-use Rattle.md_length.proofs.Spined.{in_table, in_head, is_head, is_ordered, for_rows}
+use Rattle.md_length.proofs.Spined.{in_table, in_head, is_ordered, for_rows}
 use Rattle.md_length.proofs.Spined.{for_rows-append, table-ordered, head-letters, head-row}
 
 -- what a node shows of its children, and the columns that it gives to the table around it
@@ -58,29 +58,14 @@ head-rows : (columns : List AlignKind) (forest : Forest) (around : Role) (before
 head-rows columns Empty around before fits shaped h = omega arith
 head-rows columns (Node name start end children rest) around before fits shaped h =
     let parts = all-parts in_head (shows name children) (spine rest) h in
-    omega (
+    grind (
       arith,
       for_rows-append,
-      own name fits.0 fits.1 shaped.0.1 parts.0
-          (λ inside. head-rows columns children _ _ inside shaped.1),
+      parts,
+      no-cells (content_inside Rows name) columns children,
+      λ (inside : Fits Rows children). head-rows columns children _ _ inside shaped.1,
       head-rows columns rest _ _ (next-rows name children rest fits.2) shaped.2 parts.1,
     )
-  where
-    own : (name : Name) → is_allowed Rows name ≡ true → Fits (content_inside Rows name) children →
-        IsStanding (standing_of name) around before children →
-        list_all in_head (shows name children) ≡ true →
-        (Fits Rows children → list_all in_head (spine children) ≡ true →
-        cells columns children ≤ for_rows (length columns) (spine children)) →
-        (if is GfmTableRow name then length columns else 0)
-        + cells (columns_in columns name children) children
-        ≤ for_rows (length columns) (shows name children)
-    own GfmTableRow may inside stands h inner =
-        omega (arith, no-cells Cells columns children refl inside)
-    own GfmTableDelimiterRow may inside stands h inner =
-        omega (arith, no-cells Parts columns children refl inside)
-    own LineEnding may inside stands h inner =
-        omega (arith, no-cells Childless columns children refl inside)
-    own _ may inside stands h inner = grind (arith, inner)
 
 -- ---- the rows of a table
 -- after a head no columns follow
@@ -90,32 +75,17 @@ none-aligned : (forest : Forest) (around : Role) (before : Option Symbol) → Fi
 none-aligned Empty around before fits shaped h = refl
 none-aligned (Node name start end children rest) around before fits shaped h =
     let parts = all-parts in_table (shows name children) (spine rest) h in
-    ap (λ xs. own_alignments name children ++ xs)
-    (none-aligned rest _ _ (next-rows name children rest fits.2) shaped.2 parts.1)
-    ∙ append-nil (own_alignments name children)
-    ∙ own name fits.0 fits.1 shaped.0.1 parts.0
-    (λ inside. none-aligned children _ _ inside shaped.1)
-  where
-    own : (name : Name) → is_allowed Rows name ≡ true → Fits (content_inside Rows name) children →
-        IsStanding (standing_of name) around before children →
-        list_all in_table (shows name children) ≡ true →
-        (Fits Rows children → list_all in_table (spine children) ≡ true →
-        alignments children ≡ []) → own_alignments name children ≡ []
-    own SpaceOrTab may inside stands h inner = ap alignments stands
-    own _ may inside stands h inner = grind (arith, inner)
-
-aligned-node : (name : Name) (children : Forest) → length (own_alignments name children)
-    ≤ (if is_column name then 1 else 0) + values children
-aligned-node GfmTableDelimiterCellValue children = omega arith
-aligned-node _ children = omega (arith, aligned-few children)
+    grind (
+      arith,
+      parts,
+      λ (inside : Fits Rows children). none-aligned children _ _ inside shaped.1,
+      none-aligned rest _ _ (next-rows name children rest fits.2) shaped.2 parts.1,
+    )
 
 -- an amount once, if the head has come
 abbrev paid : ℕ → List Symbol → ℕ
 paid amount [] = 0
 paid amount (seen ∷ symbols) = amount
-
-paid-most : (amount : ℕ) (symbols : List Symbol) → paid amount symbols ≤ amount
-paid-most amount symbols = grind arith
 
 -- with the first symbols nothing has come, or the head, and then only what comes after it follows
 abbrev Comes : List Symbol → List Symbol → Type 0
@@ -126,11 +96,8 @@ Comes xs ys = ((xs ≡ []) × (is_ordered ys ≡ true))
 comes : (xs ys : List Symbol) → is_ordered (xs ++ ys) ≡ true → (is_ordered xs ≡ true) × Comes xs ys
 comes [] ys h = (refl, inl (refl, h))
 comes (x ∷ xs) ys h =
-    let head = and_parts (is_head x) (list_all in_table (xs ++ ys)) h in
-    let parts = all-parts in_table xs ys head.1 in (
-      and_from (is_head x) (list_all in_table xs) head.0 parts.0,
-      inr (λ amount. (refl, refl), parts.1),
-    )
+    let parts = all-parts in_table xs ys (and_parts _ _ h).1 in
+    (and_from _ _ (and_parts _ _ h).0 parts.0, inr (λ amount. (refl, refl), parts.1))
 
 table-rows : (columns : List AlignKind) (forest : Forest) (around : Role) (before : Option Symbol)
     (k after : ℕ) (tail : List Event) → Fits Rows forest → AreShaped forest around before →
@@ -153,16 +120,15 @@ table-rows columns (Node name start end children rest) around before k after tai
     let here = own name fits.0 fits.1 shaped.1 shaped.0.1 parts.0 in
     let rest_fits = next-rows name children rest fits.2 in
     let sum = length-append own_columns (alignments rest) in
-    let aligned = aligned-node name children in
-    let split = ap (λ events. counted k (entering name start ∷ events))
-    (append_assoc (flatten children) (exiting name end ∷ flatten rest) tail) in
-    elim parts.1 [
+    let aligned : length own_columns ≤ (if is_column name then 1 else 0) + values children =
+    grind (arith, aligned-few) in
+    let split = append_assoc (flatten children) (exiting name end ∷ flatten rest) tail in
+    rw split (elim parts.1 [
       | inl silent ↦
           let none = ap (paid n) silent.0 in
           let later = ap (λ xs. paid n (xs ++ spine rest)) silent.0 in
           omega (
             arith,
-            split,
             none,
             later,
             here (omega (arith, none)) inner,
@@ -174,13 +140,12 @@ table-rows columns (Node name start end children rest) around before k after tai
           let all = begun.0 n in
           omega (
             arith,
-            split,
             all,
             here (omega (arith, all, few, sum, none)) inner,
             rows-counted Rows columns next after rest tail refl rest_fits
                 (omega (arith, all, few, sum, none, aligned)) (omega arith),
           )
-    ]
+    ])
   where
     own : (name : Name) → is_allowed Rows name ≡ true → Fits (content_inside Rows name) children →
         AreShaped children (inner_role (standing_of name) around before)
@@ -211,15 +176,13 @@ table-rows columns (Node name start end children rest) around before k after tai
           head-rows columns children _ _ inside shaped (head-letters (spine children) stands),
           head-row (length columns) (spine children) stands,
         )
-    own SpaceOrTab may inside shaped stands h few inner =
-        omega (
+    own name may inside shaped stands h few inner =
+        grind (
           arith,
-          ap (cells columns) stands,
+          inner,
           rows-counted Rows [] k (k + (0 + values children)) children
-              (exiting SpaceOrTab end ∷ (flatten rest ++ tail)) refl inside (omega arith)
-              (omega arith),
+              (exiting name end ∷ (flatten rest ++ tail)) refl,
         )
-    own _ may inside shaped stands h few inner = grind (arith, inner)
 
 -- the cells of a table
 pub cells-of-table : (children : Forest) (before : Option Symbol) (tail : List Event) →
@@ -228,12 +191,4 @@ pub cells-of-table : (children : Forest) (before : Option Symbol) (tail : List E
     5 * cells (alignments children) children + counted (values children) tail
     ≤ counted 0 (flatten children ++ tail) + 5 * values children
 cells-of-table children before tail fits shaped matches =
-    let columns : List AlignKind = alignments children in
-    let most = paid-most (length columns) (spine children) in
-    omega (
-      arith,
-      table-rows columns children role.Table before 0 (values children) tail fits shaped
-          (table-ordered (spine children) matches) (omega (arith, most)) (omega arith),
-      most,
-      aligned-few children,
-    )
+    grind (arith, table-rows, table-ordered, aligned-few)

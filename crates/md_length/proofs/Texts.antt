@@ -1,6 +1,6 @@
 -- How long the texts are that are printed of what is read: escaped, as URLs, and as identifiers.
-use Rattle.std.proofs.Common.{inl, inr, ℕ, zero, suc, ◌+◌, ◌-◌, ◌*◌, ◌/◌, ◌%◌, ◌≤◌, Bool, true}
-use Rattle.std.proofs.Common.{false, List, [], ◌∷◌, length, refl, ap, arith, lit≤, filter}
+use Rattle.std.proofs.Common.{ℕ, zero, suc, ◌+◌, ◌-◌, ◌*◌, ◌≤◌, Bool, true}
+use Rattle.std.proofs.Common.{List, [], ◌∷◌, length, arith, lit≤, filter}
 use Rattle.std.specs.Prelude.{if◌then◌else◌, encode_utf8, encode_utf8_all}
 use Rattle.std.specs.List.{flat_map, slice_split, join_with_byte, onto_first}
 use Rattle.std.specs.Str.{chars, chars_after, continuation_len, lead_bits}
@@ -8,12 +8,12 @@ use Rattle.std.proofs.lemmas.Bool.{cases_lt}
 use Rattle.std.proofs.lemmas.Bool.Decides.{nat_tests}
 use Rattle.std.proofs.lemmas.Grind.{flat_map-append}
 use Rattle.std.proofs.lemmas.Str.{length-encode}
-use Rattle.ucd_case.specs.CaseFolding.{full_fold, full_folding}
+use Rattle.ucd_case.specs.CaseFolding.{full_fold}
 use Rattle.caseless.specs.Caseless.{default_case_fold}
 use Rattle.caseless.proofs.CaselessLemmas.{full_folding_short, full_fold-none, full_fold-some}
-use Rattle.md_base.specs.Identifier.{is_white, is_nonempty, collapsed, normalized}
+use Rattle.md_base.specs.Identifier.{collapsed, normalized}
 use Rattle.md_text.specs.Encode.{encoded_byte, encoded}
-use Rattle.md_text.specs.Url.{hex_digit, percent, stays, normalized_url, sanitized}
+use Rattle.md_text.specs.Url.{hex_digit, percent, stays, sanitized}
 use Rattle.md_text.specs.Filter.{tag_filtered}
 use Rattle.md_length.proofs.Pieces.{sizes, bytes-append}
 
@@ -35,23 +35,12 @@ digit-one d = grind (arith, nat_tests)
 
 escaped-one : (b : ℕ) (rest : List ℕ) →
     length (encoded true (if stays b rest then b ∷ [] else percent b)) ≤ 6
-escaped-one b rest = elim (stays b rest) as
-    (λ s. length (encoded true (if s then b ∷ [] else percent b)) ≤ 6) [
-      | true ↦ encoded-short true (b ∷ [])
-      | false ↦ omega (arith, bytes-append, digit-one (b / 16), digit-one (b % 16))
-    ]
+escaped-one b rest = grind (arith, encoded-short, bytes-append, digit-one)
 
 pub sanitized-short : (text : List ℕ) → length (sanitized text) ≤ 6 * length text
 sanitized-short [] = lit≤ tt
 sanitized-short (b ∷ rest) =
-    let own : List ℕ = if stays b rest then b ∷ [] else percent b in
-    omega (
-      arith,
-      bytes-append,
-      ap length (flat_map-append (encoded_byte true) own (normalized_url rest)),
-      escaped-one b rest,
-      sanitized-short rest,
-    )
+    grind (arith, bytes-append, flat_map-append, escaped-one, sanitized-short rest)
 
 -- ---- the tag filter
 pub filtered-short : (text : List ℕ) → length (tag_filtered text) ≤ 4 * length text
@@ -78,11 +67,7 @@ spelled-short [] = lit≤ tt
 spelled-short (c ∷ cs) = omega (arith, bytes-append, character-short c, spelled-short cs)
 
 folded_one-short : (c : ℕ) → length (full_fold c) ≤ 3
-folded_one-short c = elim (cases_lt (length (full_folding c)) 1) [
-  | inl none ↦ omega (arith, ap length (full_fold-none c (full_folding c) refl none))
-  | inr some ↦
-      omega (arith, ap length (full_fold-some c (full_folding c) refl some), full_folding_short c)
-]
+folded_one-short c = grind (arith, full_fold-none, full_fold-some, full_folding_short, cases_lt)
 
 -- the pieces of a text and what is between them
 total : List (List ℕ) → ℕ
@@ -112,28 +97,19 @@ split-total : (test : ℕ → Bool) (text : List ℕ) →
 unfolding total
 split-total test [] = (lit≤ tt, lit≤ tt)
 split-total test (b ∷ text) =
-    let later = split-total test text in
-    let onto = onto-total b (slice_split test text) later.1 in
-    grind (arith, later, onto)
+    grind (arith, onto-total b (slice_split test text), split-total test text)
 
 collapsed-short : (text : List ℕ) → length (collapsed text) ≤ length text
-collapsed-short text =
-    omega (
-      arith,
-      joined-short (filter is_nonempty (slice_split is_white text)),
-      filter-total is_nonempty (slice_split is_white text),
-      (split-total is_white text).0,
-    )
+collapsed-short text = grind (arith, joined-short, filter-total, split-total)
 
 -- an identifier has at most twelve bytes for each of its label
 pub normalized-short : (text : List ℕ) → length (normalized text) ≤ 12 * length text
 unfolding default_case_fold
 normalized-short text =
-    let characters = chars (collapsed text) in
     omega (
       arith,
-      spelled-short (default_case_fold characters),
-      flat_map-short full_fold 3 folded_one-short characters,
-      chars-short (collapsed text),
-      collapsed-short text,
+      spelled-short,
+      flat_map-short full_fold 3 folded_one-short,
+      chars-short,
+      collapsed-short,
     )

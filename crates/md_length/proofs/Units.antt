@@ -1,8 +1,8 @@
 -- What nodes may print, by their number, by the lengths of what is read, and by their events.
-use Rattle.std.proofs.Common.{◌≡◌, ℕ, ◌+◌, ◌*◌, ◌≤◌, List, ◌∷◌, length, refl, arith}
+use Rattle.std.proofs.Common.{◌≡◌, ℕ, ◌+◌, ◌*◌, ◌≤◌, List, length, refl, arith}
 use Rattle.std.proofs.lemmas.List.{length-append}
 use Rattle.md_base.specs.declared.event.Event.{Event}
-use Rattle.md_base.specs.Tree.{Forest, Empty, Node, flatten, exiting}
+use Rattle.md_base.specs.Tree.{Forest, Empty, Node, flatten}
 use Rattle.md_length.specs.Costs.{unit, nodes, cost}
 use Rattle.md_length.specs.Lengths.{lengths}
 use Rattle.md_length.specs.Longest.{longest}
@@ -22,12 +22,7 @@ half_unit names = 128 + 21 * longest names
 pub events-nodes : (forest : Forest) → length (flatten forest) ≡ 2 * nodes forest
 events-nodes Empty = refl
 events-nodes (Node name start end children rest) =
-    omega (
-      arith,
-      length-append (flatten children) (exiting name end ∷ flatten rest),
-      events-nodes children,
-      events-nodes rest,
-    )
+    grind (arith, length-append, events-nodes children, events-nodes rest)
 
 pub nodes-units : (names : List (List ℕ × List ℕ)) (forest : Forest) →
     nodes forest * unit names ≡ half_unit names * length (flatten forest)

@@ -68,9 +68,6 @@ meaning-short options names bytes document is few =
     let context : Context = given_in options names bytes document in
     let all : Outcome = outcome context outermost nothing_before document in
     let ending = grammatical-ending options bytes names document is in
-    let fits = shaped-fits document is.shape in
-    let under = grammatical-underlined bytes names document is in
-    let sound = grammatical-sound bytes names document is in
     let calls : length context.calls < 2 ^ 63 =
     omega (arith, calls-few alone outermost nothing_before document, few) in
     let fixed : ℕ = 6 * option_length options.gfm_footnote_clobber_prefix in
@@ -79,17 +76,18 @@ meaning-short options names bytes document is few =
     omega (
       arith,
       nodes-short context outermost nothing_before false Blocks document ending calls
-          (omega (arith, few)) sound fits under,
+          (omega (arith, few)) (grammatical-sound bytes names document is)
+          (shaped-fits document is.shape) (grammatical-underlined bytes names document is),
       split (call_cost options) (268 + 2 * fixed) 12 (λ identifier. omega arith),
       split (item_cost options) (96 + fixed) 6 (λ identifier. omega arith),
       split (back_cost options)
           (224 + fixed + 6 * option_length options.gfm_footnote_back_label) 6
           (λ identifier. omega arith),
       layout-short context.ending (all.pieces ++ section context all.footnotes) ending,
-      size-append all.pieces (section context all.footnotes),
+      size-append,
       section-short context all.footnotes calls,
-      calls-sum (item_cost options) alone outermost nothing_before document,
-      calls-sum (back_cost options) alone outermost nothing_before document,
+      calls-sum (item_cost options) alone,
+      calls-sum (back_cost options) alone,
       cost-split names document,
       numbers-short bytes document,
       labels-short bytes document,
