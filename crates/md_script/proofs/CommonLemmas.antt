@@ -141,8 +141,7 @@ pub line_common :
 line_common sign input rest place following kind name index is ek read number =
     line_plain sign read.text place input following kind name index
     (is ∙ ap (λ r. sign ∷ r) read.whole) ek read.says
-    (named_unbroken read.text name _ _ refl refl read.says)
-    (record { digits = number.digits; whole = number.whole; value = number.value })
+    (named_unbroken read.text name _ _ refl refl read.says) number
 
 pub line_cut :
     (sign : ℕ) (input rest place following : List ℕ) (kind : Kind) (name : Name) (point : Point) →

@@ -82,15 +82,7 @@ counted_more events settings line (Some event) =
 counted_more events settings line None =
     omega (arith, length-append events [], length-append settings (line ∷ []))
 
--- ---- the line that ends the script
-
-is_end : (line : List ℕ) → bytes_eq line end_line ≡ true → line ≡ end_line
-is_end line h = (bytes_eq-Decides line end_line).0 h
-
 -- ---- a line that can't be read, and no line
-
-end_unreadable : (earlier : List (List ℕ)) → is_readable_after earlier end_line ≡ false
-end_unreadable earlier = refl
 
 -- what stops the reading and what ends a script don't go together
 clash : (before earlier others body document : List (List ℕ)) →
@@ -106,7 +98,7 @@ clash before [] (line ∷ others) (first ∷ body) document e reads script stops
     true≢false (sym (rw same at script.0) ∙ rw append-nil at stops.1)
 clash before (line ∷ earlier) others [] document e reads script stops =
     let same : line ≡ end_line = cc in
-    true≢false (sym (rw same at reads.0) ∙ end_unreadable before)
+    true≢false (sym (rw same at reads.0))
 clash before (line ∷ earlier) others (first ∷ body) document e reads script stops =
     let same : first ≡ line = cc in
     let tails : earlier ++ others ≡ body ++ end_line ∷ document = cc in
@@ -174,7 +166,7 @@ module _ {input rest : List ℕ} {events : List Event} {settings : List (List �
     body = known.seen;
     document = document;
     script = record {
-      whole = rw (known.whole, cut, is_end line ends) refl;
+      whole = rw (known.whole, cut, (bytes_eq-Decides line end_line).0 ends) refl;
       reads = known.reads;
     };
     says = known.says;

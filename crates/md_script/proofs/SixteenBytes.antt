@@ -20,10 +20,7 @@ itself (m ∷ marks) = ap (λ r. m ∷ r) (itself marks)
 lowest : (marks : List Bool) → length marks ≤ 64 → 0 < mask_l marks →
     count_trailing_zeros 64 (mask_l marks) ≡ prefix_len (λ m. not m) marks
 lowest marks few some =
-    let same = itself marks in
-    let least : 0 < mask_l (map (λ m. m) marks) = subst (λ l. 0 < mask_l l) (sym same) some in
-    ap (λ l. count_trailing_zeros 64 (mask_l l)) (sym same)
-    ∙ trailing_mask_l (λ m. m) 64 marks few least
+    rw (itself marks) at (trailing_mask_l (λ m. m) 64 marks few (rw (itself marks) some))
 
 clear_before : (marks : List Bool) (k : ℕ) → k < length marks → length marks ≤ 64 →
     k < count_trailing_zeros 64 (mask_l marks) → get_or marks k false ≡ false
