@@ -67,10 +67,7 @@ pub at_length : (tables : List Table) (text : List ℕ) → length tables ≡ 36
     in_table text (slice_get tables (length text)) ≡ listed event_names text
 at_length tables text many are =
     elim (cases_Bool (leb 36 (length text))) [
-      | inl long ↦
-          let least = leb-true 36 (length text) long in
-          ap (in_table text) (slice_get_past tables (length text) (omega (arith, many, least)))
-          ∙ sym (unlisted_long text least)
+      | inl long ↦ grind (arith, leb-true, slice_get_past, unlisted_long)
       | inr short ↦
           let same : 0 + length text ≡ length text = omega arith in
           let least = leb-false 36 (length text) short in

@@ -48,13 +48,7 @@ pub value_more : (digits : List ℕ) (i number : ℕ) → i < length digits →
     is_ascii_digit (get_or digits i 0) ≡ true → number * 10 + (get_or digits i 0 - 48)
     ≡ digits_value 10 (take (i + 1) digits)
 value_more digits i number inside e digit =
-    let range = digit_range (get_or digits i 0) digit in
-    omega (
-      arith,
-      digits_value_more 10 digits i inside,
-      digit_value_digit (get_or digits i 0) range,
-      e,
-    )
+    grind (arith, digit_range, digits_value_more, digit_value_digit)
 
 not_all : (digits : List ℕ) (i : ℕ) → i < length digits →
     is_ascii_digit (get_or digits i 0) ≡ false →

@@ -2,14 +2,14 @@
 use Rattle.std.proofs.Common.{◌≡◌, ℕ, zero, suc, ◌+◌, Bool, true, false, not, cond, ◌&&◌, ◌||◌}
 use Rattle.std.proofs.Common.{List, [], ◌∷◌, ◌++◌, length, take, drop, get_or, ◌<◌, ◌≤◌}
 use Rattle.std.proofs.Common.{Some, None}
-use Rattle.std.proofs.Common.{refl, sym, ap, ◌∙◌, arith, leb, eqb, inl, inr, ◌-◌}
+use Rattle.std.proofs.Common.{refl, sym, ap, ◌∙◌, arith, leb, eqb, ◌-◌}
 use Rattle.std.specs.Prelude.{position}
-use Rattle.std.specs.List.{before_first, after_first, list_any, onto_first, position_or_len}
+use Rattle.std.specs.List.{before_first, after_first, list_any, position_or_len}
 use Rattle.std.specs.List.{slice_split}
 use Rattle.std.specs.Char.{is_ascii_digit}
 use Rattle.std.specs.Str.{all_ascii_digits}
 use Rattle.std.specs.Str.Parse.{digits_value}
-use Rattle.std.proofs.lemmas.Bool.{cases_Bool, or_parts, le-leb, eqb-true}
+use Rattle.std.proofs.lemmas.Bool.{le-leb, eqb-true}
 use Rattle.std.proofs.lemmas.Bool.{ltb-false}
 use Rattle.std.proofs.lemmas.List.{append_assoc, length-append, take-append-drop, drop_more}
 use Rattle.std.proofs.lemmas.List.{length-take-le, take_all, take_at, take_rest}
@@ -46,10 +46,7 @@ module _ (p : ℕ → Bool) where
 
   pub after_cut : (xs : List ℕ) (c : ℕ) (ys : List ℕ) → list_any p xs ≡ false → p c ≡ true →
       after_first p (xs ++ c ∷ ys) ≡ ys
-  after_cut xs c ys none hit =
-      let next : position_or_len p (xs ++ c ∷ ys) + 1 ≡ suc (length xs) =
-      omega (arith, place_of xs c ys none hit) in
-      ap (λ n. drop n (xs ++ c ∷ ys)) next ∙ back xs c ys
+  after_cut xs c ys none hit = grind (arith, place_of, back)
 
   pub before_none : (xs : List ℕ) → list_any p xs ≡ false → before_first p xs ≡ xs
   before_none xs none =
@@ -59,10 +56,7 @@ module _ (p : ℕ → Bool) where
   pub split_cut : (xs : List ℕ) (c : ℕ) (ys : List ℕ) → list_any p xs ≡ false → p c ≡ true →
       slice_split p (xs ++ c ∷ ys) ≡ xs ∷ slice_split p ys
   split_cut [] c ys none hit = slice_split-cons_yes p c ys hit
-  split_cut (x ∷ xs) c ys none hit =
-      let parts = or_parts (p x) (list_any p xs) none in
-      slice_split-cons_no p x (xs ++ c ∷ ys) parts.0
-      ∙ ap (onto_first x) (split_cut xs c ys parts.1 hit)
+  split_cut (x ∷ xs) c ys none hit = grind (arith, slice_split-cons_no, split_cut xs c ys)
 
   pub none_below : (xs : List ℕ) (n : ℕ) → ((k : ℕ) → k < n → p (get_or xs k 0) ≡ false) →
       list_any p (take n xs) ≡ false
@@ -99,10 +93,7 @@ digits_without p none (d ∷ digits) all =
 
 digits_are_none : (digits : List ℕ) → all_ascii_digits digits ≡ true →
     (list_any is_dot digits ≡ false) × (list_any is_line_feed digits ≡ false)
-digits_are_none digits all = (
-  digits_without is_dot (λ c h. digit_is_not c 46 (omega arith) h) digits all,
-  digits_without is_line_feed (λ c h. digit_is_not c 10 (omega arith) h) digits all,
-)
+digits_are_none digits all = grind (arith, digits_without, digit_is_not)
 
 pub digits_unbroken : (digits : List ℕ) → all_ascii_digits digits ≡ true →
     list_any is_break digits ≡ false
@@ -158,17 +149,10 @@ point_plain digits index value =
 unbroken : (text : List ℕ) → list_any is_break text ≡ false →
     (list_any is_space text ≡ false) × (list_any is_line_feed text ≡ false)
 unbroken [] none = (refl, refl)
-unbroken (x ∷ text) none =
-    let parts = or_parts (is_break x) (list_any is_break text) none in
-    let here = or_parts (is_space x) (is_line_feed x) parts.0 in
-    let there = unbroken text parts.1 in (rw (here.0) (there.0), rw (here.1) (there.1))
+unbroken (x ∷ text) none = grind (arith, unbroken text)
 
 sign_is_none : (sign : ℕ) (kind : Kind) → kind_of sign ≡ Some kind → is_line_feed sign ≡ false
-sign_is_none sign kind e =
-    elim (cases_Bool (eqb sign 10)) [
-      | inl feed ↦ (let no : kind_of 10 ≡ Some kind = rw (eqb-true sign 10 feed) at e in absurd cc)
-      | inr other ↦ other
-    ]
+sign_is_none sign kind e = grind (arith, eqb-true)
 
 event_placed : (sign : ℕ) (text said : List ℕ) (kind : Kind) (name : Name) (point : Point) →
     kind_of sign ≡ Some kind →

@@ -77,14 +77,8 @@ set_at : (marks : List Bool) → length marks ≤ 64 →
 unfolding count_trailing_zeros
 set_at marks few low =
     elim (cases_eq (mask_l marks) 0) [
-      | inl none ↦
-          let past : count_trailing_zeros 64 (mask_l marks) ≡ 64 =
-          ap (count_trailing_zeros 64) none in
-          absurd (omega (arith, past, low, few))
-      | inr some ↦
-          let e = lowest marks few (omega (arith, some)) in
-          ap (λ n. get_or marks n false) e
-          ∙ not-false _ (prefix_len_stops (λ m. not m) marks false (omega (arith, e, low)))
+      | inl none ↦ grind arith
+      | inr some ↦ grind (arith, lowest, prefix_len_stops)
     ]
 
 abbrev spaces : List ℕ → List Bool
@@ -112,13 +106,6 @@ space_found bytes long low =
     count_trailing_zeros 64 (space_mask front) ≡ count_trailing_zeros 64 (mask_l marks) =
     ap (count_trailing_zeros 64) is in
     record {
-      none = λ k before.
-          sym (at k (omega (arith, before, low)))
-          ∙ clear_before marks k (omega (arith, many, before, low)) (omega (arith, many))
-          (omega (arith, place, before));
-      there =
-          ap (λ n. get_or bytes n 0) place
-          ∙ eqb-true (get_or bytes (count_trailing_zeros 64 (mask_l marks)) 0) 32
-          (sym (at (count_trailing_zeros 64 (mask_l marks)) (omega (arith, place, low)))
-          ∙ set_at marks (omega (arith, many)) (omega (arith, place, many, low)));
+      none = grind (arith, clear_before);
+      there = grind (arith, eqb-true, set_at);
     }
