@@ -1,7 +1,6 @@
 -- The promises of an answer, from the text or the failure that it reports.
-use Rattle.std.proofs.Common.{refl, sym, subst, ◌≡◌, ℕ, ◌<◌, ◌≤◌, List}
-use Rattle.std.proofs.Common.{arith, false, eqb}
-use Rattle.std.proofs.lemmas.Bool.{eqb-false}
+use Rattle.std.proofs.Common.{sym, subst, ◌≡◌, ℕ, ◌<◌, ◌≤◌, List}
+use Rattle.std.proofs.Common.{arith}
 use Rattle.md_script.specs.Script.{IsReadable, IsFirstUnreadable}
 use Rattle.md_script.specs.Run.{ExplainsRun}
 use Rattle.md_script.specs.declared.error.RunError.{RunError}
@@ -20,10 +19,6 @@ use Rattle.md_abi.specs.declared.reference.CReference.{CReference}
 use Rattle.md_abi.specs.declared.option.COptions.{COptions}
 use Rattle.md_abi.specs.declared.failure.Failure.{Failure}
 use Rattle.md_abi.specs.declared.failure.Failure.TheVariants as failure
-
--- two numbers that differ
-pub never : {A : Type 0} (a b : ℕ) → eqb a b ≡ false → a ≡ b → A
-never a b differ same = absurd (eqb-false a b differ same)
 
 -- ---- texts
 
@@ -74,12 +69,7 @@ module _ (events : List CEvent) (bytes : List ℕ) (options : COptions)
   says_nothing answer many = grind arith
 
   says : (why : Failure) → Explains events bytes options names why → Says (answer_of why)
-  says (failure.Refused index rule) h = record {
-    refused = λ _. (rule, refl, h);
-    no_event = never 2 3 refl;
-    no_name = never 2 4 refl;
-    no_option = never 2 5 refl;
-  }
+  says (failure.Refused index rule) h = grind arith
   says _ h = grind arith
 
   pub failure_says : (why : Failure) (answer : Answer) → Explains events bytes options names why →
@@ -103,11 +93,7 @@ module _ (script : List ℕ) where
 
   script_says : (why : RunError) → ExplainsRun script why →
       SaysOfScript (answer_of (failure_of_run why))
-  script_says (run.Event index rule) h = record {
-    refused = λ _. (rule, refl, h);
-    unreadable = never 2 6 refl;
-    no_line = never 2 6 refl;
-  }
+  script_says (run.Event index rule) h = grind arith
   script_says _ h = grind arith
 
   pub failure_says_of_script : (why : RunError) (answer : Answer) → ExplainsRun script why →

@@ -1,7 +1,7 @@
 -- From the promises about a safe text and its attributes to those about C's result.
 use Rattle.std.proofs.Common.{◌≡◌, ℕ, ◌≤◌, false, List, [], ◌∷◌, ◌++◌}
 use Rattle.std.proofs.Common.{length, take, drop, Option, Some, None, Result, Ok, Err, IfOk}
-use Rattle.std.proofs.Common.{refl, sym, ap, ◌∙◌, subst, arith}
+use Rattle.std.proofs.Common.{sym, ap, ◌∙◌, subst, arith}
 use Rattle.std.specs.Prelude.{IsTrue, option_and_then}
 use Rattle.std.proofs.lemmas.Bool.Decides.{nat_tests}
 use Rattle.std.proofs.lemmas.List.{length-append, take_at, drop_at}
@@ -56,12 +56,7 @@ reads_once text read = grind (arith, all-any, one_reading)
 -- ---- a list after a text
 pub after : (text list whole : List ℕ) (start : ℕ) → whole ≡ text ++ list → start ≡ length text →
     (take start whole ≡ text) × (drop start whole ≡ list) × (start ≤ length whole)
-after text list whole start is at =
-    rw (is, at) (
-      take_at text list (length text) refl,
-      drop_at text list (length text) refl,
-      omega (arith, length-append text list),
-    )
+after text list whole start is at = grind (arith, take_at, drop_at, length-append)
 
 pub listed-none : (text whole : List ℕ) (start : ℕ) (x : List Token) → whole ≡ text ++ [] →
     start ≡ length text →

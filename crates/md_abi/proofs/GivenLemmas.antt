@@ -1,10 +1,9 @@
 -- From the compiler's promises to those about a text in terms of C's input.
 use Rattle.std.proofs.Common.{arith}
-use Rattle.std.proofs.Common.{◌≡◌, ℕ, Bool, true, false, cond, eqb, List, map, Option, Some, None}
+use Rattle.std.proofs.Common.{◌≡◌, ℕ, List, map, Some}
 use Rattle.std.proofs.Common.{Result, Ok, Err, IfOk, IfErr, sym, ap, ◌∙◌, subst}
-use Rattle.std.specs.Prelude.{IsErrAnd, option_map}
+use Rattle.std.specs.Prelude.{IsErrAnd}
 use Rattle.std.specs.Borrow.{Bor}
-use Rattle.md_base.specs.Place.{text_when}
 use Rattle.md_base.specs.Reference.{name_table}
 use Rattle.md_base.specs.declared.event.Event.{Event}
 use Rattle.md_tree.specs.Grammar.{Handed, handed}
@@ -16,31 +15,17 @@ use Rattle.md_safe.specs.Options as safe
 use Rattle.md_abi.specs.Standing.{StandFor}
 use Rattle.md_abi.specs.Events.{event_of}
 use Rattle.md_abi.specs.References.{reference_of}
-use Rattle.md_abi.specs.Options.{flag_of, text_of, HasOptions, KeepsGrammar, KeepsLinks}
+use Rattle.md_abi.specs.Options.{HasOptions, KeepsGrammar, KeepsLinks}
 use Rattle.md_abi.specs.Options.{KeepsImages, KeepsIds}
 use Rattle.md_abi.specs.Rendered.{IsRendered}
 use Rattle.md_html.specs.Promises.{Promises}
 use Rattle.md_abi.specs.Failures.{failure_of, IsRefusalOf, Explains}
 use Rattle.md_abi.specs.declared.event.CEvent.{CEvent}
 use Rattle.md_abi.specs.declared.reference.CReference.{CReference}
-use Rattle.md_abi.specs.declared.option.CText.{CText}
 use Rattle.md_abi.specs.declared.option.COptions.{COptions}
 use Rattle.md_abi.specs.declared.failure.Failure.{Failure}
 
 -- ---- safe options of C encode safe options
-
-flag_off : (flag : ℕ) (is_on : Bool) → flag ≡ 0 → flag_of flag ≡ Some is_on → is_on ≡ false
-flag_off flag is_on off stands =
-    let same : Some false ≡ Some is_on = ap flag_of (sym off) ∙ stands in cc
-
-abbrev text_at : CText → ℕ → Option (Option (List ℕ))
-text_at given set =
-    cond (eqb set 0) (Some None)
-    (cond (eqb set 1) (option_map Some (text_when true given.bytes.now)) None)
-
-unset : {S : Type 0} (bytes_of : S → List ℕ) (given : CText) (text : Option S) → given.is_set ≡ 0 →
-    text_of given ≡ Some (option_map bytes_of text) → text ≡ None
-unset bytes_of given text off stands = grind arith
 
 pub keeps_grammar : (given : COptions) (options : CompileOptions) → HasOptions given options →
     KeepsGrammar given →
@@ -56,10 +41,6 @@ pub keeps_images : (given : COptions) (options : CompileOptions) →
     HasOptions given options → KeepsImages given →
     safe.KeepsImages options
 keeps_images given options has keeps = grind arith
-
-flag_on : (flag : ℕ) (is_on : Bool) → flag ≡ 1 → flag_of flag ≡ Some is_on → is_on ≡ true
-flag_on flag is_on on stands =
-    let same : Some true ≡ Some is_on = ap flag_of (sym on) ∙ stands in cc
 
 pub keeps_ids : (given : COptions) (options : CompileOptions) →
     HasOptions given options → KeepsIds given →

@@ -1,9 +1,8 @@
 -- The promises of an answer with a list after its text, and of one with a refusal.
-use Rattle.std.proofs.Common.{◌≡◌, ℕ, ◌≤◌, List, length, refl, sym, subst}
+use Rattle.std.proofs.Common.{◌≡◌, ℕ, ◌≤◌, List, length, sym, subst}
 use Rattle.std.proofs.Common.{arith}
 use Rattle.md_abi.specs.Options.{KeepsImages}
 use Rattle.md_abi.specs.Attributes.{StandsForNoAttribute}
-use Rattle.md_abi.specs.Failures.{answer_of}
 use Rattle.md_abi.specs.Refusals.{answer_of_refusal, ExplainsRefusal}
 use Rattle.md_abi.specs.Buffer.{HandsOver, IsListHandedOver}
 use Rattle.md_abi.specs.Answers.{IsOfAttributed}
@@ -23,9 +22,6 @@ pub list_handed : (claim : ℕ → List ℕ → Type 0) (whole : List ℕ) (star
     claim start whole → IsListHandedOver whole start old new answer →
     HandsOver (claim answer.index) old new answer
 list_handed claim whole start old new answer holds listed = grind arith
-
-abbrev answer_with : ℕ → ℕ → ℕ → Answer
-answer_with status start size = record { status = status; rule = 0; index = start; length = size }
 
 abbrev pub moved : ℕ → Answer → Answer
 moved start answer = record answer { index = start }
@@ -66,15 +62,7 @@ module _ (events : List CEvent) (bytes : List ℕ) (options : COptions) (names :
           SaysRefusal (answer_of_refusal why)
       of refusal.Unsafe h = grind (arith, says_nothing)
       of (refusal.Attribute number) h = grind (arith, says_nothing)
-      of (refusal.Failed cause) h =
-          let says = failure_says events bytes options names cause (answer_of cause) h refl in
-          let known = (failure_of_compile events bytes options names cause (answer_of cause) h
-          refl).plain.known in
-          record {
-            plain = says;
-            unsafe_options = λ is. absurd (omega (arith, is, known));
-            no_attribute = λ is. absurd (omega (arith, is, known));
-          }
+      of (refusal.Failed cause) h = grind (arith, failure_says, failure_of_compile)
 
   pub list_says : (answer : Answer) → answer.status ≤ 1 → SaysRefusal answer
   list_says answer few = grind arith

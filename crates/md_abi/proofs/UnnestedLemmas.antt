@@ -1,7 +1,7 @@
 -- From the compiler's promises, if no link contains a link, to those about C's result and its
 -- answer.
 use Rattle.std.proofs.Common.{◌≡◌, ℕ, ◌≤◌, List, Result, Ok, Err, IfOk, IfErr}
-use Rattle.std.proofs.Common.{refl, sym, subst, arith}
+use Rattle.std.proofs.Common.{sym, subst, arith}
 use Rattle.std.specs.Borrow.{Bor}
 use Rattle.md_base.specs.declared.event.Event.{Event}
 use Rattle.md_tree.specs.Grammar.{Handed, handed, IsChecked}
@@ -11,7 +11,6 @@ use Rattle.md_html.specs.Safe.{IsRefusedFor, OfCompile}
 use Rattle.md_html.specs.Unnested.{AreNested, OfSafe, OfNested}
 use Rattle.md_html.specs.declared.unnested.UnnestedError.{UnnestedError}
 use Rattle.md_abi.specs.Options.{KeepsImages}
-use Rattle.md_abi.specs.Failures.{answer_of}
 use Rattle.md_abi.specs.Unnested.{IsUnnestedText, IsNestedIn, IsOfUnnested}
 use Rattle.md_abi.specs.UnnestedFailures.{unnested_failure_of, answer_of_unnested}
 use Rattle.md_abi.specs.UnnestedFailures.{IsCompiledUnnested, IsUnnestedFault, ExplainsUnnested}
@@ -90,15 +89,7 @@ module _ (events : List CEvent) (bytes : List ℕ) (options : COptions)
       of Nested h = grind (arith, says_nothing)
       of (Refused refusal.Unsafe) h = grind (arith, says_nothing)
       of (Refused (refusal.Attribute number)) h = absurd h
-      of (Refused (refusal.Failed cause)) h =
-          let says = failure_says events bytes options names cause (answer_of cause) h refl in
-          let known = (failure_of_compile events bytes options names cause (answer_of cause) h
-          refl).plain.known in
-          record {
-            plain = says;
-            unsafe_options = λ is. absurd (omega (arith, is, known));
-            nested = λ is. absurd (omega (arith, is, known));
-          }
+      of (Refused (refusal.Failed cause)) h = grind (arith, failure_says, failure_of_compile)
 
   pub text_says_unnested : (answer : Answer) → answer.status ≤ 1 → SaysUnnested answer
   text_says_unnested answer few = grind arith

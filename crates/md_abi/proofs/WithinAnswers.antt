@@ -1,6 +1,6 @@
 -- The promises of an answer within limits about C's result.
-use Rattle.std.proofs.Common.{◌≡◌, inl, ℕ, ◌≤◌, List}
-use Rattle.std.proofs.Common.{refl, sym, subst, arith}
+use Rattle.std.proofs.Common.{◌≡◌, ℕ, ◌≤◌, List}
+use Rattle.std.proofs.Common.{sym, subst, arith}
 use Rattle.md_tree.specs.Grammar.{handed}
 use Rattle.md_abi.specs.Failures.{answer_of}
 use Rattle.md_abi.specs.Within.{IsTooLong, IsTooMuch, IsBounded, IsShallow}
@@ -59,19 +59,7 @@ module _ (events : List CEvent) (bytes : List ℕ) (options : COptions) (names :
       of TooLong h = grind (arith, says_nothing)
       of TooMuch h = grind (arith, says_nothing)
       of TooDeep h = grind (arith, says_nothing)
-      of (Failed cause) h =
-          let given = answer_of cause in
-          let says = failure_says events bytes options names cause given h.0 refl in
-          let of_it = failure_of_compile events bytes options names cause given h.0 refl in
-          let known = of_it.plain.known in
-          record {
-            plain = says;
-            too_long = λ is. absurd (omega (arith, is, known));
-            too_much = λ is. absurd (omega (arith, is, known));
-            too_deep = λ is. absurd (omega (arith, is, known));
-            bounded = λ is. (past_depth _ cause (inl is) h.1).0;
-            shallow = λ is. (past_depth _ cause is h.1).1;
-          }
+      of (Failed cause) h = grind (arith, failure_says, failure_of_compile, past_depth)
 
   pub text_says_within : (answer : Answer) → answer.status ≤ 1 → IsBounded events limits →
       IsShallow events limits → SaysWithin answer

@@ -42,10 +42,7 @@ pub some_once : {B : Type 0} (xs ys : List B) → map Some xs ≡ map Some ys �
 some_once [] [] same = refl
 some_once [] (y ∷ ys) same = cc
 some_once (x ∷ xs) [] same = cc
-some_once (x ∷ xs) (y ∷ ys) same =
-    let first : x ≡ y = cc in
-    let others : map Some xs ≡ map Some ys = cc in
-    ap (λ z. z ∷ xs) first ∙ ap (λ zs. y ∷ zs) (some_once xs ys others)
+some_once (x ∷ xs) (y ∷ ys) same = grind (arith, some_once xs ys)
 
 -- ---- the converted input, passed as slices
 
@@ -82,11 +79,8 @@ module _ (events : List CEvent) (bytes : List ℕ) (options : COptions) (names :
       own.depth ≡ depth_limit limits.depth → (why : WithinFailure) →
       IsFailureWithin (handed slice bytes pairs) given own why →
       ExplainsWithin events bytes options names limits why
-  explained_within same same_work same_depth TooLong h = (
-    long_given same same_work h,
-    bounded_given same_work h.bounded,
-    shallow_given same_depth h.shallow,
-  )
+  explained_within same same_work same_depth TooLong h =
+      grind (arith, long_given, bounded_given, shallow_given)
   explained_within same same_work same_depth TooMuch h =
       (much_given same_work h.1, shallow_given same_depth h.0)
   explained_within same same_work same_depth TooDeep h = deep_given same_depth h

@@ -4,7 +4,7 @@ use Rattle.std.proofs.Common.{◌≡◌, ℕ, suc, Bool, true, false, cond, List
 use Rattle.std.proofs.Common.{map, filter, refl, sym, ap, ◌∙◌}
 use Rattle.std.specs.List.{list_all, list_any}
 use Rattle.std.specs.Cmp.Lexicographic.{bytes_decides}
-use Rattle.std.proofs.lemmas.Bool.{and_from, cond-true, cond-false, false_from_ne_true}
+use Rattle.std.proofs.lemmas.Bool.{and_from, cond-false, false_from_ne_true}
 use Rattle.std.proofs.lemmas.List.Folds.{list_all-append, list_any-append}
 use Rattle.md_base.proofs.Lies.{lie}
 use Rattle.md_text.specs.References.{is_escaped}
@@ -49,14 +49,7 @@ pub seen-append : (x y : List Attribute) →
 seen-append [] y = refl
 seen-append (a ∷ x) y = ap (λ z. seen_attribute a ∷ z) (seen-append x y)
 
--- a token that passes gets one more attribute, and any other one stays
-pub added-this :
-    (test : Token → Bool) (attribute : ℕ → TokenAttribute) (n : ℕ) (t : Token) (ts : List Token) →
-    test t ≡ true →
-    added test attribute n (t ∷ ts)
-    ≡ with_attribute t (attribute n) ∷ added test attribute (suc n) ts
-added-this test attribute n t ts e = cond-true (test t) _ _ e
-
+-- a token that does not pass stays
 pub added-other :
     (test : Token → Bool) (attribute : ℕ → TokenAttribute) (n : ℕ) (t : Token) (ts : List Token) →
     test t ≡ false → added test attribute n (t ∷ ts) ≡ t ∷ added test attribute n ts
