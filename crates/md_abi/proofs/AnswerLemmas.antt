@@ -1,6 +1,7 @@
 -- The promises of an answer, from the text or the failure that it reports.
 use Rattle.std.proofs.Common.{sym, subst, ◌≡◌, ℕ, ◌<◌, ◌≤◌, List}
-use Rattle.std.proofs.Common.{arith}
+use Rattle.std.proofs.Common.{arith, false, eqb}
+use Rattle.std.proofs.lemmas.Bool.{eqb-false}
 use Rattle.md_script.specs.Script.{IsReadable, IsFirstUnreadable}
 use Rattle.md_script.specs.Run.{ExplainsRun}
 use Rattle.md_script.specs.declared.error.RunError.{RunError}
@@ -19,6 +20,10 @@ use Rattle.md_abi.specs.declared.reference.CReference.{CReference}
 use Rattle.md_abi.specs.declared.option.COptions.{COptions}
 use Rattle.md_abi.specs.declared.failure.Failure.{Failure}
 use Rattle.md_abi.specs.declared.failure.Failure.TheVariants as failure
+
+-- two numbers that differ
+pub never : {A : Type 0} (a b : ℕ) → eqb a b ≡ false → a ≡ b → A
+never a b differ same = absurd (eqb-false a b differ same)
 
 -- ---- texts
 

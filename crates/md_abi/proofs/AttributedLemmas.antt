@@ -118,14 +118,6 @@ pub built-before : {S E : Type 0} (whole : S → List ℕ) (start : S → ℕ) (
     IfOk r (λ made. IsBuiltAsWritten given → IsBuiltAsWritten (take (start made) (whole made)))
 built-before whole start given text list r is at built = grind (arith, after)
 
--- and the same for another text with that result
-pub built-from : {S E : Type 0} (given text : List ℕ) (of : S → List ℕ) (r : Result S E) →
-    IfOk r (λ made. IsBuiltAsWritten text → IsBuiltAsWritten (of made)) →
-    (IsBuiltAsWritten given → IsBuiltAsWritten text) →
-    IfOk r (λ made. IsBuiltAsWritten given → IsBuiltAsWritten (of made))
-built-from given text of (Ok made) h built = λ b. h (built b)
-built-from given text of (Err why) h built = tt
-
 -- the requested attributes are those that were read
 pub asked_is : (given : CText) (read : Option (List ℕ)) → text_of given ≡ Some read →
     asked given ≡ read

@@ -63,7 +63,8 @@ pub read_as :
     pairs ≡ read_pairs → StandFor event_of events read → HasOptions options given →
     StandFor reference_of names (name_table read_pairs) →
     IsRead events options names slice given pairs
-read_as events options names slice read given pairs read_pairs same same_pairs events_stand options_stand names_stand =
+read_as events options names slice read given pairs read_pairs same same_pairs events_stand
+    options_stand names_stand =
     grind arith
 
 module _ (events : List CEvent) (bytes : List ℕ) (options : COptions) (names : List CReference)
