@@ -1,12 +1,10 @@
 -- From the promises about a safe text and its attributes to those about C's result.
-use Rattle.std.proofs.Common.{◌≡◌, ℕ, ◌≤◌, Bool, true, false, cond, eqb, List, [], ◌∷◌, ◌++◌}
+use Rattle.std.proofs.Common.{◌≡◌, ℕ, ◌≤◌, false, List, [], ◌∷◌, ◌++◌}
 use Rattle.std.proofs.Common.{length, take, drop, Option, Some, None, Result, Ok, Err, IfOk}
-use Rattle.std.proofs.Common.{refl, sym, ap, ◌∙◌, subst, arith}
-use Rattle.std.specs.Prelude.{IsTrue, option_map, option_and_then, string_bytes}
-use Rattle.std.proofs.lemmas.Bool.{eqb-true}
-use Rattle.std.proofs.lemmas.List.{length-append, take-append-le, drop-append-le, take_all}
-use Rattle.std.proofs.lemmas.List.{drop_all}
-use Rattle.md_base.specs.Place.{text_when}
+use Rattle.std.proofs.Common.{sym, ap, ◌∙◌, subst, arith}
+use Rattle.std.specs.Prelude.{IsTrue, option_and_then}
+use Rattle.std.proofs.lemmas.Bool.Decides.{nat_tests}
+use Rattle.std.proofs.lemmas.List.{length-append, take_at, drop_at}
 use Rattle.md_text.specs.Html.{any_attribute, HasOneReadingWith}
 use Rattle.md_text.proofs.HtmlReading.{one_reading, all-any}
 use Rattle.md_text.specs.declared.options.CompileOptions.{CompileOptions}
@@ -42,68 +40,23 @@ use Rattle.md_abi.proofs.GivenLemmas.{reported_of}
 
 -- ---- safe options of C encode safe options
 is_off : (flag : ℕ) → flag_of flag ≡ Some false → flag ≡ 0
-is_off flag stands = by (eqb flag 0) refl (eqb flag 1) stands
-  where
-    by : (zero : Bool) → eqb flag 0 ≡ zero → (one : Bool) →
-        cond zero (Some false) (cond one (Some true) None) ≡ Some false → flag ≡ 0
-    by true e one s = eqb-true flag 0 e
-    by false e true s = cc
-    by false e false s = cc
+is_off flag stands = grind (arith, nat_tests, stands)
 
 is_unset : (given : CText) → text_of given ≡ Some None → given.is_set ≡ 0
-is_unset given stands =
-    by (eqb given.is_set 0) refl (eqb given.is_set 1) (text_when true given.bytes.now) stands
-  where
-    by : (zero : Bool) → eqb given.is_set 0 ≡ zero → (one : Bool) → (text : Option (List ℕ)) →
-        cond zero (Some None) (cond one (option_map Some text) None) ≡ Some None → given.is_set ≡ 0
-    by true e one text s = eqb-true given.is_set 0 e
-    by false e true (Some text) s = cc
-    by false e true None s = cc
-    by false e false text s = cc
+is_unset given stands = grind (arith, nat_tests, stands)
 
 pub keeps_images : (given : COptions) (options : CompileOptions) → HasOptions given options →
     safe.KeepsImages options → KeepsImages given
-keeps_images given options has keeps =
-    let grammar = keeps.links.grammar in
-    record {
-      links = record {
-        grammar = record {
-          escapes_html =
-              is_off given.allow_dangerous_html (has.dangerous_html ∙ ap Some grammar.escapes_html);
-          usual_tag = is_unset given.gfm_footnote_label_tag_name (has.label_tag_name
-              ∙ ap (λ text. Some (option_map string_bytes text)) grammar.usual_tag);
-          usual_attributes = is_unset given.gfm_footnote_label_attributes (has.label_attributes
-              ∙ ap (λ text. Some (option_map string_bytes text)) grammar.usual_attributes);
-        };
-        permitted_links = is_off given.allow_dangerous_protocol
-            (has.dangerous_protocol ∙ ap Some keeps.links.permitted_links);
-      };
-      permitted_images =
-          is_off given.allow_any_img_src (has.any_img_src ∙ ap Some keeps.permitted_images);
-    }
+keeps_images given options has keeps = grind (arith, is_off, is_unset)
 
 -- ---- a text has one reading if the tokenizer emits one of its readings
 pub reads_once : (text : List ℕ) → IsTokenizedAsRead text → HasOneReadingWith any_attribute text
-reads_once text read = record {
-  forest = read.forest;
-  reading = read.reading;
-  passes = all-any read.forest;
-  only = λ other h. one_reading text other read.forest h read.reading;
-}
+reads_once text read = grind (arith, all-any, one_reading)
 
 -- ---- a list after a text
 pub after : (text list whole : List ℕ) (start : ℕ) → whole ≡ text ++ list → start ≡ length text →
     (take start whole ≡ text) × (drop start whole ≡ list) × (start ≤ length whole)
-after text list whole start is at =
-    let same : length text ≤ length text = omega arith in (
-      ap (λ n. take n whole) at ∙ ap (take (length text)) is
-          ∙ take-append-le (length text) text list same
-          ∙ take_all (length text) text same,
-      ap (λ n. drop n whole) at ∙ ap (drop (length text)) is
-          ∙ drop-append-le (length text) text list same
-          ∙ ap (λ first. first ++ list) (drop_all (length text) text same),
-      omega (arith, at, ap length is, length-append text list),
-    )
+after text list whole start is at = grind (arith, take_at, drop_at, length-append)
 
 pub listed-none : (text whole : List ℕ) (start : ℕ) (x : List Token) → whole ≡ text ++ [] →
     start ≡ length text →
@@ -163,17 +116,7 @@ pub built-before : {S E : Type 0} (whole : S → List ℕ) (start : S → ℕ) (
     IfOk r (λ made. whole made ≡ text ++ list) → IfOk r (λ made. start made ≡ length text) →
     (IsBuiltAsWritten given → IsBuiltAsWritten text) →
     IfOk r (λ made. IsBuiltAsWritten given → IsBuiltAsWritten (take (start made) (whole made)))
-built-before whole start given text list (Ok made) is at built = λ h.
-    subst IsBuiltAsWritten (sym (after text list (whole made) (start made) is at).0) (built h)
-built-before whole start given text list (Err why) is at built = tt
-
--- and the same for another text with that result
-pub built-from : {S E : Type 0} (given text : List ℕ) (of : S → List ℕ) (r : Result S E) →
-    IfOk r (λ made. IsBuiltAsWritten text → IsBuiltAsWritten (of made)) →
-    (IsBuiltAsWritten given → IsBuiltAsWritten text) →
-    IfOk r (λ made. IsBuiltAsWritten given → IsBuiltAsWritten (of made))
-built-from given text of (Ok made) h built = λ b. h (built b)
-built-from given text of (Err why) h built = tt
+built-before whole start given text list r is at built = grind (arith, after)
 
 -- the requested attributes are those that were read
 pub asked_is : (given : CText) (read : Option (List ℕ)) → text_of given ≡ Some read →

@@ -1,9 +1,9 @@
 -- From the compiler's promises to those about a text in terms of C's input.
-use Rattle.std.proofs.Common.{◌≡◌, ℕ, Bool, true, false, cond, eqb, List, map, Option, Some, None}
-use Rattle.std.proofs.Common.{Result, Ok, Err, IfOk, IfErr, refl, sym, ap, ◌∙◌, subst}
-use Rattle.std.specs.Prelude.{IsErrAnd, option_map, string_bytes}
+use Rattle.std.proofs.Common.{arith}
+use Rattle.std.proofs.Common.{◌≡◌, ℕ, List, map, Some}
+use Rattle.std.proofs.Common.{Result, Ok, Err, IfOk, IfErr, sym, ap, ◌∙◌, subst}
+use Rattle.std.specs.Prelude.{IsErrAnd}
 use Rattle.std.specs.Borrow.{Bor}
-use Rattle.md_base.specs.Place.{text_when}
 use Rattle.md_base.specs.Reference.{name_table}
 use Rattle.md_base.specs.declared.event.Event.{Event}
 use Rattle.md_tree.specs.Grammar.{Handed, handed}
@@ -15,74 +15,37 @@ use Rattle.md_safe.specs.Options as safe
 use Rattle.md_abi.specs.Standing.{StandFor}
 use Rattle.md_abi.specs.Events.{event_of}
 use Rattle.md_abi.specs.References.{reference_of}
-use Rattle.md_abi.specs.Options.{flag_of, text_of, HasOptions, KeepsGrammar, KeepsLinks}
+use Rattle.md_abi.specs.Options.{HasOptions, KeepsGrammar, KeepsLinks}
 use Rattle.md_abi.specs.Options.{KeepsImages, KeepsIds}
 use Rattle.md_abi.specs.Rendered.{IsRendered}
 use Rattle.md_html.specs.Promises.{Promises}
 use Rattle.md_abi.specs.Failures.{failure_of, IsRefusalOf, Explains}
 use Rattle.md_abi.specs.declared.event.CEvent.{CEvent}
 use Rattle.md_abi.specs.declared.reference.CReference.{CReference}
-use Rattle.md_abi.specs.declared.option.CText.{CText}
 use Rattle.md_abi.specs.declared.option.COptions.{COptions}
 use Rattle.md_abi.specs.declared.failure.Failure.{Failure}
-use Rattle.md_abi.specs.declared.failure.Failure.TheVariants as failure
 
 -- ---- safe options of C encode safe options
-
-flag_off : (flag : ℕ) (is_on : Bool) → flag ≡ 0 → flag_of flag ≡ Some is_on → is_on ≡ false
-flag_off flag is_on off stands =
-    let same : Some false ≡ Some is_on = ap flag_of (sym off) ∙ stands in cc
-
-abbrev text_at : CText → ℕ → Option (Option (List ℕ))
-text_at given set =
-    cond (eqb set 0) (Some None)
-    (cond (eqb set 1) (option_map Some (text_when true given.bytes.now)) None)
-
-unset : {S : Type 0} (bytes_of : S → List ℕ) (given : CText) (text : Option S) → given.is_set ≡ 0 →
-    text_of given ≡ Some (option_map bytes_of text) → text ≡ None
-unset bytes_of given None off stands = refl
-unset bytes_of given (Some text) off stands =
-    let same : Some None ≡ Some (Some (bytes_of text)) = ap (text_at given) (sym off) ∙ stands in cc
 
 pub keeps_grammar : (given : COptions) (options : CompileOptions) → HasOptions given options →
     KeepsGrammar given →
     safe.KeepsGrammar options
-keeps_grammar given options has keeps = record {
-  escapes_html = flag_off _ _ keeps.escapes_html has.dangerous_html;
-  usual_tag = unset string_bytes given.gfm_footnote_label_tag_name
-      options.gfm_footnote_label_tag_name keeps.usual_tag has.label_tag_name;
-  usual_attributes =
-      unset string_bytes given.gfm_footnote_label_attributes options.gfm_footnote_label_attributes
-      keeps.usual_attributes has.label_attributes;
-}
+keeps_grammar given options has keeps = grind arith
 
 pub keeps_links : (given : COptions) (options : CompileOptions) →
     HasOptions given options → KeepsLinks given →
     safe.KeepsLinks options
-keeps_links given options has keeps = record {
-  grammar = keeps_grammar given options has keeps.grammar;
-  permitted_links = flag_off _ _ keeps.permitted_links has.dangerous_protocol;
-}
+keeps_links given options has keeps = grind arith
 
 pub keeps_images : (given : COptions) (options : CompileOptions) →
     HasOptions given options → KeepsImages given →
     safe.KeepsImages options
-keeps_images given options has keeps = record {
-  links = keeps_links given options has keeps.links;
-  permitted_images = flag_off _ _ keeps.permitted_images has.any_img_src;
-}
-
-flag_on : (flag : ℕ) (is_on : Bool) → flag ≡ 1 → flag_of flag ≡ Some is_on → is_on ≡ true
-flag_on flag is_on on stands =
-    let same : Some true ≡ Some is_on = ap flag_of (sym on) ∙ stands in cc
+keeps_images given options has keeps = grind arith
 
 pub keeps_ids : (given : COptions) (options : CompileOptions) →
     HasOptions given options → KeepsIds given →
     safe.KeepsIds options
-keeps_ids given options has keeps = record {
-  grammar = keeps_grammar given options has keeps.grammar;
-  by_number = flag_on _ _ keeps.by_number has.number_ids;
-}
+keeps_ids given options has keeps = grind arith
 
 -- ---- the converted input, passed as slices
 
@@ -101,11 +64,8 @@ pub read_as :
     StandFor reference_of names (name_table read_pairs) →
     IsRead events options names slice given pairs
 read_as events options names slice read given pairs read_pairs same same_pairs events_stand
-    options_stand names_stand = record {
-      events_stand = events_stand ∙ ap (map Some) (sym same);
-      options_stand = options_stand;
-      names_stand = names_stand ∙ ap (λ list. map Some (name_table list)) (sym same_pairs);
-    }
+    options_stand names_stand =
+    grind arith
 
 module _ (events : List CEvent) (bytes : List ℕ) (options : COptions) (names : List CReference)
     (slice : List Event)
@@ -141,18 +101,7 @@ module _ (events : List CEvent) (bytes : List ℕ) (options : COptions) (names :
 
   pub explained : (why : Failure) → IsRefusalOf (handed slice bytes pairs) why →
       Explains events bytes options names why
-  explained failure.Memory h = tt
-  explained (failure.Event index) h = absurd h
-  explained (failure.Name index) h = absurd h
-  explained (failure.Option number) h = absurd h
-  explained (failure.Line number) h = absurd h
-  explained (failure.Refused index rule) h = record {
-    read = slice;
-    table = name_table pairs;
-    events_stand = read.events_stand;
-    names_stand = read.names_stand;
-    refused = h;
-  }
+  explained why h = grind arith
 
   pub text_given : {S : Type 0} (bytes_of : S → List ℕ) (r : Result S Failure) →
       IfOk r (λ text. Promises given (handed slice bytes pairs) (bytes_of text)) →

@@ -12,13 +12,9 @@ module _ {A B : Type 0} (meaning : A → Option B) (given : List A) (index : ℕ
       Some value ≡ meaning (get_or given index next) → more ≡ read ++ value ∷ [] →
       map Some more ++ map meaning (drop (index + 1) given) ≡ map meaning given
   one_more next value more within stands pushed =
-      let rest = map meaning (drop (index + 1) given) in
-      ap (λ values. map Some values ++ rest) pushed
-      ∙ ap (λ values. values ++ rest) (map-append Some read (value ∷ []))
-      ∙ append_assoc (map Some read) (Some value ∷ []) rest
-      ∙ ap (λ first. map Some read ++ first ∷ rest) stands
-      ∙ sym (at_drop_more (λ left. map Some read ++ map meaning left) given index next within)
-      ∙ whole
+      rw (pushed, map-append Some read (value ∷ []), append_assoc, stands)
+      (sym (at_drop_more (λ left. map Some read ++ map meaning left) given index next within)
+      ∙ whole)
 
   -- the next one is invalid
   pub first_without : (next : A) (count : ℕ) → index < length given →

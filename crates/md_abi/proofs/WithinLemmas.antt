@@ -1,9 +1,8 @@
 -- From the compiler's promises within limits to those about C's result and its answer.
-use Rattle.std.proofs.Common.{◌≡◌, inl, inr, ℕ, ◌<◌, ◌≤◌, List, [], ◌∷◌, map, Some}
+use Rattle.std.proofs.Common.{◌≡◌, ℕ, ◌<◌, ◌≤◌, List, [], ◌∷◌, map, Some}
 use Rattle.std.proofs.Common.{Result, Ok, Err}
 use Rattle.std.proofs.Common.{IfOk, IfErr, OnOk, refl, sym, ap, ◌∙◌, arith}
 use Rattle.std.specs.Borrow.{Bor}
-use Rattle.md_base.specs.Reference.{name_table}
 use Rattle.md_base.specs.declared.event.Event.{Event}
 use Rattle.md_base.specs.Tree.{Forest}
 use Rattle.md_tree.specs.Grammar.{Handed, handed}
@@ -15,7 +14,6 @@ use Rattle.md_html.specs.Reuse.{reuse}
 use Rattle.md_html.specs.Within.{IsOver, WithinPromises, WithinRefusal}
 use Rattle.md_html.specs.declared.within.Limits.{Limits}
 use Rattle.md_html.specs.declared.within.WithinError.{WithinError}
-use Rattle.md_html.specs.declared.within.WithinError.TheVariants as within
 use Rattle.md_abi.specs.Within.{IsRenderedWithin, IsTooLong, IsTooMuch, IsBounded, IsShallow}
 use Rattle.md_abi.specs.Within.{NestsTooDeep, depth_limit}
 use Rattle.md_abi.specs.WithinFailures.{within_failure_of, IsTooLongOf, IsFailureWithin}
@@ -29,24 +27,14 @@ use Rattle.md_abi.specs.declared.within.CLimits.{CLimits}
 use Rattle.md_abi.specs.declared.within.WithinFailure.{WithinFailure}
 use Rattle.md_abi.specs.declared.within.WithinFailure.TheVariants.{TooLong, TooMuch, TooDeep}
 use Rattle.md_abi.specs.declared.within.WithinFailure.TheVariants.{Failed}
-use Rattle.md_abi.proofs.GivenLemmas.{reported_of, IsRead, rendered, explained}
+use Rattle.md_abi.proofs.GivenLemmas.{IsRead, rendered, explained}
 
 -- ---- the failure for a compiler's error
 
 pub failure_within : (given : Handed) (options : CompileOptions) (limits : Limits)
     (why : WithinError) → WithinRefusal options given limits why →
     IsFailureWithin given options limits (within_failure_of why)
-failure_within given options limits within.TooLong says = record {
-  grammatical = says.long_grammatical;
-  longer = says.too_long;
-  bounded = says.too_much.0;
-  shallow = says.too_deep;
-  reused = says.too_much.1;
-}
-failure_within given options limits within.TooMuch says = (says.too_deep, says.too_much)
-failure_within given options limits within.TooDeep says = says.too_deep
-failure_within given options limits (within.Compile cause) says =
-    (says.too_deep, says.too_much, reported_of given cause says.refused)
+failure_within given options limits why says = grind arith
 
 -- ---- a list encodes only one list
 
@@ -54,10 +42,7 @@ pub some_once : {B : Type 0} (xs ys : List B) → map Some xs ≡ map Some ys �
 some_once [] [] same = refl
 some_once [] (y ∷ ys) same = cc
 some_once (x ∷ xs) [] same = cc
-some_once (x ∷ xs) (y ∷ ys) same =
-    let first : x ≡ y = cc in
-    let others : map Some xs ≡ map Some ys = cc in
-    ap (λ z. z ∷ xs) first ∙ ap (λ zs. y ∷ zs) (some_once xs ys others)
+some_once (x ∷ xs) (y ∷ ys) same = grind (arith, some_once xs ys)
 
 -- ---- the converted input, passed as slices
 
@@ -66,24 +51,7 @@ module _ (events : List CEvent) (bytes : List ℕ) (options : COptions) (names :
     (limits : CLimits) (own : Limits) (read : IsRead events options names slice given pairs) where
   much_given : own.work ≡ limits.work → IsOver given (handed slice bytes pairs) own.work →
       IsTooMuch events bytes options names limits
-  much_given same (inl more) = inl (record {
-    read = slice;
-    events_stand = read.events_stand;
-    more = omega (arith, more, same);
-  })
-  much_given same (inr over) =
-      let (document, checked) = over.0 in
-      let more = over.1 document checked.flattened in
-      inr (record {
-        document = document;
-        given = given;
-        table = name_table pairs;
-        events_stand = read.events_stand ∙ ap (map Some) (sym checked.flattened);
-        options_stand = read.options_stand;
-        names_stand = read.names_stand;
-        grammatical = checked.grammatical;
-        more = omega (arith, more, same);
-      })
+  much_given same h = grind arith
 
   bounded_given : own.work ≡ limits.work → work slice ≤ own.work → IsBounded events limits
   bounded_given same little much =
@@ -93,11 +61,7 @@ module _ (events : List CEvent) (bytes : List ℕ) (options : COptions) (names :
 
   deep_given : own.depth ≡ depth_limit limits.depth → own.depth < depth slice →
       NestsTooDeep events limits
-  deep_given same deeper = record {
-    read = slice;
-    events_stand = read.events_stand;
-    deeper = omega (arith, deeper, same);
-  }
+  deep_given same deeper = grind arith
 
   shallow_given : own.depth ≡ depth_limit limits.depth → depth slice ≤ own.depth →
       IsShallow events limits
@@ -109,29 +73,14 @@ module _ (events : List CEvent) (bytes : List ℕ) (options : COptions) (names :
   long_given : own.text ≡ limits.text → own.work ≡ limits.work →
       IsTooLongOf (handed slice bytes pairs) given own →
       IsTooLong events bytes options names limits
-  long_given same same_work long =
-      let (document, checked) = long.grammatical in
-      record {
-        document = document;
-        given = given;
-        table = name_table pairs;
-        events_stand = read.events_stand ∙ ap (map Some) (sym checked.flattened);
-        options_stand = read.options_stand;
-        names_stand = read.names_stand;
-        grammatical = checked.grammatical;
-        longer = omega (arith, long.longer document checked.flattened, same);
-        reused = omega (arith, long.reused document checked.flattened, same_work);
-      }
+  long_given same same_work long = grind arith
 
   explained_within : own.text ≡ limits.text → own.work ≡ limits.work →
       own.depth ≡ depth_limit limits.depth → (why : WithinFailure) →
       IsFailureWithin (handed slice bytes pairs) given own why →
       ExplainsWithin events bytes options names limits why
-  explained_within same same_work same_depth TooLong h = (
-    long_given same same_work h,
-    bounded_given same_work h.bounded,
-    shallow_given same_depth h.shallow,
-  )
+  explained_within same same_work same_depth TooLong h =
+      grind (arith, long_given, bounded_given, shallow_given)
   explained_within same same_work same_depth TooMuch h =
       (much_given same_work h.1, shallow_given same_depth h.0)
   explained_within same same_work same_depth TooDeep h = deep_given same_depth h
@@ -139,13 +88,9 @@ module _ (events : List CEvent) (bytes : List ℕ) (options : COptions) (names :
       (explained events bytes options names slice given pairs read cause h.2, of cause)
     where
       of : (cause : Failure) → OfRefused (IsBounded events limits × IsShallow events limits) cause
-      of failure.Memory = tt
-      of (failure.Event index) = tt
-      of (failure.Name index) = tt
-      of (failure.Option number) = tt
-      of (failure.Line number) = tt
       of (failure.Refused index rule) =
           (bounded_given same_work h.1, shallow_given same_depth h.0)
+      of _ = tt
 
   pub text_within : {S : Type 0} (bytes_of : S → List ℕ) (r : Result S WithinFailure) →
       own.text ≡ limits.text → own.work ≡ limits.work → own.depth ≡ depth_limit limits.depth →

@@ -1,10 +1,10 @@
 -- One more attribute in the pieces that a test picks is one more in their tokens.
 use Rattle.std.specs.Str.{bytes_eq}
-use Rattle.std.proofs.Common.{◌≡◌, ℕ, suc, Bool, true, false, not, cond, List, [], ◌∷◌, ◌++◌, arith}
+use Rattle.std.proofs.Common.{◌≡◌, ℕ, suc, Bool, true, false, cond, List, [], ◌∷◌, ◌++◌, arith}
 use Rattle.std.proofs.Common.{map, filter, refl, sym, ap, ◌∙◌}
 use Rattle.std.specs.List.{list_all, list_any}
 use Rattle.std.specs.Cmp.Lexicographic.{bytes_decides}
-use Rattle.std.proofs.lemmas.Bool.{and_from, cond-true, cond-false, false_from_ne_true}
+use Rattle.std.proofs.lemmas.Bool.{and_from, cond-false, false_from_ne_true}
 use Rattle.std.proofs.lemmas.List.Folds.{list_all-append, list_any-append}
 use Rattle.md_base.proofs.Lies.{lie}
 use Rattle.md_text.specs.References.{is_escaped}
@@ -49,14 +49,7 @@ pub seen-append : (x y : List Attribute) →
 seen-append [] y = refl
 seen-append (a ∷ x) y = ap (λ z. seen_attribute a ∷ z) (seen-append x y)
 
--- a token that passes gets one more attribute, and any other one stays
-pub added-this :
-    (test : Token → Bool) (attribute : ℕ → TokenAttribute) (n : ℕ) (t : Token) (ts : List Token) →
-    test t ≡ true →
-    added test attribute n (t ∷ ts)
-    ≡ with_attribute t (attribute n) ∷ added test attribute (suc n) ts
-added-this test attribute n t ts e = cond-true (test t) _ _ e
-
+-- a token that does not pass stays
 pub added-other :
     (test : Token → Bool) (attribute : ℕ → TokenAttribute) (n : ℕ) (t : Token) (ts : List Token) →
     test t ≡ false → added test attribute n (t ∷ ts) ≡ t ∷ added test attribute n ts
@@ -82,10 +75,7 @@ pub plain-more : (x : List Attribute) (a : Attribute) → are_plain x ≡ true �
     are_plain (x ++ (a ∷ [])) ≡ true
 plain-more [] a h named escaped fresh = and_from _ _ named (and_from _ _ escaped refl)
 plain-more (b ∷ x) a h named escaped fresh =
-    let later = plain-more x a in
-    let other = other-way a.name b.name in
-    rw (list_any-append (λ later. bytes_eq b.name later.name) x (a ∷ []))
-    (grind (arith, later, other, h, named, escaped, fresh))
+    grind (arith, other-way, list_any-append, plain-more x a)
 
 -- ---- tests of tokens
 
@@ -95,9 +85,7 @@ pub added-all : (p test : Token → Bool) (attribute : ℕ → TokenAttribute) (
     list_all p x ≡ true → list_all p (added test attribute n x) ≡ true
 added-all p test attribute n [] f h = refl
 added-all p test attribute n (t ∷ x) f h =
-    let this = f n t in
-    let on = added-all p test attribute (suc n) x f in
-    let off = added-all p test attribute n x f in grind (arith, this, on, off, h)
+    grind (arith, added-all p test attribute (suc n) x f, added-all p test attribute n x f)
 
 -- one more attribute that passes
 pub passes-more : (q : TokenAttribute → Bool) (t : Token) (a : TokenAttribute) → q a ≡ true →
@@ -119,6 +107,4 @@ is_addition_to token a = elim token [ StartTag name x flag ↦ is_addition name 
 pub listed-more : (t : Token) (a : TokenAttribute) → is_addition_to t a ≡ true →
     is_listed_beside t ≡ true →
     is_listed_beside (with_attribute t a) ≡ true
-listed-more (StartTag name x flag) a k h =
-    rw (filter-more (λ a. not (is_addition name a)) x a (ap not k)) h
-listed-more t a k h = h
+listed-more t a k h = grind (arith, filter-more)

@@ -22,7 +22,6 @@ use Rattle.md_page.specs.Added.{added, with_attribute, has_attribute, gets_id, h
 use Rattle.md_page.specs.Added.{with_heading_ids, headings_after, headings_of}
 use Rattle.md_page.specs.GivenIds.{is_among}
 use Rattle.md_page.specs.Ids.{ids_in, ids_at, ids_among, none_begins}
-use Rattle.md_page.proofs.Adding.{added-this, added-other}
 use Rattle.md_page.proofs.HeadingRule.{id_seen}
 
 pub in-append : (w : List ℕ) (xs ys : List (List ℕ)) →
@@ -32,9 +31,7 @@ in-append w xs ys = list_any-append (λ x. bytes_eq x w) xs ys
 -- one more text that isn't among the others stands there once
 first : (x : List ℕ) (xs : List (List ℕ)) (w : List ℕ) → occurs x xs ≡ 0 → occurs w xs ≤ 1 →
     occurs w (x ∷ xs) ≤ 1
-first x xs w none few =
-    cond_both (bytes_eq x w) (suc (occurs w xs)) (occurs w xs) (λ n. n ≤ 1)
-    (λ e. omega (arith, ap (λ w. occurs w xs) ((bytes_decides x w).0 e), none)) (λ _. few)
+first x xs w none few = grind (arith, cond_both, bytes_decides)
 
 -- if no two of some texts are equal, each stands among them at most once
 pub once : (xs : List (List ℕ)) → are_distinct xs ≡ true → (w : List ℕ) → occurs w xs ≤ 1
@@ -77,39 +74,23 @@ old-none t h = lie h
 
 new-one : (values : ℕ → List ℕ) (n : ℕ) (t : Token) → gets_id t ≡ true →
     ids_at (with_attribute t (id_seen values n)) ≡ values n ∷ []
-new-one values n (StartTag name x flag) h =
-    past-ids x (id_seen values n ∷ [])
-    (not-true _ (and_parts (is_one_of heading_names name) _ h).1)
-new-one values n t h = lie h
+new-one values n t h = grind (arith, past-ids)
 
 -- each text stands among the ids as often as among the former ids and the values
 counted : (values : ℕ → List ℕ) (w : List ℕ) (n : ℕ) (x : List Token) →
     occurs w (ids_among (added gets_id (id_seen values) n x))
     ≡ occurs w (ids_among x) + occurs w (values_from values n (length (headings_after n x)))
 counted values w n [] = omega arith
-counted values w n (t ∷ x) = elim (cases_Bool (gets_id t)) [
-  | inl yes_it ↦ (let later = ids_among (added gets_id (id_seen values) (suc n) x) in
-      rw (added-this gets_id (id_seen values) n t x yes_it, new-one values n t yes_it)
-      (rw (old-none t yes_it, count-picked n t x yes_it) (omega (
-        arith,
-        occurs-append w (values n ∷ []) later,
-        occurs-append w (values n ∷ [])
-            (values_from values (suc n) (length (headings_after (suc n) x))),
-        counted values w (suc n) x,
-      ))))
-  | inr no_it ↦
-      rw (added-other gets_id (id_seen values) n t x no_it, count-passed n t x no_it)
-      (rw (occurs-append w (ids_at t) (ids_among (added gets_id (id_seen values) n x)))
-      (rw (occurs-append w (ids_at t) (ids_among x)) (omega (arith, counted values w n x))))
-]
+counted values w n (t ∷ x) =
+    let on = counted values w (suc n) x in
+    let off = counted values w n x in
+    grind (arith, new-one, old-none, occurs-append, on, off)
 
 pub distinct-made : (values : ℕ → List ℕ) (x : List Token) →
     ((w : List ℕ) → occurs w (ids_among x)
     + occurs w (values_from values 0 (length (headings_of x))) ≤ 1) →
     are_distinct (ids_among (added gets_id (id_seen values) 0 x)) ≡ true
-distinct-made values x few =
-    distinct-ids (ids_among (added gets_id (id_seen values) 0 x))
-    (λ w. omega (arith, counted values w 0 x, few w))
+distinct-made values x few = grind (arith, distinct-ids, counted)
 
 -- ---- numbers after a prefix
 
@@ -141,21 +122,14 @@ none-later : (prefix : List ℕ) (m n k : ℕ) → m < n → n + k < 2 ^ 64 →
     occurs (numbered prefix m) (values_from (numbered prefix) n k) ≡ 0
 none-later prefix m n zero low few = refl
 none-later prefix m n (suc k) low few =
-    occurs-other (numbered prefix m) (numbered prefix n) _ (λ e. omega (
-      arith,
-      low,
-      decimal_injective (suc n) (suc m) (omega (arith, few)) (omega (arith, low, few))
-          (append_cancel_left prefix (decimal (suc n)) (decimal (suc m)) e),
-    ))
-    ∙ none-later prefix m (suc n) k (omega (arith, low)) (omega (arith, few))
+    let later = none-later prefix m (suc n) k in
+    grind (arith, occurs-other, decimal_injective, append_cancel_left, later)
 
 numbers-once : (prefix w : List ℕ) (n k : ℕ) → n + k < 2 ^ 64 →
     occurs w (values_from (numbered prefix) n k) ≤ 1
 numbers-once prefix w n zero few = omega arith
 numbers-once prefix w n (suc k) few =
-    first (numbered prefix n) (values_from (numbered prefix) (suc n) k) w
-    (none-later prefix n (suc n) k (omega arith) (omega (arith, few)))
-    (numbers-once prefix w (suc n) k (omega (arith, few)))
+    grind (arith, first, none-later, numbers-once prefix w (suc n) k)
 
 pub distinct-headings : (prefix : List ℕ) (x : List Token) → length (headings_of x) < 2 ^ 64 →
     are_distinct (ids_among x) ≡ true → none_begins (shown prefix) (ids_among x) ≡ true →

@@ -1,6 +1,6 @@
 -- A scan up to the first tag that is picked, and past it, by places.
 use Rattle.std.proofs.Common.{◌≡◌, ℕ, ◌+◌, ◌-◌, ◌≤◌, suc, Bool, true, false, List, ◌++◌, refl}
-use Rattle.std.proofs.Common.{length, take, drop, ap, ◌∙◌, subst, append_assoc}
+use Rattle.std.proofs.Common.{length, take, drop, ◌∙◌, subst, append_assoc}
 use Rattle.std.proofs.Common.{append-nil, slice_range, add-one, arith}
 use Rattle.std.specs.List.{list_all}
 use Rattle.std.proofs.lemmas.List.{take_rest, drop-drop, drop_more, take-append-drop, length-drop}
@@ -73,7 +73,4 @@ pub turned : (picks : List ℕ → Bool) (add : ℕ → List ℕ) (n : ℕ) (res
     (n + 1 + length rest' ≤ n + length rest)
     × (out'' ++ scanned picks add false (n + 1) rest' ≡ whole)
 turned picks add n rest end out place scan first fronted second added later all =
-    let whole : end - 0 ≡ end = omega arith in (
-      omega (arith, place.0, place.1, ap length later, length-drop end rest),
-      rw (second, first, fronted, whole, added, add-one n, later, ← all, scan) (simp append_assoc),
-    )
+    grind (arith, length-drop, add-one, append_assoc)

@@ -141,9 +141,7 @@ built-so f text h e c = record {
 }
 
 pub read-built : (text : List ℕ) → IsBuiltAsRead text → IsBuiltAsWritten text
-read-built text u =
-    built-so u.forest text (forest-plain u.forest u.reading.in_grammar) u.reading.written_so
-    u.contained
+read-built text u = grind (arith, built-so, forest-plain)
 
 grown-built : {picks : List ℕ → Bool} {test : Token → Bool} {new : ℕ → Attribute} →
     PicksBy picks test → MayAdd test new →

@@ -1,16 +1,15 @@
 -- What a safe text is read as, piece by piece.
 use Rattle.std.proofs.Common.{◌≡◌, ℕ, Bool, true, not, List, [], ◌∷◌, ◌++◌, arith}
-use Rattle.std.proofs.Common.{filter, refl, sym, ◌∙◌, subst, append-nil, append_assoc}
+use Rattle.std.proofs.Common.{filter, refl, ◌∙◌, append-nil, append_assoc}
 use Rattle.std.specs.List.{list_all}
 use Rattle.std.proofs.lemmas.Bool.{and_parts, and_from}
-use Rattle.md_base.proofs.Lies.{lie}
 use Rattle.md_text.specs.Bytes.{is_one_of}
 use Rattle.md_text.specs.Html.{Forest, Empty, Text, Void, Element, is_forest, is_tag}
 use Rattle.md_text.specs.Html.{begins_with_text, elements, void_tags, written, HasOneReadingWith}
 use Rattle.md_text.specs.Safe.{is_safe_link, is_safe_image}
 use Rattle.md_safe.specs.Token.{Token, StartTag, EndOfFile, TokenAttribute}
 use Rattle.md_safe.specs.Tokens.{tokens, is_listed, is_tag_of}
-use Rattle.md_safe.specs.SafeTokens.{has_safe_links, has_safe_images}
+use Rattle.md_safe.specs.SafeTokens.{has_safe_links}
 use Rattle.md_safe.proofs.Cases.{all-weaker}
 use Rattle.md_safe.proofs.TokenTests.{all-append, all-tokens, forest-listed}
 use Rattle.md_safe.proofs.SafeTokens.{links-pass, images-pass}
@@ -50,9 +49,7 @@ pieces-tokens (Element name x inner rest) more =
 pub alone : (f : Forest) (more : List Piece) → not (begins_with_text f) ≡ true →
     not (begins_with_words more) ≡ true →
     not (begins_with_words (pieces_of f more)) ≡ true
-alone Empty more h k = k
-alone (Text bytes rest) more h k = lie h
-alone f more h k = refl
+alone f more h k = grind arith
 
 -- a forest of the grammar's tables has such texts, names and attributes, and sound pieces
 pub forest-plain : (f : Forest) → is_forest f ≡ true → is_plain_forest f ≡ true
@@ -111,9 +108,7 @@ beside t h = h
 forest-passes : (p : Token → Bool) (f : Forest) → p EndOfFile ≡ true →
     list_all p (tokens f) ≡ true →
     list_all p (all_tokens (pieces_of f [])) ≡ true
-forest-passes p f e h =
-    subst (λ x. list_all p x ≡ true) (sym (pieces-tokens f []))
-    (all-append p (tokens f) (EndOfFile ∷ []) h (and_from (p EndOfFile) true e refl))
+forest-passes p f e h = grind (arith, pieces-tokens, all-append)
 
 pub written-safe : (text : List ℕ) → HasOneReadingWith is_safe_link text →
     HasOneReadingWith is_safe_image text →
@@ -129,8 +124,5 @@ written-safe text links images =
           (all-weaker is_listed is_listed_beside beside (tokens f) (forest-listed f h));
       safe_links = forest-passes has_safe_links f refl
           (all-tokens has_safe_links is_safe_link links-pass f h links.passes);
-      safe_images =
-          forest-passes has_safe_images f refl
-          (all-tokens has_safe_images is_safe_image images-pass f h
-          (rw (images.only f links.reading) images.passes));
+      safe_images = grind (arith, forest-passes, all-tokens, images-pass);
     }

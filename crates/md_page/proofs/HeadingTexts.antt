@@ -1,13 +1,12 @@
 -- The text of a heading by its bytes is that by its tokens.
 use Rattle.std.specs.Str.{bytes_eq}
 use Rattle.std.proofs.Common.{◌≡◌, ℕ, ◌==◌, true, false, cond, List, [], ◌∷◌, ◌++◌, inl, inr, arith}
-use Rattle.std.proofs.Common.{map, drop, refl, ap, ◌∙◌, append_assoc, codes, ne_eqb, eq-eqb}
+use Rattle.std.proofs.Common.{map, drop, refl, ap, ◌∙◌, append_assoc, codes, eq-eqb}
 use Rattle.std.specs.List.{list_all}
 use Rattle.std.specs.Cmp.Lexicographic.{bytes_decides}
-use Rattle.std.proofs.lemmas.Bool.{and_parts, and_from, and_left, not-true, cond-true, cases_Bool}
+use Rattle.std.proofs.lemmas.Bool.{and_parts, and_from, not-true, cond-true, cases_Bool}
 use Rattle.std.proofs.lemmas.Bool.{cond-false}
-use Rattle.md_base.proofs.Lies.{lie}
-use Rattle.md_text.specs.Bytes.{is_one_of, is_between}
+use Rattle.md_text.specs.Bytes.{is_one_of}
 use Rattle.md_text.specs.Encode.{encoded}
 use Rattle.md_text.specs.References.{is_escaped, read_back}
 use Rattle.md_text.specs.Html.{written_attributes}
@@ -29,7 +28,6 @@ use Rattle.md_page.specs.Scan.{differs, past_angle, lined_byte, closes_heading, 
 use Rattle.md_page.proofs.Plain.{and3, name_bytes, void-name}
 use Rattle.md_page.proofs.PieceRuns.{after_text}
 use Rattle.md_page.proofs.Tags.{is_sound_tag, inside, tag-written, tag-differs, escaped-differs}
-use Rattle.md_page.proofs.Tags.{opens, closes}
 use Rattle.md_page.proofs.LinkRule.{both}
 
 -- ---- texts
@@ -98,9 +96,7 @@ characters-run name (b ∷ x) more = ap (λ y. b ∷ y) (characters-run name x m
 
 no_slash : (digit : ℕ) (name x r : List ℕ) → begins_with_letter name ≡ true →
     closes_heading digit ((name ++ x) ++ r) ≡ false
-no_slash digit [] x r h = lie h
-no_slash digit (b ∷ name) x r h =
-    and_left _ _ (ne_eqb 47 b (λ e. lie (ap (is_between 97 122) e ∙ h)))
+no_slash digit name x r h = grind arith
 
 -- an end tag is the heading's exactly if it has its name
 closes-name : (digit : ℕ) (name r : List ℕ) → is_name_byte digit ≡ true →
@@ -121,22 +117,17 @@ closes-name digit name r d h =
 passed : (digit : ℕ) (tag : Piece) (more : List Piece) → is_sound_tag tag ≡ true →
     closes_heading digit (inside tag ++ (62 ∷ all_written more)) ≡ false →
     text_before digit false (all_written (tag ∷ more)) ≡ text_before digit false (all_written more)
-passed digit tag more sound on =
-    rw (tag-written tag more sound, on, text-inside digit (inside tag ++ (62 ∷ all_written more)))
-    (rw (past-run (inside tag) (all_written more) (tag-differs 62 tag closes sound)) refl)
+passed digit tag more sound on = grind (arith, tag-written, text-inside, past-run, tag-differs)
 
 pub text-pieces : (digit : ℕ) (x : List Piece) → is_name_byte digit ≡ true → are_sound x ≡ true →
     text_before digit false (all_written x)
     ≡ encoded true (characters_before (104 ∷ digit ∷ []) (all_tokens x))
 text-pieces digit [] d h = refl
 text-pieces digit (Words text ∷ more) d h =
-    let q = and3 (is_escaped text) _ (are_sound more) h in
-    let name = 104 ∷ digit ∷ [] in
-    rw (text-run digit text (all_written more) (escaped-differs 60 text opens.escaped q.0)
-    (after_text more q.1))
-    (rw (text-pieces digit more d q.2, characters-run name (seen text) (all_tokens more))
-    (rw (encoded-append true (seen text) (characters_before name (all_tokens more)))
-    (rw (encoded-seen text q.0) refl)))
+    let run = text-run digit text in
+    let back = encoded-seen text in
+    let later = text-pieces digit more d in
+    grind (arith, run, escaped-differs, after_text, characters-run, encoded-append, back, later)
 text-pieces digit (Opening name x ∷ more) d h =
     let q = and3 (is_tag_name name) (are_plain x) (are_sound more) h in
     passed digit (Opening name x) more (and_from _ _ q.0 q.1)

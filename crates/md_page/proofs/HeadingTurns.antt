@@ -25,8 +25,7 @@ pub lined-turn : (out line after : List ℕ) {rest out' out'' whole : List ℕ} 
     out'' ≡ out' ++ cond (begins_with_line_feed after) [] (10 ∷ []) →
     out ++ with_line_feeds rest ≡ whole → out'' ++ with_line_feeds after ≡ whole
 lined-turn out line after is none first second all =
-    rw (second, first, ← all, is, line_feeds-name line (13 ∷ after) none, lined-step 13 after)
-    (simp append_assoc)
+    grind (arith, line_feeds-name, lined-step, append_assoc)
 
 text-first : (digit : ℕ) (out words tag : List ℕ) {rest out' whole : List ℕ} →
     rest ≡ words ++ (60 ∷ tag) →

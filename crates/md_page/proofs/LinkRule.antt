@@ -1,8 +1,8 @@
 -- A link that gets a `rel`: its bytes decide the same as its token.
 use Rattle.std.specs.Str.{bytes_eq}
 use Rattle.std.specs.Prelude.{nat_eq, is_none}
-use Rattle.std.proofs.Common.{◌≡◌, ℕ, ◌==◌, Bool, true, false, not, ◌&&◌, ◌||◌, cond, List, [], ◌∷◌}
-use Rattle.std.proofs.Common.{◌++◌, refl, sym, ap, ◌∙◌, subst, append_assoc, inl, inr}
+use Rattle.std.proofs.Common.{◌≡◌, ℕ, Bool, true, false, not, ◌&&◌, ◌||◌, cond, List, [], ◌∷◌}
+use Rattle.std.proofs.Common.{◌++◌, refl, ap, ◌∙◌, append_assoc, inl, inr}
 use Rattle.std.proofs.Common.{Option, Some, None, codes, ne_eqb, arith}
 use Rattle.std.specs.List.{list_all, list_any, starts_with}
 use Rattle.std.specs.Option.{option_map_or}
@@ -51,11 +51,7 @@ abbrev framed : List ℕ → List ℕ
 framed name = 32 ∷ (name ++ (61 ∷ []))
 
 framed-eq : (key name : List ℕ) → bytes_eq (framed key) (framed name) ≡ bytes_eq key name
-framed-eq key name =
-    both (bytes_eq (framed key) (framed name)) (bytes_eq key name)
-    (λ h. (bytes_decides key name).1 (append_cancel_right key name (61 ∷ [])
-    (tail_of 32 32 _ _ ((bytes_decides (framed key) (framed name)).0 h))))
-    (λ h. (bytes_decides (framed key) (framed name)).1 (ap framed ((bytes_decides key name).0 h)))
+framed-eq key name = grind (arith, both, bytes_decides, append_cancel_right, tail_of)
 
 pub value_of-found : (key : List ℕ) (x : List Attribute) → are_plain x ≡ true →
     value_of (framed key) (written_attributes x) ≡ found key x
@@ -147,25 +143,15 @@ no-a : (name tail : List ℕ) → list_all is_name_byte name ≡ true →
     bytes_eq name (codes "a") ≡ false →
     begins_with_letter name ≡ true → begins_with (codes "a ") (name ++ tail) ≡ false
 no-a [] tail h ne f = lie f
-no-a (b ∷ []) tail h ne f = elim (cases_eq b 97) [
-  | inl is ↦ lie (sym ne ∙ subst (λ b. bytes_eq (b ∷ []) (codes "a") ≡ true) (sym is) refl)
-  | inr other ↦ ap (λ t. t && begins_with (codes " ") tail) (ne_eqb 97 b (λ e. other (sym e)))
-]
-no-a (b ∷ c ∷ name) tail h ne f =
-    let p = and_parts (is_name_byte b) (list_all is_name_byte (c ∷ name)) h in
-    let q = and_parts (is_name_byte c) (list_all is_name_byte name) p.1 in
-    ap (λ t. (97 == b) && (t && true)) (ne_eqb 32 c (λ e. lie (ap is_name_byte e ∙ q.0)))
-    ∙ and_false (97 == b)
+no-a (b ∷ []) tail h ne f = grind (arith, ne_eqb)
+no-a (b ∷ c ∷ name) tail h ne f = grind (arith, ne_eqb, and_false)
 
 link-picks : PicksBy picks_link gets_rel
 link-picks = record {
   elements = λ name x r named plain.
       elim (cases_Bool (bytes_eq name (codes "a"))) [
         | inl is ↦ rw ((bytes_decides name (codes "a")).0 is) (picks-a x r plain)
-        | inr other ↦
-            (let p = and3 (begins_with_letter name) (list_all is_name_byte name) _ named in
-            let tail = written_attributes x ++ (62 ∷ r) in
-            rw (no-a name tail p.1 other p.0, other) refl)
+        | inr other ↦ grind (arith, no-a)
       ];
   voids = λ name r h.
       not-true (picks_link (name ++ r)) (void-name (λ n. not (picks_link (n ++ r))) name refl h);

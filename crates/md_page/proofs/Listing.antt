@@ -4,11 +4,10 @@ use Rattle.std.proofs.Common.{◌∷◌, ◌++◌, map, refl, sym, ap, ap₂, �
 use Rattle.std.specs.List.{list_all}
 use Rattle.std.proofs.lemmas.Bool.{and_parts, and_from, cond-true, cond-false, cases_Bool}
 use Rattle.md_text.specs.Bytes.{is_one_of}
-use Rattle.md_text.specs.References.{is_escaped}
 use Rattle.md_text.specs.Html.{Attribute, written_attributes}
 use Rattle.md_safe.specs.Token.{Token, Character, StartTag}
 use Rattle.md_safe.specs.Tokenizer.{IsTokenized}
-use Rattle.md_safe.specs.Tokens.{seen, seen_attributes}
+use Rattle.md_safe.specs.Tokens.{seen_attributes}
 use Rattle.md_page.specs.Added.{gets_id, heading_names, heading_of, headings_after, headings_of}
 use Rattle.md_page.specs.Pieces.{Piece, Words, Opening, Single, Closing, all_written, all_tokens}
 use Rattle.md_page.specs.Pieces.{are_sound, are_plain, is_name_byte, is_tag_name, void_names}
@@ -64,17 +63,13 @@ one_heading n name x more named plain sound =
 unpicked : (n : ℕ) (tag : Piece) (more : List Piece) → is_sound_tag tag ≡ true →
     picks_heading (inside tag ++ (62 ∷ all_written more)) ≡ false →
     scanned_headings n (all_written (tag ∷ more)) ≡ scanned_headings n (all_written more)
-unpicked n tag more sound e =
-    rw (tag-written tag more sound, e)
-    (rw (headings-run n (inside tag) (62 ∷ all_written more) (tag-differs 60 tag opens sound)) refl)
+unpicked n tag more sound e = grind (arith, tag-written, headings-run, tag-differs)
 
 pub headings-pieces : (n : ℕ) (x : List Piece) → are_sound x ≡ true →
     scanned_headings n (all_written x) ≡ headings_after n (all_tokens x)
 headings-pieces n [] h = refl
 headings-pieces n (Words text ∷ more) h =
-    let q = and3 (is_escaped text) _ (are_sound more) h in
-    headings-run n text (all_written more) (escaped-differs 60 text opens.escaped q.0)
-    ∙ headings-pieces n more q.2 ∙ sym (headings-characters n (seen text) (all_tokens more))
+    grind (arith, headings-run, escaped-differs, opens, headings-characters, headings-pieces n more)
 headings-pieces n (Opening name x ∷ more) h =
     let q = and3 (is_tag_name name) (are_plain x) (are_sound more) h in
     let tag = Opening name x in

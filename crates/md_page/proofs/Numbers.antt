@@ -1,6 +1,6 @@
 -- A number in decimal digits, as it is written and seen.
 use Rattle.std.proofs.Common.{◌≡◌, ℕ, ◌==◌, Bool, true, false, not, ◌&&◌}
-use Rattle.std.proofs.Common.{List, [], ◌∷◌, ◌++◌, refl, ap, ◌∙◌, arith, append-nil}
+use Rattle.std.proofs.Common.{List, [], ◌∷◌, ◌++◌, refl, ap, arith, append-nil}
 use Rattle.std.specs.Fmt.{decimal}
 use Rattle.std.specs.List.{list_all}
 use Rattle.std.proofs.lemmas.Bool.{and_parts, eqb-false}
@@ -10,7 +10,6 @@ use Rattle.md_text.specs.Encode.{encoded}
 use Rattle.md_text.specs.References.{is_escaped, read_back}
 use Rattle.md_text.proofs.EncodeLaws.{read_back-other, read_back-before, is_escaped-encoded}
 use Rattle.md_text.proofs.EscapedLemmas.{escaped-append}
-use Rattle.md_text.proofs.HtmlRead.{passes_not}
 use Rattle.md_safe.specs.Input.{begins_with_line_feed}
 use Rattle.md_safe.specs.Tokens.{seen}
 use Rattle.md_safe.proofs.Cases.{all-weaker}
@@ -37,26 +36,11 @@ pub record IsItself (b : ℕ) : Type 0 where
   pub no_feed : (b == 10) ≡ false
 
 pub itself_parts : (b : ℕ) → is_itself b ≡ true → IsItself b
-itself_parts b h =
-    let differs = λ (n : ℕ) (e : is_itself n ≡ false). passes_not is_itself b n e h in
-    record {
-      plain = record {
-        no_nul = differs 0 refl;
-        no_and = differs 38 refl;
-        no_quote = differs 34 refl;
-        no_less = differs 60 refl;
-        no_more = differs 62 refl;
-      };
-      no_return = differs 13 refl;
-      no_feed = differs 10 refl;
-    }
+itself_parts b h = grind arith
 
 itself-back : (x : List ℕ) → list_all is_itself x ≡ true → read_back x ≡ x
 itself-back [] h = refl
-itself-back (b ∷ x) h =
-    let p = and_parts (is_itself b) (list_all is_itself x) h in
-    read_back-other b x (eqb-false b 38 (itself_parts b p.0).plain.no_and)
-    ∙ ap (λ y. b ∷ y) (itself-back x p.1)
+itself-back (b ∷ x) h = grind (arith, read_back-other, eqb-false, itself_parts, itself-back x)
 
 pub itself-returns : (x : List ℕ) → list_all is_itself x ≡ true → list_all no_return x ≡ true
 itself-returns x h =

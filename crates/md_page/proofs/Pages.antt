@@ -1,13 +1,11 @@
 -- A page can be read in one way: its title ends where the first `<` stands, and its body
 -- has one reading.
-use Rattle.std.proofs.Common.{◌≡◌, ℕ, true, List, [], ◌++◌, refl, sym, ap, ◌∙◌, codes}
+use Rattle.std.proofs.Common.{arith}
+use Rattle.std.proofs.Common.{◌≡◌, ℕ, true, List, [], ◌++◌, refl, sym, ◌∙◌, codes}
 use Rattle.std.specs.List.{list_all}
-use Rattle.std.proofs.lemmas.Bool.{and_parts}
 use Rattle.std.proofs.lemmas.List.{append_assoc, append-nil, append_cancel_left}
 use Rattle.std.proofs.lemmas.List.{append_cancel_right}
-use Rattle.md_base.proofs.Lies.{lie}
-use Rattle.md_text.specs.Html.{Forest, Empty, Text, is_forest, written}
-use Rattle.md_text.specs.References.{is_escaped}
+use Rattle.md_text.specs.Html.{Forest, is_forest, written}
 use Rattle.md_text.proofs.HtmlNames.{no_angle, escaped-angle}
 use Rattle.md_text.proofs.HtmlSplit.{split}
 use Rattle.md_text.proofs.HtmlReading.{one_reading}
@@ -30,23 +28,15 @@ pub page_written : (title body : Forest) →
 page_written title body = simp append_assoc
 
 title_tidy : (title : Forest) → is_title title ≡ true → list_all no_angle (written title) ≡ true
-title_tidy Empty e = refl
-title_tidy (Text bytes Empty) e =
-    ap (λ t. list_all no_angle t) (append-nil bytes) ∙ escaped-angle bytes
-    (and_parts _ (is_escaped bytes) (and_parts _ true (and_parts _ true e).0).0).1
-title_tidy other e = lie e
+title_tidy title e = grind (arith, no_angle, append-nil, escaped-angle)
 
 title_forest : (title : Forest) → is_title title ≡ true → is_forest title ≡ true
-title_forest Empty e = refl
-title_forest (Text bytes Empty) e = e
-title_forest other e = lie e
+title_forest title e = grind arith
 
 -- two forests that are written alike are one
 same_forest : (f g : Forest) → is_forest f ≡ true → is_forest g ≡ true →
     written f ≡ written g → f ≡ g
-same_forest f g hf hg e =
-    one_reading (written g) f g (record { in_grammar = hf; written_so = e })
-    (record { in_grammar = hg; written_so = refl })
+same_forest f g hf hg e = grind (arith, one_reading)
 
 pub one_page : (text : List ℕ) (title body title' body' : Forest) → IsPage text title body →
     IsPage text title' body' → (title ≡ title') × (body ≡ body')

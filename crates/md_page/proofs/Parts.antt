@@ -4,7 +4,7 @@ use Rattle.std.proofs.Common.{◌≡◌, ℕ, suc, MatchOption, ◌<◌, ◌+◌
 use Rattle.std.proofs.Common.{cond, List, [], ◌∷◌, ◌++◌, length, get_or, take, drop, refl, sym, ap}
 use Rattle.std.proofs.Common.{◌∙◌, Option, Some, None, arith}
 use Rattle.std.specs.List.{list_all}
-use Rattle.std.proofs.lemmas.Bool.{and_from, eqb-true, cond_both, cond-true, false_from_ne_true}
+use Rattle.std.proofs.lemmas.Bool.{and_from, eqb-true, cond_both, false_from_ne_true}
 use Rattle.std.proofs.lemmas.List.{take-append-drop, drop_more, length-take, length-drop}
 use Rattle.std.proofs.lemmas.List.{get_or-take, take_rest}
 use Rattle.memchr.specs.Find.{IsFirstByte, is_byte}
@@ -58,8 +58,7 @@ before-none (b ∷ x) h = let later = before-none x in grind (arith, later, h)
 pub around : (byte : ℕ) (text : List ℕ) (at : ℕ) → IsFirstOf byte text at →
     text ≡ take at text ++ (byte ∷ drop (at + 1) text)
 around byte text at h =
-    sym (take-append-drop at text) ∙ ap (λ rest. take at text ++ rest)
-    (drop_more text at 0 h.within ∙ ap (λ b. b ∷ drop (at + 1) text) h.is)
+    sym (rw (drop_more text at 0 h.within, h.is) at (take-append-drop at text))
 
 -- where a test fails at each place, it fails of each byte
 pub nowhere : (byte : ℕ) (x : List ℕ) →
@@ -73,14 +72,7 @@ nowhere byte (b ∷ x) f =
 -- what a search finds
 pub first : (byte : ℕ) (x : List ℕ) (r : Option ℕ) → IsFirstByte (is_byte byte) x r →
     MatchOption r (list_all (differs byte) x ≡ true) (λ at. IsFirstOf byte x at)
-first byte x None h = nowhere byte x (λ k l e. h k (omega arith) l e)
-first byte x (Some at) h = record {
-  within = h.0.high;
-  is = eqb-true _ byte h.1;
-  before = nowhere byte (take at x) (λ k l e.
-      (let low : k < at = omega (arith, length-take at x) in
-      h.0.before k (omega arith) low (ap (λ b. b == byte) (sym (get_or-take at x k 0 low)) ∙ e)));
-}
+first byte x r h = grind (arith, nowhere, eqb-true, length-take, get_or-take)
 
 pub parts-found : (x : List ℕ) (at : ℕ) → IsFirstOf 34 x at →
     (parts_of x ≡ take at x ∷ parts_of (take (length x - (at + 1)) (drop (at + 1) x)))
@@ -101,6 +93,4 @@ pub value-found : (key rest more : List ℕ) {name value : List ℕ} {parts : Li
     parts_of rest ≡ name ∷ parts → parts ≡ value ∷ parts_of more → bytes_eq key name ≡ true →
     value_of key rest ≡ Some value
 value-found key rest more {name = name} {value = value} e f same =
-    ap (value_in key) (e ∙ ap (λ y. name ∷ y) f)
-    ∙ value_in-step key name value (parts_of more) (parts-filled more)
-    ∙ cond-true (bytes_eq key name) _ _ same
+    rw (e, f, value_in-step key name value (parts_of more) (parts-filled more), same) refl

@@ -1,11 +1,11 @@
 -- Places before which no tag begins that is picked.
 use Rattle.std.proofs.Common.{◌≡◌, ◌≤◌, ◌<◌, ℕ, zero, suc, ◌+◌, ◌==◌, Bool, true, false, not}
 use Rattle.std.proofs.Common.{◌&&◌, List, [], ◌∷◌, ◌++◌, length, take, drop, get_or, refl, sym, ap}
-use Rattle.std.proofs.Common.{◌∙◌, subst, arith, add-one, ne_eqb, drop-cons, take-suc, get_or-drop}
+use Rattle.std.proofs.Common.{◌∙◌, subst, arith, add-one, drop-cons, take-suc, get_or-drop}
 use Rattle.std.proofs.Common.{take_all, length-drop}
-use Rattle.std.specs.Prelude.{slice_index, Option, Some, None, MatchOption}
+use Rattle.std.specs.Prelude.{slice_index, Option, MatchOption}
 use Rattle.std.specs.List.{list_all}
-use Rattle.std.proofs.lemmas.Bool.{and_parts, and_from, and_left, and_right, not-true, eqb-false}
+use Rattle.std.proofs.lemmas.Bool.{and_parts, and_from, and_left, and_right, not-true}
 use Rattle.md_text.specs.Bytes.{is_between}
 use Rattle.md_page.specs.declared.scan.Rule.{Rule}
 use Rattle.md_page.specs.declared.scan.Rule.TheVariants.{Link, Heading}
@@ -72,19 +72,14 @@ take-at text at within is = take-suc text at 0 within ∙ ap (λ b. take at text
 
 -- what begins with a `<` isn't picked
 angle-unpicked : (rule : Rule) (rest : List ℕ) → picks_of rule (60 ∷ rest) ≡ false
-angle-unpicked Link rest = refl
-angle-unpicked Heading [] = refl
-angle-unpicked Heading (b ∷ rest) = refl
+angle-unpicked rule rest = grind arith
 
 -- before a `<` none begins
 pub before-angle : (rule : Rule) (text : List ℕ) (at : ℕ) → at + 1 < length text →
     slice_index text (at + 1) ≡ 60 →
     IsPassed rule text at (at + 1)
-before-angle rule text at within is = λ h.
-    subst (λ m. clear (picks_of rule) m text ≡ true) (sym (add-one at))
-    (clear-one (picks_of rule) at text (omega (arith, within)) h (and_right _ _
-    (ap (picks_of rule) (ap (λ m. drop m text) (sym (add-one at)) ∙ drop-at text (at + 1) within is)
-    ∙ angle-unpicked rule (drop (suc (at + 1)) text))))
+before-angle rule text at within is =
+    grind (arith, picks_of, add-one, clear-one, and_right, drop-at, angle-unpicked)
 
 -- none begins here, and the next byte is no `<`
 pub past-two : (rule : Rule) (text : List ℕ) (at : ℕ) → at + 1 < length text →
@@ -102,13 +97,7 @@ past-two rule text at within other none = λ h.
 
 pub to-angle : (rule : Rule) (text : List ℕ) (at run : ℕ) → IsFirstOf 60 (drop at text) run →
     IsAngleFrom rule text at (at + run)
-to-angle rule text at run found = record {
-  later = omega arith;
-  within = omega (arith, found.within, length-drop at text);
-  angle = sym (get_or-drop at text run 0) ∙ found.is;
-  passed = λ h. clear-more (picks_of rule) at run text h
-      (clear-run (picks_of rule) run (drop at text) found.before);
-}
+to-angle rule text at run found = grind (arith, length-drop, get_or-drop, clear-more, clear-run)
 
 -- no `<` is left
 pub to-end : (rule : Rule) (text : List ℕ) (at : ℕ) → at ≤ length text →
@@ -127,13 +116,7 @@ pub from-near : (rule : Rule) (text : List ℕ) (at near : ℕ) (found : Option 
     IsPassed rule text at near →
     MatchOption found (IsPassed rule text near (length text)) (IsAngleFrom rule text near) →
     MatchOption found (IsPassed rule text at (length text)) (IsAngleFrom rule text at)
-from-near rule text at near None later passed on = λ h. on (passed h)
-from-near rule text at near (Some angle) later passed on = record {
-  later = omega (arith, later, on.later);
-  within = on.within;
-  angle = on.angle;
-  passed = λ h. on.passed (passed h);
-}
+from-near rule text at near found later passed on = grind arith
 
 -- ---- where a tag may begin
 
@@ -144,18 +127,13 @@ letter_of Heading = 104
 
 unbegun : (rule : Rule) (b : ℕ) (rest : List ℕ) → (b == letter_of rule) ≡ false →
     picks_of rule (b ∷ rest) ≡ false
-unbegun Link b rest other =
-    and_left _ _ (and_left _ _ (ne_eqb 97 b (λ e. eqb-false b 97 other (sym e))))
-unbegun Heading b [] other = refl
-unbegun Heading b (level ∷ rest) other = and_left _ _ (and_left _ _ other)
+unbegun rule b rest other = grind arith
 
 -- another letter
 pub unnamed : (rule : Rule) (text : List ℕ) (at : ℕ) → at + 1 < length text →
     (slice_index text (at + 1) == letter_of rule) ≡ false →
     picks_of rule (drop (suc at) text) ≡ false
-unnamed rule text at within other =
-    rw (drop-cons text (suc at) 0 (omega (arith, within)))
-    (unbegun rule (slice_index text (suc at)) (drop (suc (suc at)) text) (rw (add-one at) at other))
+unnamed rule text at within other = grind (arith, drop-cons, unbegun, add-one)
 
 -- no level
 pub unlevelled : (text : List ℕ) (at : ℕ) → at + 2 < length text →

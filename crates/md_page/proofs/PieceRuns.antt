@@ -1,8 +1,8 @@
 -- Sound pieces are tokenized as their tokens.
-use Rattle.std.proofs.Common.{◌≡◌, ℕ, true, false, not, List, [], ◌∷◌, ◌++◌, map, refl, sym, ap}
+use Rattle.std.proofs.Common.{arith, ◌≡◌, ℕ, true, false, not, List, [], ◌∷◌, ◌++◌, map, refl, sym}
+use Rattle.std.proofs.Common.{ap}
 use Rattle.std.proofs.Common.{◌∙◌, subst, append_assoc, append-nil}
 use Rattle.std.proofs.lemmas.Bool.{and_parts}
-use Rattle.md_base.proofs.Lies.{lie}
 use Rattle.md_text.specs.Bytes.{is_one_of}
 use Rattle.md_text.specs.References.{is_escaped}
 use Rattle.md_text.specs.Html.{Attribute, written_attributes}
@@ -26,9 +26,7 @@ use Rattle.md_page.proofs.Plain.{and3, good_name, good_attributes, void-name}
 -- after a text no line feed comes
 after_words : (x : List Piece) (r : List ℕ) → not (begins_with_words x) ≡ true →
     begins_with_line_feed r ≡ false → begins_with_line_feed (all_written x ++ r) ≡ false
-after_words [] r h n = n
-after_words (Words text ∷ more) r h n = lie h
-after_words x r h n = refl
+after_words x r h n = grind arith
 
 pub after_text : (x : List Piece) → not (begins_with_words x) ≡ true →
     begins_with_line_feed (all_written x) ≡ false
@@ -46,9 +44,7 @@ tag-line_feeds : (name : List ℕ) (x : List Attribute) (ends more r : List ℕ)
     name ++ attributes_before (lined x) (with_line_feeds (ends ++ (more ++ r)))
     ≡ with_line_feeds ((name ++ (written_attributes x ++ (ends ++ more))) ++ r)
 tag-line_feeds name x ends more r g h =
-    rw (← line_feeds-attributes x (ends ++ (more ++ r)) h)
-    (rw (← good-line_feeds name (attributes_before x (ends ++ (more ++ r))) g)
-    (rw (← written_attributes-before x (ends ++ (more ++ r))) (simp append_assoc)))
+    grind (arith, line_feeds-attributes, good-line_feeds, written_attributes-before, append_assoc)
 
 pub pieces-before : (x : List Piece) (r : List ℕ) (t : List Token) → are_sound x ≡ true →
     begins_with_line_feed r ≡ false → IsTokenized r t →
@@ -89,8 +85,7 @@ on-end : (x : List Piece) → going_on (all_tokens x) (EndOfFile ∷ []) ≡ all
 on-end [] = refl
 on-end (Words text ∷ more) = rw (characters-on (seen text) (all_tokens more), on-end more) refl
 on-end (Opening name x ∷ more) = rw (on-end more) refl
-on-end (Single name x ∷ more) = rw (on-end more) refl
-on-end (Closing name ∷ more) = rw (on-end more) refl
+on-end (tag ∷ more) = rw (on-end more) refl
 
 pub pieces-run : (x : List Piece) → are_sound x ≡ true → IsTokenized (all_written x) (all_tokens x)
 pieces-run x h =

@@ -4,7 +4,7 @@ use Rattle.std.specs.Str.{bytes_eq}
 use Rattle.std.proofs.Common.{◌≡◌, ℕ, Bool, true, false, ◌&&◌, List, [], ◌∷◌, refl}
 use Rattle.std.proofs.Common.{arith}
 use Rattle.std.specs.List.{list_all, list_any}
-use Rattle.std.proofs.lemmas.Bool.{and_parts, not-true}
+use Rattle.std.proofs.lemmas.Bool.{and_parts}
 use Rattle.std.proofs.lemmas.Bool.Decides.{nat_tests}
 use Rattle.md_base.proofs.Lies.{lie}
 use Rattle.md_text.specs.Bytes.{is_one_of}
@@ -17,10 +17,7 @@ use Rattle.md_page.specs.Pieces.{void_names}
 
 -- the parts of a test of three
 pub and3 : (a b c : Bool) → (a && (b && c)) ≡ true → (a ≡ true) × (b ≡ true) × (c ≡ true)
-and3 a b c h =
-    let p = and_parts a (b && c) h in
-    let q = and_parts b c p.1 in
-    (p.0, q.0, q.1)
+and3 a b c h = grind arith
 
 -- ---- bytes of names
 
@@ -32,9 +29,7 @@ begins [] h = lie h
 begins (b ∷ rest) h = grind (arith, nat_tests)
 
 pub good_name : (name : List ℕ) → is_tag_name name ≡ true → is_good_name name ≡ true
-good_name name h =
-    let first = begins name in
-    let bytes = good_bytes name in grind (arith, first, bytes, h)
+good_name name h = grind (arith, good_bytes)
 
 pub name_bytes : (name : List ℕ) → is_tag_name name ≡ true → list_all is_name_byte name ≡ true
 name_bytes name h = (and3 (begins_with_letter name) (list_all is_name_byte name) _ h).1
@@ -43,10 +38,7 @@ name_bytes name h = (and3 (begins_with_letter name) (list_all is_name_byte name)
 pub plain_attribute : (a : Attribute) (x : List Attribute) → are_plain (a ∷ x) ≡ true →
     (is_name a.name ≡ true) × (is_escaped a.value ≡ true)
     × (list_any (λ later. bytes_eq a.name later.name) x ≡ false) × (are_plain x ≡ true)
-plain_attribute a x h =
-    let p = and_parts (is_name a.name) _ h in
-    let q = and3 (is_escaped a.value) _ (are_plain x) p.1 in
-    (p.0, q.0, not-true _ q.1, q.2)
+plain_attribute a x h = grind arith
 
 pub good_attributes : (x : List Attribute) → are_plain x ≡ true → are_good x ≡ true
 good_attributes [] h = refl

@@ -1,12 +1,12 @@
 -- What the program makes of sound pieces is written for the changed ones.
 use Rattle.std.proofs.Common.{◌≡◌, ℕ, suc, Bool, true, false, not, List, [], ◌∷◌, ◌++◌, arith}
-use Rattle.std.proofs.Common.{map, refl, sym, ap, ap₂, ◌∙◌, append_assoc}
+use Rattle.std.proofs.Common.{map, refl, sym, ap, ◌∙◌, append_assoc}
 use Rattle.std.specs.List.{list_all}
 use Rattle.std.proofs.lemmas.Bool.{and_parts, and_from, cond_both}
 use Rattle.md_text.specs.Bytes.{is_one_of}
 use Rattle.md_text.specs.References.{is_escaped}
 use Rattle.md_text.specs.Html.{Attribute, written_attributes}
-use Rattle.md_safe.specs.Token.{Token, Character, StartTag, EndOfFile}
+use Rattle.md_safe.specs.Token.{Token, Character, StartTag}
 use Rattle.md_safe.specs.Tokens.{seen, seen_attributes}
 use Rattle.md_page.specs.Added.{added}
 use Rattle.md_page.specs.Pieces.{Piece, Words, Opening, Single, Closing, all_written, all_tokens}
@@ -15,7 +15,7 @@ use Rattle.md_page.specs.Scan.{differs, scanned}
 use Rattle.md_page.proofs.Plain.{and3}
 use Rattle.md_page.proofs.Tags.{PicksBy, picks-tag, is_sound_tag, token_of, inside, tag-written}
 use Rattle.md_page.proofs.Tags.{tag-tokens, tag-sound, escaped-differs, tag-differs, opens, closes}
-use Rattle.md_page.proofs.Adding.{changed, MayAdd, seen_new, seen-append, added-this, added-other}
+use Rattle.md_page.proofs.Adding.{changed, MayAdd, seen_new, seen-append, added-other}
 use Rattle.md_page.proofs.Adding.{added-characters, plain-more}
 
 -- ---- how a scan goes
@@ -99,8 +99,7 @@ grown {picks} {test} {new} {n} {more} {y} by may name x named plain passes r =
     let tag = Opening name x in
     let sound : is_sound_tag tag ≡ true = and_from _ _ named plain in
     record {
-      tokens = ap₂ (λ a ts. StartTag name a false ∷ ts) (seen-append x (new n ∷ [])) r.tokens
-          ∙ sym (added-this test (seen_new new) n (token_of tag) (all_tokens more) passes);
+      tokens = rw (passes, seen-append x (new n ∷ []), r.tokens) refl;
       sound = and_from _ _ named (and_from _ _
           (plain-more x (new n) plain (may.named n) (may.escaped n) (may.fresh n name x passes))
           r.sound);
@@ -115,12 +114,7 @@ grown {picks} {test} {new} {n} {more} {y} by may name x named plain passes r =
 pub changed-pieces : {picks : List ℕ → Bool} {test : Token → Bool} {new : ℕ → Attribute} →
     PicksBy picks test → MayAdd test new → (n : ℕ) (x : List Piece) → are_sound x ≡ true →
     AreChanged picks test new n x (changed test new n x)
-changed-pieces {test = test} {new = new} by may n [] h = record {
-  tokens = sym (added-other test (seen_new new) n EndOfFile [] by.end_of_file);
-  sound = refl;
-  words = refl;
-  written = refl;
-}
+changed-pieces {test = test} {new = new} by may n [] h = grind (arith, added-other)
 changed-pieces {picks} {test} {new} by may n (Words text ∷ more) h =
     let q = and3 (is_escaped text) _ (are_sound more) h in
     let r = changed-pieces by may n more q.2 in

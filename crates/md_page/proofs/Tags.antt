@@ -40,10 +40,7 @@ inside (Closing name) = 47 ∷ name
 
 pub tag-written : (tag : Piece) (more : List Piece) → is_sound_tag tag ≡ true →
     all_written (tag ∷ more) ≡ 60 ∷ (inside tag ++ (62 ∷ all_written more))
-tag-written (Words text) more h = lie h
-tag-written (Opening name x) more h = simp append_assoc
-tag-written (Single name x) more h = simp append_assoc
-tag-written (Closing name) more h = refl
+tag-written tag more h = grind (arith, append_assoc)
 
 pub tag-tokens : (tag : Piece) (more : List Piece) → is_sound_tag tag ≡ true →
     all_tokens (tag ∷ more) ≡ token_of tag ∷ all_tokens more
@@ -76,10 +73,7 @@ picks-tag by (Words text) r h = lie h
 picks-tag by (Opening name x) r h =
     let p = and_parts (is_tag_name name) (are_plain x) h in
     rw (append_assoc name (written_attributes x) (62 ∷ r)) (by.elements name x r p.0 p.1)
-picks-tag by (Single name x) r h =
-    let void = (and_parts (is_one_of void_names name) (are_plain x) h).0 in
-    rw (append_assoc name (written_attributes x ++ (32 ∷ 47 ∷ [])) (62 ∷ r))
-    (rw (by.voids name _ void, by.void_tokens name (seen_attributes x) void) refl)
+picks-tag by (Single name x) r h = grind (arith, append_assoc)
 picks-tag by (Closing name) r h = by.ends (name ++ (62 ∷ r)) ∙ sym (by.end_tokens name)
 
 -- ---- bytes that aren't in tags
@@ -94,9 +88,7 @@ escaped-differs n (b ∷ rest) fails h =
 
 pub name-differs : (n : ℕ) (x : List ℕ) → is_name_byte n ≡ false → list_all is_name_byte x ≡ true →
     list_all (differs n) x ≡ true
-name-differs n x fails h =
-    all-weaker is_name_byte (differs n) (λ b own. ap not (passes_not is_name_byte b n fails own))
-    x h
+name-differs n x fails h = grind (arith, all-weaker, passes_not)
 
 pub all-join : (p : ℕ → Bool) (x y : List ℕ) → list_all p x ≡ true → list_all p y ≡ true →
     list_all p (x ++ y) ≡ true
@@ -118,11 +110,8 @@ pub attributes-differ : (n : ℕ) (x : List Attribute) → StandsOutside n → a
     list_all (differs n) (written_attributes x) ≡ true
 attributes-differ n [] o h = refl
 attributes-differ n (a ∷ x) o h =
-    let p = plain_attribute a x h in
-    let name = name-differs n a.name o.names (and_parts _ (list_all is_name_byte a.name) p.0).1 in
-    let value = escaped-differs n a.value o.escaped p.1 in
-    let later = attributes-differ n x o p.3 in
-    simp list_all-append (grind (arith, o.marks, name, value, later))
+    let later = attributes-differ n x o in
+    grind (arith, plain_attribute, name-differs, escaped-differs, list_all-append, later)
 
 pub tag-differs : (n : ℕ) (tag : Piece) → StandsOutside n → is_sound_tag tag ≡ true →
     list_all (differs n) (inside tag) ≡ true

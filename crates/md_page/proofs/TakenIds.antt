@@ -1,4 +1,5 @@
 -- Each id among the tokens of a text stands in quotes after ` id=`.
+use Rattle.std.proofs.Common.{arith}
 use Rattle.std.specs.Str.{bytes_eq}
 use Rattle.std.proofs.Common.{◌≡◌, ℕ, true, cond, List, [], ◌∷◌, ◌++◌, map, inl, inr}
 use Rattle.std.proofs.Common.{refl, sym, ap, ◌∙◌, subst, append_assoc, codes}
@@ -9,7 +10,6 @@ use Rattle.std.proofs.lemmas.List.Prefix.{end_rest}
 use Rattle.md_base.proofs.Lies.{lie}
 use Rattle.md_text.specs.Bytes.{is_one_of}
 use Rattle.md_text.specs.Encode.{encoded}
-use Rattle.md_text.specs.References.{is_escaped}
 use Rattle.md_text.specs.Html.{Attribute, written_attributes}
 use Rattle.md_safe.specs.Input.{with_line_feeds}
 use Rattle.md_safe.specs.Token.{Token, Character}
@@ -21,7 +21,7 @@ use Rattle.md_page.specs.Ids.{ids_in, ids_among}
 use Rattle.md_page.specs.Pieces.{Piece, Words, Opening, Single, Closing, all_written, all_tokens}
 use Rattle.md_page.specs.Pieces.{are_sound, are_plain, is_name_byte, is_tag_name, void_names}
 use Rattle.md_page.specs.Pieces.{IsWritten}
-use Rattle.md_page.specs.Scan.{differs, parts_of, ends_at_id, ids_in_parts, scanned_ids}
+use Rattle.md_page.specs.Scan.{differs, ends_at_id, ids_in_parts, scanned_ids}
 use Rattle.md_page.proofs.Distinct.{in-append}
 use Rattle.md_page.proofs.HeadingTexts.{encoded-seen}
 use Rattle.md_page.proofs.Parts.{is_filled, parts-filled, parts-run}
@@ -62,9 +62,7 @@ at_id x = rw (end_rest (x ++ codes " id=") (codes " id=") x refl) refl
 value_step : (before value rest : List ℕ) → Unquoted before → Unquoted value →
     scanned_ids (before ++ (34 ∷ (value ++ (34 ∷ rest))))
     ≡ cond (ends_at_id before) (with_line_feeds value ∷ []) [] ++ scanned_ids rest
-value_step before value rest b v =
-    rw (parts-run before (value ++ (34 ∷ rest)) b, parts-run value rest v)
-    (step before value (parts_of rest) (parts-filled rest))
+value_step before value rest b v = grind (arith, parts-run, step, parts-filled)
 
 -- ---- attributes
 
@@ -101,10 +99,7 @@ attributes_found (a ∷ x) r later plain f pre u id h =
           (sym (encoded-seen a.value p.1)
           ∙ ap (encoded true) ((bytes_decides (seen a.value) id).0 same))))
           (λ another. or_right _ _ (k another))))
-      | inr no_id ↦
-          in-append (encoded true id)
-          (cond (ends_at_id (up_to pre a.name)) (with_line_feeds a.value ∷ []) [])
-          (scanned_ids (written_attributes x ++ r)) ∙ or_right _ _ (k (rw no_id at h))
+      | inr no_id ↦ grind (arith, in-append)
     ])
 
 -- ---- pieces
@@ -131,11 +126,7 @@ pieces_found : (x : List Piece) → are_sound x ≡ true →
     FoundAfter (ids_among (all_tokens x)) (all_written x)
 pieces_found [] h = λ pre u id k. lie k
 pieces_found (Words text ∷ more) h =
-    let q = and3 (is_escaped text) _ (are_sound more) h in
-    subst (λ ids. FoundAfter ids (text ++ all_written more))
-    (sym (ids-characters (seen text) (all_tokens more)))
-    (after text (all_written more) (ids_among (all_tokens more))
-    (escaped-differs 34 text (λ r. refl) q.0) (pieces_found more q.2))
+    grind (arith, ids-characters, after, escaped-differs, pieces_found more)
 pieces_found (Opening name x ∷ more) h =
     let q = and3 (is_tag_name name) (are_plain x) (are_sound more) h in
     tag_found name x (62 ∷ []) more (name_bytes name q.0) q.1 refl (pieces_found more q.2)

@@ -1,10 +1,10 @@
 -- Names and numbers at the front of a text, where sixteen bytes are compared at once.
 use Rattle.std.proofs.Common.{◌≡◌, ℕ, zero, suc, ◌+◌, ◌-◌, ◌<◌, ◌≤◌, Bool, true, false, not, cond}
-use Rattle.std.proofs.Common.{List, [], ◌∷◌, ◌++◌, map, length, take, drop, get_or, inl, inr}
+use Rattle.std.proofs.Common.{List, [], ◌∷◌, ◌++◌, map, length, take, drop, get_or}
 use Rattle.std.proofs.Common.{Option, Some, None, refl, sym, ap, ◌∙◌, arith, subst, codes, bytes_eq}
 use Rattle.std.specs.Prelude.{nat_le}
 use Rattle.std.specs.List.{before_first, list_all, list_any, slice_get}
-use Rattle.std.proofs.lemmas.Bool.{and_parts, eqb-true, not-true, cases_Bool}
+use Rattle.std.proofs.lemmas.Bool.{and_parts, eqb-true}
 use Rattle.std.proofs.lemmas.List.{take_rest}
 use Rattle.std.proofs.lemmas.List.Folds.{list_any-append}
 use Rattle.std.proofs.lemmas.Option.{slice_get-map}
@@ -101,12 +101,7 @@ listed_unbroken : (table : List (List ℕ × Name)) (text : List ℕ) (name : Na
     listed table text ≡ Some name → list_any is_break text ≡ false
 listed_unbroken [] text name all = λ found. cc
 listed_unbroken (entry ∷ table) text name all =
-    let parts = and_parts (is_whole entry) (list_all is_whole table) all in
-    elim (cases_Bool (bytes_eq entry.0 text)) [
-      | inl same ↦
-          λ found. rw (← (bytes_eq-Decides entry.0 text).0 same) (not-true _ parts.0)
-      | inr other ↦ rw other (listed_unbroken table text name parts.1)
-    ]
+    grind (arith, bytes_eq-Decides, listed_unbroken table text name)
 
 names_whole : list_all is_whole event_names ≡ true
 names_whole = refl
@@ -141,8 +136,7 @@ pub line_common :
 line_common sign input rest place following kind name index is ek read number =
     line_plain sign read.text place input following kind name index
     (is ∙ ap (λ r. sign ∷ r) read.whole) ek read.says
-    (named_unbroken read.text name _ _ refl refl read.says)
-    (record { digits = number.digits; whole = number.whole; value = number.value })
+    (named_unbroken read.text name _ _ refl refl read.says) number
 
 pub line_cut :
     (sign : ℕ) (input rest place following : List ℕ) (kind : Kind) (name : Name) (point : Point) →

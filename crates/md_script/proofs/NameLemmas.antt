@@ -1,8 +1,8 @@
 -- The names of events by their length, and `Other`.
-use Rattle.std.proofs.Common.{◌≡◌, ℕ, zero, suc, ◌+◌, ◌<◌, ◌≤◌, true, false, cond, leb, List, []}
+use Rattle.std.proofs.Common.{◌≡◌, ℕ, zero, suc, ◌+◌, ◌<◌, ◌≤◌, true, false, leb, List, []}
 use Rattle.std.proofs.Common.{◌∷◌, ◌++◌, length, take, drop, Option, Some, None, refl, sym, ap, ◌∙◌}
 use Rattle.std.proofs.Common.{arith, inl, inr, codes, bytes_eq}
-use Rattle.std.specs.Prelude.{filter, option_map, option_and_then, nat_le}
+use Rattle.std.specs.Prelude.{filter, option_map, option_and_then}
 use Rattle.std.specs.Borrow.{Bor}
 use Rattle.std.specs.List.{list_all, slice_get}
 use Rattle.std.proofs.lemmas.Bool.{cases_Bool, leb-true, leb-false}
@@ -13,8 +13,7 @@ use Rattle.std.proofs.lemmas.Bool.Decides.{nat_tests}
 use Rattle.md_base.specs.declared.event.Name.{Name}
 use Rattle.md_base.specs.declared.event.Name.TheVariants.{Other}
 use Rattle.md_base.specs.EventNames.{event_names}
-use Rattle.md_script.specs.Line.{◌>>=◌, otherwise, other_name, name_of}
-use Rattle.md_script.specs.Number.{number_of}
+use Rattle.md_script.specs.Line.{otherwise, other_name, name_of}
 use Rattle.md_base.specs.NamesByLength.{is_long, names_of_length, IsByLength}
 use Rattle.md_base.specs.Table.{entries_of, listed}
 use Rattle.md_script.proofs.SettingLemmas.{find-filter}
@@ -68,10 +67,7 @@ pub at_length : (tables : List Table) (text : List ℕ) → length tables ≡ 36
     in_table text (slice_get tables (length text)) ≡ listed event_names text
 at_length tables text many are =
     elim (cases_Bool (leb 36 (length text))) [
-      | inl long ↦
-          let least = leb-true 36 (length text) long in
-          ap (in_table text) (slice_get_past tables (length text) (omega (arith, many, least)))
-          ∙ sym (unlisted_long text least)
+      | inl long ↦ grind (arith, leb-true, slice_get_past, unlisted_long)
       | inr short ↦
           let same : 0 + length text ≡ length text = omega arith in
           let least = leb-false 36 (length text) short in
@@ -100,6 +96,4 @@ name_of_other text digits other rest =
 pub name_of_listed : (text : List ℕ) → bytes_eq (take 5 text) (codes "Other") ≡ false →
     listed event_names text ≡ name_of text
 name_of_listed text other =
-    sym (otherwise_none (listed event_names text)) ∙ sym
-    (ap (λ t. otherwise (listed event_names text) (cond t (number_of 5 (drop 5 text)
-    >>= λ number. cond (nat_le number 65535) (Some (Other number)) None) None)) other)
+    rw other (sym (otherwise_none (listed event_names text)))

@@ -1,11 +1,11 @@
 -- Decimal digits read in sequence.
-use Rattle.std.proofs.Common.{◌≡◌, ℕ, zero, suc, ◌+◌, ◌-◌, ◌*◌, ◌<◌, ◌≤◌, Bool, true, false, cond}
-use Rattle.std.proofs.Common.{◌&&◌, leb, List, [], ◌∷◌, ◌++◌, length, get_or, take, Option, Some}
-use Rattle.std.proofs.Common.{None, refl, sym, ap, ◌∙◌, arith}
+use Rattle.std.proofs.Common.{◌≡◌, ℕ, zero, suc, ◌+◌, ◌-◌, ◌*◌, ◌<◌, ◌≤◌, true, false}
+use Rattle.std.proofs.Common.{leb, List, [], ◌∷◌, ◌++◌, length, get_or, take}
+use Rattle.std.proofs.Common.{None, refl, ap, ◌∙◌, arith}
 use Rattle.std.specs.Char.{is_ascii_digit}
 use Rattle.std.specs.Str.{all_ascii_digits}
 use Rattle.std.specs.Str.Parse.{digits_value}
-use Rattle.std.proofs.lemmas.Bool.{and_parts, and_from, and_left, and_right, leb-true}
+use Rattle.std.proofs.lemmas.Bool.{and_parts, and_from, and_left, leb-true}
 use Rattle.std.proofs.lemmas.List.{take_more, length-take-le}
 use Rattle.std.proofs.lemmas.Int.Digits.{digits_value_more}
 use Rattle.std.proofs.lemmas.Str.{digit_value_digit}
@@ -48,13 +48,7 @@ pub value_more : (digits : List ℕ) (i number : ℕ) → i < length digits →
     is_ascii_digit (get_or digits i 0) ≡ true → number * 10 + (get_or digits i 0 - 48)
     ≡ digits_value 10 (take (i + 1) digits)
 value_more digits i number inside e digit =
-    let range = digit_range (get_or digits i 0) digit in
-    omega (
-      arith,
-      digits_value_more 10 digits i inside,
-      digit_value_digit (get_or digits i 0) range,
-      e,
-    )
+    grind (arith, digit_range, digits_value_more, digit_value_digit)
 
 not_all : (digits : List ℕ) (i : ℕ) → i < length digits →
     is_ascii_digit (get_or digits i 0) ≡ false →
@@ -64,11 +58,7 @@ not_all (d ∷ digits) zero inside other = and_left (is_ascii_digit d) (all_asci
 not_all (d ∷ digits) (suc i) inside other =
     let later = not_all digits i (omega (arith, inside)) other in grind (arith, later)
 
-abbrev chosen : List ℕ → Bool → Option ℕ
-chosen digits test = cond test (Some (digits_value 10 digits)) None
-
 pub number_none : (most : ℕ) (digits : List ℕ) (i : ℕ) → i < length digits →
     is_ascii_digit (get_or digits i 0) ≡ false → None ≡ number_of most digits
 number_none most digits i inside other =
-    sym (ap (chosen digits) (and_right (leb 1 (length digits)
-    && leb (length digits) most) (all_ascii_digits digits) (not_all digits i inside other)))
+    let none = not_all digits i inside other in grind (arith, none)

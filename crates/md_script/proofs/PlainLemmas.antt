@@ -1,16 +1,16 @@
 -- Plain lines, read in one go.
 use Rattle.std.proofs.Common.{◌≡◌, ℕ, zero, suc, ◌+◌, Bool, true, false, not, cond, ◌&&◌, ◌||◌}
-use Rattle.std.proofs.Common.{List, [], ◌∷◌, ◌++◌, length, take, drop, get_or, ◌<◌, ◌≤◌, Option}
+use Rattle.std.proofs.Common.{List, [], ◌∷◌, ◌++◌, length, take, drop, get_or, ◌<◌, ◌≤◌}
 use Rattle.std.proofs.Common.{Some, None}
-use Rattle.std.proofs.Common.{refl, sym, ap, ◌∙◌, arith, leb, eqb, inl, inr, ◌-◌}
+use Rattle.std.proofs.Common.{refl, sym, ap, ◌∙◌, arith, leb, eqb, ◌-◌}
 use Rattle.std.specs.Prelude.{position}
-use Rattle.std.specs.List.{before_first, after_first, list_any, onto_first, position_or_len}
+use Rattle.std.specs.List.{before_first, after_first, list_any, position_or_len}
 use Rattle.std.specs.List.{slice_split}
 use Rattle.std.specs.Char.{is_ascii_digit}
 use Rattle.std.specs.Str.{all_ascii_digits}
 use Rattle.std.specs.Str.Parse.{digits_value}
-use Rattle.std.proofs.lemmas.Bool.{cases_Bool, and_parts, or_parts, leb-true, le-leb, eqb-true}
-use Rattle.std.proofs.lemmas.Bool.{ne_eqb, ltb-false}
+use Rattle.std.proofs.lemmas.Bool.{le-leb, eqb-true}
+use Rattle.std.proofs.lemmas.Bool.{ltb-false}
 use Rattle.std.proofs.lemmas.List.{append_assoc, length-append, take-append-drop, drop_more}
 use Rattle.std.proofs.lemmas.List.{length-take-le, take_all, take_at, take_rest}
 use Rattle.std.proofs.lemmas.List.Sums.{fails_before_first}
@@ -19,12 +19,11 @@ use Rattle.std.proofs.lemmas.List.Splits.{slice_split-cons_no, slice_split-cons_
 use Rattle.md_base.specs.declared.event.Kind.{Kind}
 use Rattle.md_base.specs.declared.event.Name.{Name}
 use Rattle.md_base.specs.declared.event.Point.{Point}
-use Rattle.md_script.specs.Line.{◌>>=◌, is_dot, is_space, is_line_feed, lines_of, kind_of, name_of}
+use Rattle.md_script.specs.Line.{is_dot, is_space, is_line_feed, lines_of, kind_of, name_of}
 use Rattle.md_script.specs.Line.{point_of, event_of}
 use Rattle.md_script.specs.Number.{number_of}
 use Rattle.md_script.specs.PlainLine.{is_break, BeginsWithEvent, BeginsWithNumber}
 use Rattle.md_script.specs.PlainLine.{BeginsWithPlace}
-use Rattle.md_script.proofs.LineLemmas.{built}
 use Rattle.md_script.proofs.SplitLemmas.{any_by_place}
 
 -- ---- a list that is cut at its first byte of a kind
@@ -33,11 +32,7 @@ module _ (p : ℕ → Bool) where
   place_of : (xs : List ℕ) (c : ℕ) (ys : List ℕ) → list_any p xs ≡ false → p c ≡ true →
       position_or_len p (xs ++ c ∷ ys) ≡ length xs
   place_of [] c ys none hit = ap (λ t. cond (not t) (1 + position_or_len p ys) 0) hit
-  place_of (x ∷ xs) c ys none hit =
-      let parts = or_parts (p x) (list_any p xs) none in
-      let here = ap (λ t. cond (not t) (1 + position_or_len p (xs ++ c ∷ ys)) 0) parts.0 in
-      let there = place_of xs c ys parts.1 hit in
-      omega (arith, here, there)
+  place_of (x ∷ xs) c ys none hit = let there = place_of xs c ys in grind (arith, there, none, hit)
 
   back : (xs : List ℕ) (c : ℕ) (ys : List ℕ) → drop (suc (length xs)) (xs ++ c ∷ ys) ≡ ys
   back [] c ys = refl
@@ -51,10 +46,7 @@ module _ (p : ℕ → Bool) where
 
   pub after_cut : (xs : List ℕ) (c : ℕ) (ys : List ℕ) → list_any p xs ≡ false → p c ≡ true →
       after_first p (xs ++ c ∷ ys) ≡ ys
-  after_cut xs c ys none hit =
-      let next : position_or_len p (xs ++ c ∷ ys) + 1 ≡ suc (length xs) =
-      omega (arith, place_of xs c ys none hit) in
-      ap (λ n. drop n (xs ++ c ∷ ys)) next ∙ back xs c ys
+  after_cut xs c ys none hit = grind (arith, place_of, back)
 
   pub before_none : (xs : List ℕ) → list_any p xs ≡ false → before_first p xs ≡ xs
   before_none xs none =
@@ -64,18 +56,14 @@ module _ (p : ℕ → Bool) where
   pub split_cut : (xs : List ℕ) (c : ℕ) (ys : List ℕ) → list_any p xs ≡ false → p c ≡ true →
       slice_split p (xs ++ c ∷ ys) ≡ xs ∷ slice_split p ys
   split_cut [] c ys none hit = slice_split-cons_yes p c ys hit
-  split_cut (x ∷ xs) c ys none hit =
-      let parts = or_parts (p x) (list_any p xs) none in
-      slice_split-cons_no p x (xs ++ c ∷ ys) parts.0
-      ∙ ap (onto_first x) (split_cut xs c ys parts.1 hit)
+  split_cut (x ∷ xs) c ys none hit = grind (arith, slice_split-cons_no, split_cut xs c ys)
 
   pub none_below : (xs : List ℕ) (n : ℕ) → ((k : ℕ) → k < n → p (get_or xs k 0) ≡ false) →
       list_any p (take n xs) ≡ false
   none_below xs zero none = refl
   none_below [] (suc n) none = refl
   none_below (x ∷ xs) (suc n) none =
-      ap (λ t. t || list_any p (take n xs)) (none 0 (omega arith))
-      ∙ none_below xs n (λ k low. none (suc k) (omega (arith, low)))
+      rw (none 0 (omega arith)) (none_below xs n (λ k low. none (suc k) (omega (arith, low))))
 
   place_found : (n i : ℕ) (test : Bool) → Some i ≡ cond test (Some n) None → i ≡ n
   place_found n i true e = cc
@@ -95,23 +83,17 @@ cut_at xs i c inside is =
 -- ---- digits
 
 digit_is_not : (c other : ℕ) → other < 48 → is_ascii_digit c ≡ true → eqb c other ≡ false
-digit_is_not c other low h =
-    let least = leb-true 48 c (and_parts (leb 48 c) (leb c 57) h).0 in
-    ne_eqb c other (λ e. omega (arith, least, low, e))
+digit_is_not c other low h = grind (arith, low, h)
 
 digits_without : (p : ℕ → Bool) → ((c : ℕ) → is_ascii_digit c ≡ true → p c ≡ false) →
     (digits : List ℕ) → all_ascii_digits digits ≡ true → list_any p digits ≡ false
 digits_without p none [] all = refl
 digits_without p none (d ∷ digits) all =
-    let parts = and_parts (is_ascii_digit d) (all_ascii_digits digits) all in
-    ap (λ t. t || list_any p digits) (none d parts.0) ∙ digits_without p none digits parts.1
+    let later = digits_without p none digits in grind (arith, later, none d, all)
 
 digits_are_none : (digits : List ℕ) → all_ascii_digits digits ≡ true →
     (list_any is_dot digits ≡ false) × (list_any is_line_feed digits ≡ false)
-digits_are_none digits all = (
-  digits_without is_dot (λ c h. digit_is_not c 46 (omega arith) h) digits all,
-  digits_without is_line_feed (λ c h. digit_is_not c 10 (omega arith) h) digits all,
-)
+digits_are_none digits all = grind (arith, digits_without, digit_is_not)
 
 pub digits_unbroken : (digits : List ℕ) → all_ascii_digits digits ≡ true →
     list_any is_break digits ≡ false
@@ -122,9 +104,7 @@ digits_unbroken digits all =
 pub number_is_digits : (most : ℕ) (digits : List ℕ) (n : ℕ) (a b : Bool) →
     a ≡ (leb 1 (length digits) && leb (length digits) most) → b ≡ all_ascii_digits digits →
     cond (a && b) (Some (digits_value 10 digits)) None ≡ Some n → b ≡ true
-number_is_digits most digits n true true ea eb e = refl
-number_is_digits most digits n true false ea eb e = cc
-number_is_digits most digits n false b ea eb e = cc
+number_is_digits most digits n a b ea eb e = grind (arith, e)
 
 number_digits : (digits : List ℕ) (n : ℕ) → number_of 9 digits ≡ Some n →
     all_ascii_digits digits ≡ true
@@ -142,14 +122,8 @@ number_read bytes i most end number inside ends some few value all =
       whole = cut_at bytes i end inside ends
           ∙ ap (λ rest. take i bytes ++ end ∷ rest) (sym (take_rest bytes (i + 1)));
       value =
-          ap (λ t. cond (t && leb (length (take i bytes)) most
-          && all_ascii_digits (take i bytes)) (Some (digits_value 10 (take i bytes))) None)
-          (le-leb 1 (length (take i bytes)) (omega (arith, size, some)))
-          ∙ ap (λ t. cond (true && t && all_ascii_digits (take i bytes))
-          (Some (digits_value 10 (take i bytes))) None)
-          (le-leb (length (take i bytes)) most (omega (arith, size, few)))
-          ∙ ap (λ t. cond (true && true && t) (Some (digits_value 10 (take i bytes))) None) all
-          ∙ ap Some (sym value);
+          rw (le-leb 1 (length (take i bytes)) (omega (arith, size, some)))
+          (rw (le-leb (length (take i bytes)) most (omega (arith, size, few)), all, value) refl);
     }
 
 pub index_read_at : (bytes : List ℕ) (i size index : ℕ) → size ≡ i → i < length bytes →
@@ -163,12 +137,6 @@ index_read_at bytes i size index place inside feed some few value all =
 
 -- ---- the event of a plain line
 
-abbrev pointed : Option ℕ → Option ℕ → Option Point
-pointed index columns = do
-  i ← index
-  c ← columns
-  Some (record { line = 1; column = 1; index = i; vs = c })
-
 abbrev place : ℕ → Point
 place index = record { line = 1; column = 1; index = index; vs = 0 }
 
@@ -176,32 +144,15 @@ point_plain : (digits : List ℕ) (index : ℕ) → number_of 9 digits ≡ Some 
     point_of digits ≡ Some (place index)
 point_plain digits index value =
     let none = (digits_are_none digits (number_digits digits index value)).0 in
-    ap (λ d. pointed (number_of 9 d)
-    (cond (list_any is_dot digits) (number_of 3 (after_first is_dot digits))
-    (Some 0))) (before_none is_dot digits none)
-    ∙ ap (λ t. pointed (number_of 9 digits)
-    (cond t (number_of 3 (after_first is_dot digits)) (Some 0))) none
-    ∙ ap (λ i. pointed i (Some 0)) value
+    rw (before_none is_dot digits none, none, value) refl
 
 unbroken : (text : List ℕ) → list_any is_break text ≡ false →
     (list_any is_space text ≡ false) × (list_any is_line_feed text ≡ false)
 unbroken [] none = (refl, refl)
-unbroken (x ∷ text) none =
-    let parts = or_parts (is_break x) (list_any is_break text) none in
-    let here = or_parts (is_space x) (is_line_feed x) parts.0 in
-    let there = unbroken text parts.1 in (
-      ap (λ t. t || list_any is_space text) here.0 ∙ there.0,
-      ap (λ t. t || list_any is_line_feed text) here.1 ∙ there.1,
-    )
+unbroken (x ∷ text) none = grind (arith, unbroken text)
 
 sign_is_none : (sign : ℕ) (kind : Kind) → kind_of sign ≡ Some kind → is_line_feed sign ≡ false
-sign_is_none sign kind e =
-    elim (cases_Bool (eqb sign 10)) [
-      | inl feed ↦ absurd (unsigned sign kind (eqb-true sign 10 feed) e)
-      | inr other ↦ other
-    ] where
-      unsigned : (sign : ℕ) (kind : Kind) → sign ≡ 10 → kind_of sign ≡ Some kind → ⊥
-      unsigned sign kind is e = let no : kind_of 10 ≡ Some kind = sym (ap kind_of is) ∙ e in cc
+sign_is_none sign kind e = grind (arith, eqb-true)
 
 event_placed : (sign : ℕ) (text said : List ℕ) (kind : Kind) (name : Name) (point : Point) →
     kind_of sign ≡ Some kind →
@@ -209,13 +160,8 @@ event_placed : (sign : ℕ) (text said : List ℕ) (kind : Kind) (name : Name) (
     event_of (sign ∷ (text ++ 32 ∷ said))
     ≡ Some (record { kind = kind; name = name; point = point })
 event_placed sign text said kind name point ek en ep none =
-    ap (λ t. built (kind_of sign) (name_of t) (point_of (after_first is_space (text ++ 32 ∷ said))))
-    (before_cut is_space text 32 said none refl)
-    ∙ ap (λ t. built (kind_of sign) (name_of text) (point_of t))
-    (after_cut is_space text 32 said none refl)
-    ∙ ap (λ k. built k (name_of text) (point_of said)) ek
-    ∙ ap (λ n. built (Some kind) n (point_of said)) en
-    ∙ ap (λ p. built (Some kind) (Some name) p) ep
+    rw (before_cut is_space text 32 said none refl, after_cut is_space text 32 said none refl)
+    (rw (ek, en, ep) refl)
 
 pub line_placed :
     (sign : ℕ) (text rest input following : List ℕ) (kind : Kind) (name : Name) (point : Point) →
@@ -230,10 +176,8 @@ line_placed sign text rest input following kind name point is ek en none read =
     is ∙ ap (λ r. sign ∷ (text ++ 32 ∷ r)) read.whole ∙ sym
     (ap (λ l. sign ∷ l) (append_assoc text (32 ∷ said) (10 ∷ following))) in
     let after : list_any is_line_feed (text ++ 32 ∷ said) ≡ false =
-    list_any-append is_line_feed text (32 ∷ said) ∙ ap (λ t. t || list_any is_line_feed said) free.1
-    ∙ read.uncut in
-    let whole : list_any is_line_feed line ≡ false = ap (λ t. t
-    || list_any is_line_feed (text ++ 32 ∷ said)) (sign_is_none sign kind ek) ∙ after in
+    rw (list_any-append is_line_feed text (32 ∷ said), free.1) read.uncut in
+    let whole : list_any is_line_feed line ≡ false = rw (sign_is_none sign kind ek) after in
     record {
       line = line;
       cut = ap lines_of same ∙ split_cut is_line_feed line 10 following whole refl;
@@ -273,21 +217,13 @@ place_cut bytes columns following index vs front back =
     let none = digits_are_none first (number_is_digits 9 first index _ _ refl refl front.value) in
     let others = digits_are_none second (number_is_digits 3 second vs _ _ refl refl back.value) in
     let dotted : list_any is_dot said ≡ true =
-    list_any-append is_dot first (46 ∷ second)
-    ∙ ap (λ t. t || list_any is_dot (46 ∷ second)) none.0 in
+    rw (list_any-append is_dot first (46 ∷ second), none.0) refl in
     record {
       text = said;
       whole = front.whole ∙ ap (λ c. first ++ 46 ∷ c) back.whole
           ∙ sym (append_assoc first (46 ∷ second) (10 ∷ following));
       says =
-          ap (λ d. pointed (number_of 9 d)
-          (cond (list_any is_dot said) (number_of 3 (after_first is_dot said)) (Some 0)))
-          (before_cut is_dot first 46 second none.0 refl) ∙ ap (λ t. pointed (number_of 9 first)
-          (cond t (number_of 3 (after_first is_dot said)) (Some 0))) dotted
-          ∙ ap (λ d. pointed (number_of 9 first) (number_of 3 d))
-          (after_cut is_dot first 46 second none.0 refl)
-          ∙ ap (λ i. pointed i (number_of 3 second)) front.value
-          ∙ ap (λ c. pointed (Some index) c) back.value;
-      uncut = list_any-append is_line_feed first (46 ∷ second) ∙ ap (λ t. t
-          || list_any is_line_feed (46 ∷ second)) none.1 ∙ others.1;
+          rw (before_cut is_dot first 46 second none.0 refl, dotted, front.value)
+          (rw (after_cut is_dot first 46 second none.0 refl, back.value) refl);
+      uncut = rw (list_any-append is_line_feed first (46 ∷ second), none.1) others.1;
     }

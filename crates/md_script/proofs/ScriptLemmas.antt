@@ -38,9 +38,7 @@ reads_push : (earlier seen : List (List ℕ)) (line : List ℕ) → ReadsAfter e
     is_readable_after (earlier ++ seen) line ≡ true → ReadsAfter earlier (seen ++ line ∷ [])
 reads_push earlier [] line reads readable = (rw append-nil at readable, tt)
 reads_push earlier (first ∷ seen) line reads readable =
-    let more : is_readable_after ((earlier ++ first ∷ []) ++ seen) line ≡ true =
-    rw (append_assoc earlier (first ∷ []) seen) readable in
-    (reads.0, reads_push (earlier ++ first ∷ []) seen line reads.1 more)
+    grind (arith, append_assoc, readable, reads_push (earlier ++ first ∷ []) seen line)
 
 cons_alone : (said : Option Event) → option_to_list said ≡ cons_option said []
 cons_alone None = refl
@@ -82,15 +80,7 @@ counted_more events settings line (Some event) =
 counted_more events settings line None =
     omega (arith, length-append events [], length-append settings (line ∷ []))
 
--- ---- the line that ends the script
-
-is_end : (line : List ℕ) → bytes_eq line end_line ≡ true → line ≡ end_line
-is_end line h = (bytes_eq-Decides line end_line).0 h
-
 -- ---- a line that can't be read, and no line
-
-end_unreadable : (earlier : List (List ℕ)) → is_readable_after earlier end_line ≡ false
-end_unreadable earlier = refl
 
 -- what stops the reading and what ends a script don't go together
 clash : (before earlier others body document : List (List ℕ)) →
@@ -106,20 +96,13 @@ clash before [] (line ∷ others) (first ∷ body) document e reads script stops
     true≢false (sym (rw same at script.0) ∙ rw append-nil at stops.1)
 clash before (line ∷ earlier) others [] document e reads script stops =
     let same : line ≡ end_line = cc in
-    true≢false (sym (rw same at reads.0) ∙ end_unreadable before)
+    true≢false (sym (rw same at reads.0))
 clash before (line ∷ earlier) others (first ∷ body) document e reads script stops =
-    let same : first ≡ line = cc in
-    let tails : earlier ++ others ≡ body ++ end_line ∷ document = cc in
-    clash (before ++ line ∷ []) earlier others body document tails reads.1
-    (rw same at script.1) (rw (append_assoc before (line ∷ []) earlier) stops)
+    grind (arith, append_assoc, clash (before ++ line ∷ []) earlier others body document)
 
 explained : {input : List ℕ} {number : ℕ} → IsFirstUnreadable input number →
     Explains input (Line number)
-explained why = (
-  (λ (body, document, script). clash [] why.earlier why.others body document (sym why.whole
-      ∙ script.whole) why.reads script.reads why.stops),
-  why,
-)
+explained why = grind (arith, clash)
 
 -- ---- a line more, the end, or a line that can't be read
 
@@ -173,10 +156,7 @@ module _ {input rest : List ℕ} {events : List Event} {settings : List (List �
   script_ends line bytes document options cut ends joined has = record {
     body = known.seen;
     document = document;
-    script = record {
-      whole = rw (known.whole, cut, is_end line ends) refl;
-      reads = known.reads;
-    };
+    script = grind (arith, bytes_eq-Decides);
     says = known.says;
     sets = options_by_marked known.seen options (rw known.sets at has);
     rest = joined;

@@ -1,7 +1,7 @@
 -- Options given by some of the lines, and bytes read as a text.
 use Rattle.std.proofs.Common.{◌≡◌, ℕ, Bool, true, false, not, eqb, List, [], ◌∷◌, Option, Some}
 use Rattle.std.proofs.Common.{None, Result, Ok, Err, IsUtf8, refl, sym, ap, ◌∙◌, inl, inr, arith}
-use Rattle.std.specs.Prelude.{option_copied, option_and_then, unwrap_or, find, filter, is_some}
+use Rattle.std.specs.Prelude.{option_copied, option_and_then, find, filter, is_some}
 use Rattle.std.specs.Prelude.{is_ok, MatchResult}
 use Rattle.std.specs.Borrow.{Bor}
 use Rattle.std.specs.List.{list_any}
@@ -13,10 +13,9 @@ use Rattle.md_base.specs.Place.{text_when}
 use Rattle.md_base.specs.declared.event.Event.{Event}
 use Rattle.md_base.proofs.SpaceLemmas.{chosen}
 use Rattle.md_text.specs.declared.options.CompileOptions.{CompileOptions}
-use Rattle.md_text.specs.declared.line_ending.LineEnding.TheVariants.{LineFeed}
 use Rattle.md_script.specs.Line.{event_of}
 use Rattle.md_script.specs.Setting.{is_setting, option_name, is_name, is_given, text_given}
-use Rattle.md_script.specs.Setting.{value_of, is_new, ending_named, ending_name, HasOptions}
+use Rattle.md_script.specs.Setting.{value_of, is_new, HasOptions}
 
 -- ---- bytes as a text
 
@@ -50,11 +49,7 @@ setting_is_marked (sign ∷ rest) h = rw (and_parts (eqb sign 33) _ h).0 refl
 pub event_is_unmarked : (line : List ℕ) (event : Event) → Some event ≡ event_of line →
     is_marked line ≡ false
 event_is_unmarked [] event e = cc
-event_is_unmarked (sign ∷ rest) event e =
-    elim (cases_Bool (eqb sign 33)) [
-      | inl mark ↦ let no = rw (eqb-true sign 33 mark) at e in cc
-      | inr other ↦ rw other refl
-    ]
+event_is_unmarked (sign ∷ rest) event e = grind (arith, eqb-true)
 
 module _ {A : Type 0} (p q : A → Bool) (outside : (x : A) → q x ≡ false → p x ≡ false) where
   pub any-filter : (lines : List A) → list_any p (filter q lines) ≡ list_any p lines
@@ -92,18 +87,4 @@ new_by_marked lines (Some name) = ap not (given_by_marked lines name)
 
 pub options_by_marked : (lines : List (List ℕ)) (options : CompileOptions) →
     HasOptions (filter is_marked lines) options → HasOptions lines options
-options_by_marked lines options h = record {
-  any_img_src = h.any_img_src ∙ given_by_marked lines _;
-  dangerous_html = h.dangerous_html ∙ given_by_marked lines _;
-  dangerous_protocol = h.dangerous_protocol ∙ given_by_marked lines _;
-  checkable = h.checkable ∙ given_by_marked lines _;
-  tagfilter = h.tagfilter ∙ given_by_marked lines _;
-  number_ids = h.number_ids ∙ given_by_marked lines _;
-  ending = h.ending ∙ ap (λ text. unwrap_or (option_and_then ending_named text) LineFeed)
-      (text_by_marked lines ending_name);
-  back_label = h.back_label ∙ text_by_marked lines _;
-  clobber_prefix = h.clobber_prefix ∙ text_by_marked lines _;
-  label = h.label ∙ text_by_marked lines _;
-  label_attributes = h.label_attributes ∙ text_by_marked lines _;
-  label_tag_name = h.label_tag_name ∙ text_by_marked lines _;
-}
+options_by_marked lines options h = grind (arith, given_by_marked, text_by_marked)

@@ -20,10 +20,7 @@ itself (m ∷ marks) = ap (λ r. m ∷ r) (itself marks)
 lowest : (marks : List Bool) → length marks ≤ 64 → 0 < mask_l marks →
     count_trailing_zeros 64 (mask_l marks) ≡ prefix_len (λ m. not m) marks
 lowest marks few some =
-    let same = itself marks in
-    let least : 0 < mask_l (map (λ m. m) marks) = subst (λ l. 0 < mask_l l) (sym same) some in
-    ap (λ l. count_trailing_zeros 64 (mask_l l)) (sym same)
-    ∙ trailing_mask_l (λ m. m) 64 marks few least
+    rw (itself marks) at (trailing_mask_l (λ m. m) 64 marks few (rw (itself marks) some))
 
 clear_before : (marks : List Bool) (k : ℕ) → k < length marks → length marks ≤ 64 →
     k < count_trailing_zeros 64 (mask_l marks) → get_or marks k false ≡ false
@@ -80,14 +77,8 @@ set_at : (marks : List Bool) → length marks ≤ 64 →
 unfolding count_trailing_zeros
 set_at marks few low =
     elim (cases_eq (mask_l marks) 0) [
-      | inl none ↦
-          let past : count_trailing_zeros 64 (mask_l marks) ≡ 64 =
-          ap (count_trailing_zeros 64) none in
-          absurd (omega (arith, past, low, few))
-      | inr some ↦
-          let e = lowest marks few (omega (arith, some)) in
-          ap (λ n. get_or marks n false) e
-          ∙ not-false _ (prefix_len_stops (λ m. not m) marks false (omega (arith, e, low)))
+      | inl none ↦ grind arith
+      | inr some ↦ grind (arith, lowest, prefix_len_stops)
     ]
 
 abbrev spaces : List ℕ → List Bool
@@ -115,13 +106,6 @@ space_found bytes long low =
     count_trailing_zeros 64 (space_mask front) ≡ count_trailing_zeros 64 (mask_l marks) =
     ap (count_trailing_zeros 64) is in
     record {
-      none = λ k before.
-          sym (at k (omega (arith, before, low)))
-          ∙ clear_before marks k (omega (arith, many, before, low)) (omega (arith, many))
-          (omega (arith, place, before));
-      there =
-          ap (λ n. get_or bytes n 0) place
-          ∙ eqb-true (get_or bytes (count_trailing_zeros 64 (mask_l marks)) 0) 32
-          (sym (at (count_trailing_zeros 64 (mask_l marks)) (omega (arith, place, low)))
-          ∙ set_at marks (omega (arith, many)) (omega (arith, place, many, low)));
+      none = grind (arith, clear_before);
+      there = grind (arith, eqb-true, set_at);
     }

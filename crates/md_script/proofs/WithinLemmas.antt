@@ -1,4 +1,5 @@
 -- The compiler's results within limits as those of `run_within`.
+use Rattle.std.proofs.Common.{arith}
 use Rattle.std.proofs.Common.{ℕ, List}
 use Rattle.md_base.specs.declared.event.Event.{Event}
 use Rattle.md_html.specs.Within.{WithinRefusal}
@@ -14,13 +15,7 @@ pub refused_within : (events : List Event) (bytes : List ℕ) (options : Compile
     (limits : Limits) (why : WithinError) →
     WithinRefusal options (document_of events bytes) limits why →
     ExplainsEventsWithin events bytes options limits (run_within_error_of why)
-refused_within events bytes options limits within.TooLong says = record {
-  grammatical = says.long_grammatical;
-  longer = says.too_long;
-  bounded = says.too_much.0;
-  shallow = says.too_deep;
-  reused = says.too_much.1;
-}
+refused_within events bytes options limits within.TooLong says = grind arith
 refused_within events bytes options limits within.TooMuch says = (says.too_deep, says.too_much)
 refused_within events bytes options limits within.TooDeep says = says.too_deep
 refused_within events bytes options limits (within.Compile cause) says =
