@@ -27,7 +27,7 @@ SIGNATURE = re.compile(r"( *)(?:pub )?([a-zA-Z][^\s(){}:=]*) :(?: |$)")
 CITED = re.compile(r"[A-Za-z][^\s(){}\[\],;.]*")
 # An argument of a call: a word, or something in brackets with at most one pair of brackets in it.
 ARGUMENT = (r"(?: (?!(?:in|then|else|where|as)\b)"
-            r"(?:\((?:[^()]|\([^()]*\))*\)|[\w\[\]][^\s()\[\],;∙]*|\[\]))")
+            r"(?:\((?:[^()]|\([^()]*\))*\)|\w[^\s()\[\],;∙]*|\[\]))")
 IMPORTED = re.compile(r"(?m)^use \S+\.\{(.*)\}$")
 REJECTED = re.compile(r"(?m)^\./(\S+?):\d+:\d+: error: `([^`]+)`")
 COMMON = "use Rattle.std.proofs.Common.{arith}"
