@@ -1,7 +1,7 @@
 -- Which bytes are ASCII, from the masks of loads.
 use Rattle.std.proofs.Common.{◌≡◌, ℕ, ◌+◌, ◌%◌, ◌^◌, ◌<◌, ◌≤◌, eqb, leb, cond, true, List, map}
-use Rattle.std.proofs.Common.{length, get_or, replicate, sym, ap, ◌∙◌, arith, inl, inr}
-use Rattle.std.proofs.lemmas.Bool.{cases_lt, both_ways, eqb-true, le-leb}
+use Rattle.std.proofs.Common.{length, get_or, replicate, ap, ◌∙◌, arith, inl, inr}
+use Rattle.std.proofs.lemmas.Bool.{cases_lt}
 use Rattle.std.proofs.lemmas.List.{length-map}
 use Rattle.std.proofs.lemmas.Simd.{map-map, mask_l-mod, length-chunk, zip2_splat_left}
 use Rattle.std.proofs.lemmas.Simd.{none_from_empty_mask}
@@ -24,7 +24,5 @@ ascii_in xs i n room few none k from to =
     ∙ mask_l-mod (map p v) 64 (omega (arith, length-map v p, long)) in
     elim (cases_lt (get_or xs k 0) 128) [
       | inl low ↦ low
-      | inr high ↦ absurd (both_ways (p (get_or xs k 0))
-          (none_from_empty_mask p xs i n 0 room (sym mask ∙ eqb-true _ 0 none) k from to)
-          (ap (λ t. top 7 (cond t 255 0)) (le-leb 128 (get_or xs k 0) high)))
+      | inr high ↦ grind (arith, none_from_empty_mask)
     ]

@@ -13,42 +13,28 @@ use Rattle.ucd_case.specs.CaseFolding.{full_fold, full_folding}
 use Rattle.ucd_case.proofs.CaseFoldingLemmas.{full_fold-ascii}
 use Rattle.caseless.specs.Caseless.{default_case_fold}
 use Rattle.caseless.proofs.CaselessLemmas.{default_case_fold-cons, default_case_fold-nil}
-use Rattle.caseless.proofs.CaselessLemmas.{default_case_fold-ascii, All-chars, full_fold-none}
+use Rattle.caseless.proofs.CaselessLemmas.{default_case_fold-ascii, All-chars}
 
 lower_ascii : (c : ℕ) → c < 128 → to_ascii_lowercase c < 128
 lower_ascii c narrow = grind (arith, nat_tests)
 
 lowered_ascii : (bytes : List ℕ) → IsAscii bytes → IsAscii (map to_ascii_lowercase bytes)
 lowered_ascii bytes ascii k = elim (cases_lt k (length bytes)) [
-  | inl inside ↦ omega (
-    arith,
-    get_or-map to_ascii_lowercase bytes k 0 0 inside,
-    lower_ascii (get_or bytes k 0) (ascii k),
-  )
-  | inr past ↦ omega (
-    arith,
-    get_or_past (map to_ascii_lowercase bytes) k 0
-        (omega (arith, past, length-map bytes to_ascii_lowercase)),
-  )
+  | inl inside ↦ grind (arith, get_or-map, lower_ascii (get_or bytes k 0) (ascii k))
+  | inr past ↦ grind (arith, get_or_past, length-map)
 ]
 
 pub fold_ascii : (bytes : List ℕ) → IsAscii bytes → map to_ascii_lowercase bytes
     ≡ encode_utf8_all (default_case_fold (chars bytes))
 fold_ascii bytes ascii =
-    sym (encodes-IsAscii (map to_ascii_lowercase bytes) (lowered_ascii bytes ascii))
-    ∙ ap encode_utf8_all (sym (default_case_fold-ascii (chars bytes) (All-chars bytes ascii)
-    ∙ ap (map to_ascii_lowercase) (chars-IsAscii bytes ascii)))
+    grind (arith, encodes-IsAscii, lowered_ascii, default_case_fold-ascii, All-chars, chars-IsAscii)
 
 -- the written text and the result for the rest, at a character
 pub fold_step : (written rest old : List ℕ) (c : ℕ) → IsUtf8 old → old ≡ encode_utf8 c ++ rest →
     (written ++ encode_utf8_all (full_fold c)) ++ encode_utf8_all (default_case_fold (chars rest))
     ≡ written ++ encode_utf8_all (default_case_fold (chars old))
 fold_step written rest old c text e =
-    append_assoc written (encode_utf8_all (full_fold c))
-    (encode_utf8_all (default_case_fold (chars rest)))
-    ∙ ap (λ t. written ++ t) (sym (encodes-append (full_fold c) (default_case_fold (chars rest)))
-    ∙ ap encode_utf8_all (sym (ap default_case_fold (chars_past_char old rest c text e)
-    ∙ default_case_fold-cons c (chars rest))))
+    grind (arith, append_assoc, encodes-append, chars_past_char, default_case_fold-cons)
 
 pub fold_end : encode_utf8_all (default_case_fold (chars [])) ≡ []
 fold_end = ap (λ cs. encode_utf8_all (default_case_fold cs)) chars-nil
@@ -56,9 +42,7 @@ fold_end = ap (λ cs. encode_utf8_all (default_case_fold cs)) chars-nil
 
 pub lowered_folds : (c : ℕ) → c < 128 →
     encode_utf8 (to_ascii_lowercase c) ≡ encode_utf8_all (full_fold c)
-lowered_folds c narrow =
-    sym (ap encode_utf8_all (full_fold-ascii c narrow)
-    ∙ append-nil (encode_utf8 (to_ascii_lowercase c)))
+lowered_folds c narrow = grind (arith, full_fold-ascii, append-nil)
 
 -- ---- where to fold is to lower ASCII letters
 
@@ -75,28 +59,22 @@ lower_all_wide (b ∷ bytes) wide =
 wide_bytes : (c : ℕ) → 128 ≤ c → (k : ℕ) → k < length (encode_utf8 c) →
     128 ≤ get_or (encode_utf8 c) k 0
 wide_bytes c wide k inside =
-    elim (cases_lt (get_or (encode_utf8 c) k 0) 128) [
-      | inl narrow ↦ omega (
-        arith,
-        narrow,
-        wide,
-        inside_one c [] (encode_utf8 c) k (sym (append-nil (encode_utf8 c))) inside narrow,
-      )
-      | inr holds ↦ holds
-    ]
+    grind (arith, inside_one c [] (encode_utf8 c) k, append-nil (encode_utf8 c))
 
 pub lowered_character : (c : ℕ) → c < 128 →
     map to_ascii_lowercase (encode_utf8 c) ≡ encode_utf8_all (full_fold c)
 lowered_character c narrow =
-    ap (map to_ascii_lowercase) (encode_ascii c narrow)
-    ∙ sym (encode_ascii (to_ascii_lowercase c) (lower_ascii c narrow)) ∙ lowered_folds c narrow
+    grind (
+      arith,
+      encode_ascii c narrow,
+      encode_ascii (to_ascii_lowercase c) (lower_ascii c narrow),
+      lowered_folds c narrow,
+    )
 
 pub kept_character : (c : ℕ) (table : List ℕ) → 128 ≤ c →
     table ≡ full_folding c → length table < 1 →
     map to_ascii_lowercase (encode_utf8 c) ≡ encode_utf8_all (full_fold c)
-kept_character c table wide same none =
-    lower_all_wide (encode_utf8 c) (wide_bytes c wide)
-    ∙ sym (ap encode_utf8_all (full_fold-none c table same none) ∙ append-nil (encode_utf8 c))
+kept_character c table wide same none = grind (arith, lower_all_wide, wide_bytes, append-nil)
 
 -- to fold these bytes is to lower ASCII letters
 abbrev pub IsLowered : List ℕ → Type 0
@@ -109,5 +87,8 @@ pub lowered_step : (old rest : List ℕ) (c : ℕ) → IsUtf8 old → old ≡ en
     map to_ascii_lowercase (encode_utf8 c) ≡ encode_utf8_all (full_fold c) →
     IsLowered rest → IsLowered old
 lowered_step old rest c text e first later =
-    ap (map to_ascii_lowercase) e ∙ map-append to_ascii_lowercase (encode_utf8 c) rest
-    ∙ ap₂ ◌++◌ first later ∙ fold_step [] rest old c text e
+    grind (
+      arith,
+      map-append to_ascii_lowercase (encode_utf8 c) rest,
+      fold_step [] rest old c text e,
+    )

@@ -6,9 +6,9 @@ use Rattle.std.proofs.Common.{encode_utf8}
 use Rattle.std.specs.Prelude.{filter}
 use Rattle.std.specs.List.{slice_split, onto_first, join_with_byte}
 use Rattle.std.proofs.lemmas.List.{append_assoc, append-nil}
-use Rattle.std.proofs.lemmas.Bool.{cases_lt, true≢false, ne_eqb, both_ways}
+use Rattle.std.proofs.lemmas.Bool.{cases_lt, both_ways}
 use Rattle.std.proofs.lemmas.Bool.Decides.{nat_tests}
-use Rattle.std.proofs.lemmas.Str.{encode_ascii, inside_one, length-encode, len_utf8_bounds}
+use Rattle.std.proofs.lemmas.Str.{encode_ascii, inside_one, length-encode}
 use Rattle.md_base.specs.Identifier.{is_white, is_nonempty, collapsed}
 
 -- further words, each after a space
@@ -79,9 +79,7 @@ word_onto b (first ∷ parts) = refl
 
 pub collapsed-black : (b : ℕ) (text : List ℕ) → is_white b ≡ false →
     collapsed (b ∷ text) ≡ b ∷ in_word text
-collapsed-black b text black =
-    ap (λ parts. join_with_byte 32 (filter is_nonempty parts)) (black_split b text black)
-    ∙ join_onto b (slice_split is_white text)
+collapsed-black b text black = grind (arith, join_onto)
 
 pub in_word-black : (b : ℕ) (text : List ℕ) → is_white b ≡ false →
     in_word (b ∷ text) ≡ b ∷ in_word text
@@ -90,9 +88,7 @@ in_word-black b text black =
 
 pub after_word-black : (b : ℕ) (text : List ℕ) → is_white b ≡ false →
     after_word (b ∷ text) ≡ 32 ∷ b ∷ in_word text
-after_word-black b text black =
-    ap (λ parts. spaced (filter is_nonempty parts)) (black_split b text black)
-    ∙ spaced_onto b (slice_split is_white text)
+after_word-black b text black = grind (arith, spaced_onto)
 
 -- ---- at a character, with what is written so far and whether a space is owed
 
@@ -106,33 +102,21 @@ wide_is_black : (b : ℕ) → 128 ≤ b → is_white b ≡ false
 wide_is_black b wide = grind (arith, nat_tests)
 
 white_is_ascii : (c : ℕ) → is_white c ≡ true → c < 128
-white_is_ascii c white =
-    elim (cases_lt c 128) [
-      | inl narrow ↦ narrow
-      | inr wide ↦ absurd (true≢false (sym white ∙ wide_is_black c wide))
-    ]
+white_is_ascii c white = grind arith
 
 white_step_ascii : (is_gap empty : Bool) (written : List ℕ) (c : ℕ) (rest : List ℕ) →
     is_white c ≡ true →
     empty ≡ eqb (length written) 0 →
     still (not empty) written rest ≡ still is_gap written (c ∷ rest)
 white_step_ascii is_gap empty [] c rest white e = sym (collapsed-white c rest white)
-white_step_ascii true empty (b ∷ written) c rest white e =
-    ap (λ t. still (not t) (b ∷ written) rest)
-    (e ∙ ne_eqb (suc (length written)) 0 (λ h. omega (arith, h)))
-    ∙ sym (after_word-white c rest white)
-white_step_ascii false empty (b ∷ written) c rest white e =
-    ap (λ t. still (not t) (b ∷ written) rest)
-    (e ∙ ne_eqb (suc (length written)) 0 (λ h. omega (arith, h))) ∙ sym (in_word-white c rest white)
+white_step_ascii true empty (b ∷ written) c rest white e = grind arith
+white_step_ascii false empty (b ∷ written) c rest white e = grind arith
 
 pub white_step : (is_gap empty : Bool) (written : List ℕ) (c : ℕ) (rest : List ℕ) →
     is_white c ≡ true →
     empty ≡ eqb (length written) 0 →
     still (not empty) written rest ≡ still is_gap written (encode_utf8 c ++ rest)
-white_step is_gap empty written c rest white e =
-    white_step_ascii is_gap empty written c rest white e
-    ∙ ap (λ first. still is_gap written (first ++ rest))
-    (sym (encode_ascii c (white_is_ascii c white)))
+white_step is_gap empty written c rest white e = grind (arith, encode_ascii)
 
 -- no byte of the word is white space
 abbrev IsBlack : List ℕ → Type 0
@@ -141,9 +125,7 @@ IsBlack word = (k : ℕ) → k < length word → is_white (get_or word k 0) ≡ 
 encode_is_black : (c : ℕ) → is_white c ≡ false → IsBlack (encode_utf8 c)
 encode_is_black c black k inside =
     elim (cases_lt (get_or (encode_utf8 c) k 0) 128) [
-      | inl narrow ↦ (let same =
-          inside_one c [] (encode_utf8 c) k (sym (append-nil (encode_utf8 c))) inside narrow in
-          ap is_white (sym same) ∙ black)
+      | inl narrow ↦ grind (arith, inside_one c [] (encode_utf8 c) k, append-nil (encode_utf8 c))
       | inr wide ↦ wide_is_black (get_or (encode_utf8 c) k 0) wide
     ]
 
@@ -168,16 +150,18 @@ word_step true (w ∷ written) (b ∷ word) rest some black owed =
     append_assoc (w ∷ written) (32 ∷ b ∷ word) (in_word rest)
     ∙ ap (λ t. w ∷ (written ++ t)) (sym more)
 word_step false (w ∷ written) (b ∷ word) rest some black owed =
-    let more = word_runs (b ∷ word) rest black in
-    append_assoc (w ∷ written) (b ∷ word) (in_word rest) ∙ ap (λ t. w ∷ (written ++ t)) (sym more)
+    grind (
+      arith,
+      word_runs (b ∷ word) rest black,
+      append_assoc (w ∷ written) (b ∷ word) (in_word rest),
+    )
 
 pub black_step : (is_gap : Bool) (written : List ℕ) (c : ℕ) (rest : List ℕ) → is_white c ≡ false →
     (is_gap ≡ true → 0 < length written) → (written ++ (cond is_gap (32 ∷ []) [] ++ encode_utf8 c))
     ++ still false (written ++ (cond is_gap (32 ∷ []) [] ++ encode_utf8 c)) rest ≡ written
     ++ still is_gap written (encode_utf8 c ++ rest)
 black_step is_gap written c rest black owed =
-    word_step is_gap written (encode_utf8 c) rest
-    (omega (arith, length-encode c, (len_utf8_bounds c).0)) (encode_is_black c black) owed
+    grind (arith, word_step, length-encode, encode_is_black)
 
 pub still_end : (is_gap : Bool) (written : List ℕ) → written ++ still is_gap written [] ≡ written
 still_end is_gap [] = refl

@@ -1,17 +1,13 @@
 -- Digits read as a number: the result of std's reader of numbers is that of the rules of
 -- references, and what the check requires of a list's number.
-use Rattle.std.proofs.Common.{◌≡◌, ℕ, ◌<◌, ◌^◌, Bool, not, eqb, nat_lt, cond, ◌&&◌, ◌≢◌, inl, inr}
-use Rattle.std.proofs.Common.{subst, List, [], ◌∷◌, length, get_or, Option, Some, None, Result, Ok}
-use Rattle.std.proofs.Common.{Err, Decides, refl, sym, ap, ◌∙◌, arith}
+use Rattle.std.proofs.Common.{◌≡◌, ℕ, ◌<◌, ◌^◌, Bool, not, eqb, nat_lt, cond, ◌≢◌}
+use Rattle.std.proofs.Common.{List, [], ◌∷◌, length, get_or, Option, Some, None, Result, Ok}
+use Rattle.std.proofs.Common.{Err, Decides, refl, ◌∙◌, arith}
 use Rattle.std.specs.Prelude.{OkIff}
 use Rattle.std.specs.Char.{digit_value}
 use Rattle.std.specs.List.{list_all}
 use Rattle.std.specs.Result.{result_ok}
 use Rattle.std.specs.Str.Parse.{AllDigits, IsNumeral, digits_value, ParsesUnsigned}
-use Rattle.std.proofs.lemmas.Bool.{cases_Bool}
-use Rattle.std.proofs.lemmas.Bool.Decides.{Decides-and, Decides-ltb, Decides-eqb, Decides-not}
-use Rattle.std.proofs.lemmas.Bool.Decides.{Decides-like}
-use Rattle.std.proofs.lemmas.Str.Parse.{without_leading_plus_none}
 use Rattle.md_base.specs.Reference.{is_number, character_of, numbered}
 
 -- ---- a number
@@ -19,24 +15,14 @@ use Rattle.md_base.specs.Reference.{is_number, character_of, numbered}
 all_digits-Decides : (radix : ℕ) (digits : List ℕ) → Decides
     (list_all (λ digit. nat_lt (digit_value digit) radix) digits) (AllDigits radix digits)
 all_digits-Decides radix [] = (λ _. tt, λ _. refl)
-all_digits-Decides radix (digit ∷ digits) =
-    Decides-and (nat_lt (digit_value digit) radix)
-    (list_all (λ d. nat_lt (digit_value d) radix) digits)
-    (Decides-ltb (digit_value digit) radix) (all_digits-Decides radix digits)
+all_digits-Decides radix (digit ∷ digits) = grind (arith, all_digits-Decides radix digits)
 
 some_digits-Decides : (digits : List ℕ) → Decides (not (eqb (length digits) 0)) (0 < length digits)
-some_digits-Decides digits =
-    Decides-like (not (eqb (length digits) 0)) (λ h. omega (arith, h)) (λ h e. omega (arith, h, e))
-    (Decides-not (eqb (length digits) 0) (Decides-eqb (length digits) 0))
+some_digits-Decides digits = grind arith
 
 pub is_number-Decides : (radix : ℕ) (digits : List ℕ) →
     Decides (is_number radix digits) (IsNumeral radix digits × (digits_value radix digits < 2 ^ 32))
-is_number-Decides radix digits =
-    let all = list_all (λ digit. nat_lt (digit_value digit) radix) digits in
-    let some = not (eqb (length digits) 0) in
-    Decides-and (some && all) (nat_lt (digits_value radix digits) (2 ^ 32))
-    (Decides-and some all (some_digits-Decides digits) (all_digits-Decides radix digits))
-    (Decides-ltb (digits_value radix digits) (2 ^ 32))
+is_number-Decides radix digits = grind (arith, all_digits-Decides)
 
 -- ---- the result of `from_str_radix` if the text doesn't begin with a plus
 
@@ -56,27 +42,25 @@ read_none (Err m) P v e h = h
 plain : {E : Type 0} (radix : ℕ) (digits : List ℕ) (r : Result ℕ E) → get_or digits 0 0 ≢ 43 →
     ParsesUnsigned 32 radix digits r → OkIff r (IsNumeral radix digits
     × (digits_value radix digits < 2 ^ 32)) (digits_value radix digits)
-plain radix digits r no_plus h =
-    let e = without_leading_plus_none digits no_plus in
-    subst (λ ds. OkIff r (IsNumeral radix ds × (digits_value radix ds < 2 ^ 32))
-    (digits_value radix ds)) e h
+plain radix digits r no_plus h = grind arith
 
 pub numbered_ok : {E : Type 0} (radix : ℕ) (digits : List ℕ) (r : Result ℕ E) (code : ℕ) →
     get_or digits 0 0 ≢ 43 →
     ParsesUnsigned 32 radix digits r → Some code ≡ result_ok r →
     Some (character_of code) ≡ numbered radix digits
 numbered_ok radix digits r code no_plus parsed e =
-    let read =
-    read_ok r _ code (digits_value radix digits) e (plain radix digits r no_plus parsed) in
-    ap (λ n. Some (character_of n)) read.1 ∙ sym (ap (chosen_number radix digits)
-    ((is_number-Decides radix digits).1 read.0))
+    grind (
+      arith,
+      read_ok r _ code (digits_value radix digits) e (plain radix digits r no_plus parsed),
+      is_number-Decides radix digits,
+    )
 
 pub numbered_none : {E : Type 0} (radix : ℕ) (digits : List ℕ) (r : Result ℕ E) →
     get_or digits 0 0 ≢ 43 →
     ParsesUnsigned 32 radix digits r → None ≡ result_ok r → None ≡ numbered radix digits
 numbered_none radix digits r no_plus parsed e =
-    let no = read_none r _ (digits_value radix digits) e (plain radix digits r no_plus parsed) in
-    elim (cases_Bool (is_number radix digits)) [
-      | inl holds ↦ absurd (no ((is_number-Decides radix digits).0 holds))
-      | inr isnt ↦ sym (ap (chosen_number radix digits) isnt)
-    ]
+    grind (
+      arith,
+      read_none r _ (digits_value radix digits) e (plain radix digits r no_plus parsed),
+      is_number-Decides radix digits,
+    )

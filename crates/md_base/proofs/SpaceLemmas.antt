@@ -1,15 +1,14 @@
 -- Spaces around a text leave it a text, and make no text of other bytes: a slice with cut tabs is a
 -- text where its bytes are.
-use Rattle.std.proofs.Common.{◌≡◌, ℕ, zero, suc, ◌<◌, Bool, true, cond, Option, Some, None, inl}
-use Rattle.std.proofs.Common.{inr, List, [], ◌∷◌, ◌++◌, length, get_or, replicate, IsUtf8, IsAscii}
-use Rattle.std.proofs.Common.{Decides, refl, sym, ap, ◌∙◌, arith, subst, lit<}
+use Rattle.std.proofs.Common.{◌≡◌, ℕ, zero, suc, ◌<◌, Bool, true, cond, Option, Some, None}
+use Rattle.std.proofs.Common.{List, [], ◌∷◌, ◌++◌, length, get_or, replicate, IsUtf8, IsAscii}
+use Rattle.std.proofs.Common.{Decides, refl, sym, arith, subst, lit<}
 use Rattle.std.specs.Str.{is_utf8}
 use Rattle.std.proofs.lemmas.List.{append_assoc, append-nil, length-append, get_or_at, take_at}
 use Rattle.std.proofs.lemmas.Str.{IsUtf8-append, IsUtf8-from_ascii, IsUtf8-take, IsUtf8-past_char}
 use Rattle.std.proofs.lemmas.Str.{IsCharBoundary-before_ascii, encode_ascii, IsUtf8-from_is_utf8}
 use Rattle.std.proofs.lemmas.Str.{is_utf8-from_IsUtf8}
 use Rattle.std.proofs.lemmas.Str.Ascii.{IsAscii-nil, IsAscii-cons}
-use Rattle.std.proofs.lemmas.Bool.{cases_Bool}
 use Rattle.md_base.specs.Place.{text_when}
 use Rattle.std.proofs.lemmas.Bool.Decides.{same_from_decides, Decides-like}
 
@@ -23,9 +22,12 @@ utf8_spaces count = IsUtf8-from_ascii (replicate count 32) (ascii_spaces count)
 without_left : (count : ℕ) (text : List ℕ) → IsUtf8 (replicate count 32 ++ text) → IsUtf8 text
 without_left zero text utf8 = utf8
 without_left (suc count) text utf8 =
-    without_left count text
-    (IsUtf8-past_char (32 ∷ (replicate count 32 ++ text)) (replicate count 32 ++ text) 32 utf8
-    (ap (λ first. first ++ (replicate count 32 ++ text)) (sym (encode_ascii 32 (lit< tt)))))
+    grind (
+      arith,
+      IsUtf8-past_char (32 ∷ (replicate count 32 ++ text)) (replicate count 32 ++ text) 32 utf8,
+      encode_ascii 32 (lit< tt),
+      without_left count text,
+    )
 
 without_one : (text : List ℕ) → IsUtf8 (text ++ 32 ∷ []) → IsUtf8 text
 without_one text utf8 =
@@ -41,8 +43,7 @@ without_one text utf8 =
 without_right : (count : ℕ) (text : List ℕ) → IsUtf8 (text ++ replicate count 32) → IsUtf8 text
 without_right zero text utf8 = subst IsUtf8 (append-nil text) utf8
 without_right (suc count) text utf8 =
-    without_one text (without_right count (text ++ 32 ∷ [])
-    (subst IsUtf8 (sym (append_assoc text (32 ∷ []) (replicate count 32))) utf8))
+    grind (arith, without_one, append_assoc, without_right count (text ++ 32 ∷ []))
 
 is_utf8-Decides : (bytes : List ℕ) → Decides (is_utf8 bytes) (IsUtf8 bytes)
 is_utf8-Decides bytes = (IsUtf8-from_is_utf8 bytes, is_utf8-from_IsUtf8 bytes)
@@ -66,26 +67,10 @@ chosen bytes test = cond test (Some bytes) None
 
 pub padded_none : (before after : ℕ) (bytes : List ℕ) → None ≡ text_when true bytes →
     None ≡ text_when true (replicate before 32 ++ bytes ++ replicate after 32)
-padded_none before after bytes h =
-    elim (cases_Bool (is_utf8 bytes)) [
-      | inl good ↦
-          (let e : text_when true bytes ≡ Some bytes = ap (chosen bytes) good in absurd (cc))
-      | inr bad ↦ sym (ap (chosen (replicate before 32 ++ bytes ++ replicate after 32))
-          (is_utf8-padded before after bytes ∙ bad))
-    ]
+padded_none before after bytes h = grind (arith, is_utf8-padded)
 
 pub padded_some : (before after : ℕ) (bytes inner all : List ℕ) →
     Some inner ≡ text_when true bytes →
     all ≡ replicate before 32 ++ inner ++ replicate after 32 →
     Some all ≡ text_when true (replicate before 32 ++ bytes ++ replicate after 32)
-padded_some before after bytes inner all h e =
-    elim (cases_Bool (is_utf8 bytes)) [
-      | inl good ↦ (
-          let is : text_when true bytes ≡ Some bytes = ap (chosen bytes) good in
-          let same : inner ≡ bytes = cc in
-          ap Some (e ∙ ap (λ t. replicate before 32 ++ t ++ replicate after 32) same)
-          ∙ sym (ap (chosen (replicate before 32 ++ bytes ++ replicate after 32))
-          (is_utf8-padded before after bytes
-          ∙ good)))
-      | inr bad ↦ (let isnt : text_when true bytes ≡ None = ap (chosen bytes) bad in absurd (cc))
-    ]
+padded_some before after bytes inner all h e = grind (arith, is_utf8-padded)
