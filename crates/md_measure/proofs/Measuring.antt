@@ -2,7 +2,7 @@
 -- follows.
 use Rattle.std.proofs.Common.{◌≡◌, ℕ, zero, suc, ◌+◌, ◌-◌, ◌*◌, ◌^◌, ◌≤◌, Bool, true, false, List}
 use Rattle.std.proofs.Common.{[], ◌∷◌}
-use Rattle.std.proofs.Common.{◌++◌, length, max, refl, ap, sym, ◌∙◌, arith, subst}
+use Rattle.std.proofs.Common.{◌++◌, length, max, refl, arith}
 use Rattle.std.specs.Prelude.{◌||◌, if◌then◌else◌}
 use Rattle.std.proofs.Math.Seq.{append_snoc}
 use Rattle.std.proofs.lemmas.Grind.{common_steps}
@@ -16,8 +16,8 @@ use Rattle.md_length.specs.Reuse.{entries, is_call}
 use Rattle.md_depth.specs.Depth.{opened_after, deepest, depth}
 use Rattle.md_depth.proofs.Nodes.{one-more}
 use Rattle.md_measure.specs.Counting.{capped, moved}
-use Rattle.md_measure.specs.Nesting.{is_nested, link_after, images_after, nests, is_image}
-use Rattle.md_measure.specs.Nesting.{is_entry, one_less}
+use Rattle.md_measure.specs.Nesting.{is_nested, link_after, images_after, nests}
+use Rattle.md_measure.specs.Nesting.{one_less}
 
 pub or_assoc : (a b c : Bool) → a || (b || c) ≡ (a || b) || c
 or_assoc true b c = refl
@@ -39,14 +39,7 @@ pub read-step : (counted index opens counted_after index_after open_after : ℕ)
     capped (counted_after + covered_from is_read index_after open_after rest)
     ≡ capped (read_length ((events ++ event ∷ []) ++ rest))
 read-step counted index opens counted_after index_after open_after event events rest there opened
-    added held =
-    ap (λ i. capped (counted_after + covered_from is_read i open_after rest)) there
-    ∙ ap (λ d. capped (counted_after + covered_from is_read event.point.index d rest)) opened
-    ∙ ap (λ n. capped (n + covered_from is_read event.point.index (depth_after is_read opens event)
-    rest)) added
-    ∙ capped-step counted (opens * (event.point.index - index))
-    (covered_from is_read event.point.index (depth_after is_read opens event) rest)
-    ∙ held ∙ ap (λ es. capped (read_length es)) (sym (append_snoc events event rest))
+    added held = grind (arith, append_snoc)
 
 pub cells-step : (counted columns counted_after columns_then : ℕ) (event : Event)
     (events rest : List Event) → columns_then ≡ columns_after columns event →
@@ -55,11 +48,7 @@ pub cells-step : (counted columns counted_after columns_then : ℕ) (event : Eve
     capped (counted_after + cells columns_then rest)
     ≡ capped (cells 0 ((events ++ event ∷ []) ++ rest))
 cells-step counted columns counted_after columns_then event events rest known added held =
-    ap (λ c. capped (counted_after + cells c rest)) known
-    ∙ ap (λ n. capped (n + cells (columns_after columns event) rest)) added
-    ∙ capped-step counted (if exits is_row event then 5 * columns else 0)
-    (cells (columns_after columns event) rest)
-    ∙ held ∙ ap (λ es. capped (cells 0 es)) (sym (append_snoc events event rest))
+    grind (arith, append_snoc)
 
 three : (a b c : ℕ) → (a + b) + c ≡ a + (b + c)
 three a b c = omega arith
@@ -68,10 +57,7 @@ pub calls-step : (counted counted_after : ℕ) (event : Event) (events rest : Li
     counted_after ≡ counted + (if enters is_call event then 1 else 0) →
     counted + entries is_call (event ∷ rest) ≡ entries is_call (events ++ event ∷ rest) →
     counted_after + entries is_call rest ≡ entries is_call ((events ++ event ∷ []) ++ rest)
-calls-step counted counted_after event events rest added held =
-    ap (λ n. n + entries is_call rest) added
-    ∙ three counted (if enters is_call event then 1 else 0) (entries is_call rest)
-    ∙ held ∙ ap (entries is_call) (sym (append_snoc events event rest))
+calls-step counted counted_after event events rest added held = grind (arith, append_snoc)
 
 pub depth-step : (most opens most_after open_after : ℕ) (event : Event) (events rest : List Event) →
     opens ≤ most → open_after ≡ opened_after opens event →
@@ -79,10 +65,7 @@ pub depth-step : (most opens most_after open_after : ℕ) (event : Event) (event
     max most (deepest opens (event ∷ rest)) ≡ depth (events ++ event ∷ rest) →
     max most_after (deepest open_after rest) ≡ depth ((events ++ event ∷ []) ++ rest)
 depth-step most opens most_after open_after event events rest few opened deep held =
-    ap (λ n. max most_after (deepest n rest)) opened
-    ∙ ap (λ n. max n (deepest (opened_after opens event) rest)) deep
-    ∙ one-more most opens event rest few
-    ∙ held ∙ ap depth (sym (append_snoc events event rest))
+    grind (arith, one-more, append_snoc)
 
 pub nested-step : (nested in_link nested_after in_link_after : Bool) (images images_then : ℕ)
     (event : Event) (events rest : List Event) →
@@ -93,13 +76,7 @@ pub nested-step : (nested in_link nested_after in_link_after : Bool) (images ima
     nested_after || nests in_link_after images_then rest
     ≡ nests false 0 ((events ++ event ∷ []) ++ rest)
 nested-step nested in_link nested_after in_link_after images images_then event events rest found
-    linked counted held =
-    ap (λ n. nested_after || nests in_link_after n rest) counted
-    ∙ ap (λ b. nested_after || nests b (images_after images event) rest) linked
-    ∙ ap (λ b. b || nests (link_after in_link images event) (images_after images event) rest) found
-    ∙ sym (or_assoc nested (is_nested in_link images event)
-    (nests (link_after in_link images event) (images_after images event) rest))
-    ∙ held ∙ ap (nests false 0) (sym (append_snoc events event rest))
+    linked counted held = grind (arith, append_snoc)
 
 -- no count grows by more than one
 moved-few : (opens : ℕ) (kind : Kind) (counts : Bool) → moved opens kind counts ≤ opens + 1
@@ -138,36 +115,20 @@ one-longer events event = length-append events (event ∷ [])
 module _ (event : Event) (events : List Event) (before : ℕ) (few : before ≤ length events) where
   pub few-open : (after : ℕ) (counts : Bool) → after ≡ moved before event.kind counts →
       after ≤ length (events ++ event ∷ [])
-  few-open after counts is =
-      grows before after (length events) (length (events ++ event ∷ []))
-      (subst (λ n. n ≤ before + 1) (sym is) (moved-few before event.kind counts)) few
-      (one-longer events event)
+  few-open after counts is = grind (arith, one-longer)
 
   pub few-levels : (after : ℕ) → after ≡ opened_after before event →
       after ≤ length (events ++ event ∷ [])
-  few-levels after is =
-      grows before after (length events) (length (events ++ event ∷ []))
-      (subst (λ n. n ≤ before + 1) (sym is) (opened-few before event)) few
-      (one-longer events event)
+  few-levels after is = grind (arith, one-longer)
 
   pub few-calls : (after : ℕ) (test : Bool) → after ≡ before + (if test then 1 else 0) →
       after ≤ length (events ++ event ∷ [])
-  few-calls after test is =
-      grows before after (length events) (length (events ++ event ∷ []))
-      (subst (λ n. n ≤ before + 1) (sym is) (if-few test before)) few
-      (one-longer events event)
+  few-calls after test is = grind (arith, one-longer)
 
   pub few-columns : (after : ℕ) → after ≡ columns_after before event →
       after ≤ length (events ++ event ∷ [])
-  few-columns after is =
-      grows before after (length events) (length (events ++ event ∷ []))
-      (subst (λ n. n ≤ before + 1) (sym is) (columns-cases _ _ before)) few
-      (one-longer events event)
+  few-columns after is = grind (arith, one-longer)
 
   pub few-images : (after : ℕ) → after ≡ images_after before event →
       after ≤ length (events ++ event ∷ [])
-  few-images after is =
-      grows before after (length events) (length (events ++ event ∷ []))
-      (subst (λ n. n ≤ before + 1) (sym is) (images-few (is_image event.name) (is_entry event.kind)
-      before)) few
-      (one-longer events event)
+  few-images after is = grind (arith, one-longer)

@@ -1,10 +1,10 @@
 -- What events that flatten a document decide is what is defined for the document.
+use Rattle.std.proofs.Common.{arith}
 use Rattle.std.proofs.Common.{◌≡◌, ℕ, suc, Bool, true, false, ◌&&◌, not, List, [], ◌∷◌, ◌++◌, refl}
 use Rattle.std.proofs.Common.{ap, sym, ◌∙◌, append_assoc}
 use Rattle.std.specs.Prelude.{◌||◌, if◌then◌else◌}
 use Rattle.std.proofs.lemmas.Bool.{true≢false}
 use Rattle.std.proofs.lemmas.List.{append-nil}
-use Rattle.std.proofs.Math.Bool.{or-false}
 use Rattle.md_base.specs.declared.event.Event.{Event}
 use Rattle.md_base.specs.declared.event.Name.{Name}
 use Rattle.md_base.specs.declared.event.Name.TheVariants.{Image, Link}
@@ -13,7 +13,6 @@ use Rattle.md_base.specs.Tree.{Forest, Empty, Node, flatten, exiting}
 use Rattle.md_safe.specs.Links.{prints_link, has_nested_link}
 use Rattle.md_measure.specs.Nesting.{is_link, is_image, is_none, one_less}
 use Rattle.md_measure.specs.Nesting.{nests}
-use Rattle.md_measure.proofs.Measuring.{or_assoc}
 
 is_link-is : (name : Name) → is Link name ≡ is_link name
 is_link-is Link = refl
@@ -58,9 +57,7 @@ in_images (Node name start end children rest) in_link images after =
     let inside : ℕ → Bool = λ count.
     nests in_link count ((flatten children ++ (exiting name end ∷ flatten rest)) ++ after) in
     let split : (count : ℕ) → inside count ≡ nests in_link count (flatten children ++ tail) =
-    λ count.
-    ap (λ events. nests in_link count events)
-    (append_assoc (flatten children) (exiting name end ∷ flatten rest) after) in
+    grind (arith, append_assoc) in
     image_node (is_link name) (is_image name) images in_link inside (flatten rest ++ after)
     (λ more. split (suc more) ∙ in_images children in_link more tail)
     ∙ in_images rest in_link images after
@@ -78,41 +75,10 @@ node : (link image prints : Bool) → (image ≡ true → link ≡ false) →
     in_link && prints || inside (if link then true else in_link) (if image then 1 else 0)
     ≡ ((in_link && prints || not image && children (link || in_link)) || rest in_link)
     || following in_link
-node true true prints unlinked unprinted printed in_link children rest following inside
-    after at within next =
-    absurd (true≢false (unlinked refl))
-node false true true unlinked unprinted printed in_link children rest following inside
-    after at within next =
-    absurd (true≢false (unprinted refl))
-node false true false unlinked unprinted printed true children rest following inside
-    after at within next =
-    within true ∙ next true
-node false true false unlinked unprinted printed false children rest following inside
-    after at within next =
-    within false ∙ next false
-node true false false unlinked unprinted printed in_link children rest following inside
-    after at within next =
-    absurd (true≢false (sym (printed refl)))
-node true false true unlinked unprinted printed true children rest following inside after
-    at within next = refl
-node true false true unlinked unprinted printed false children rest following inside
-    after at within next =
-    at true ∙ ap (λ b. children true || b) (next false)
-    ∙ or_assoc (children true) (rest false) (following false)
-node false false true unlinked unprinted printed true children rest following inside after
-    at within next = refl
-node false false true unlinked unprinted printed false children rest following inside
-    after at within next =
-    at false ∙ ap (λ b. children false || b) (next false)
-    ∙ or_assoc (children false) (rest false) (following false)
-node false false false unlinked unprinted printed true children rest following inside
-    after at within next =
-    at true ∙ ap (λ b. children true || b) (next true)
-    ∙ or_assoc (children true) (rest true) (following true)
-node false false false unlinked unprinted printed false children rest following inside
-    after at within next =
-    at false ∙ ap (λ b. children false || b) (next false)
-    ∙ or_assoc (children false) (rest false) (following false)
+node link true prints unlinked unprinted printed in_link children rest following inside
+    after at within next = grind arith
+node link false prints unlinked unprinted printed in_link children rest following inside
+    after at within next = grind arith
 
 nested : (forest : Forest) (in_link : Bool) (after : List Event) →
     nests in_link 0 (flatten forest ++ after)
@@ -123,9 +89,7 @@ nested (Node name start end children rest) in_link after =
     let inside : Bool → ℕ → Bool = λ b count.
     nests b count ((flatten children ++ (exiting name end ∷ flatten rest)) ++ after) in
     let split : (b : Bool) (count : ℕ) → inside b count ≡ nests b count (flatten children ++ tail) =
-    λ b count.
-    ap (λ events. nests b count events)
-    (append_assoc (flatten children) (exiting name end ∷ flatten rest) after) in
+    grind (arith, append_assoc) in
     node (is_link name) (is_image name) (prints_link name) (image_is_no_link name)
     (image_prints_none name)
     (link_prints_one name) in_link (λ b. has_nested_link b children) (λ b. has_nested_link b rest)
@@ -143,5 +107,4 @@ nested (Node name start end children rest) in_link after =
 pub summary_of_document : (document : Forest) (events : List Event) → flatten document ≡ events →
     nests false 0 events ≡ has_nested_link false document
 summary_of_document document events flat =
-    ap (λ es. nests false 0 es) (sym flat ∙ sym (append-nil (flatten document)))
-    ∙ nested document false [] ∙ or-false (has_nested_link false document)
+    grind (arith, append-nil (flatten document), nested document false [])

@@ -1,7 +1,7 @@
 -- What definitions give is counted at the exits of links and images, where the check knows their
 -- definitions; no other mention refers to a definition.
-use Rattle.std.proofs.Common.{◌≡◌, ◌<◌, ◌≤◌, ℕ, zero, suc, ◌+◌, false, Option, Some, None}
-use Rattle.std.proofs.Common.{List, [], ◌∷◌, length, refl, sym, ap, ◌∙◌, subst, arith}
+use Rattle.std.proofs.Common.{◌≡◌, ◌<◌, ℕ, zero, suc, ◌+◌, false, Option, Some, None}
+use Rattle.std.proofs.Common.{List, [], ◌∷◌, length, refl, sym, subst, arith}
 use Rattle.std.proofs.lemmas.Grind.{common_steps}
 use Rattle.std.specs.Prelude.{map, drop, slice_get, option_map, ◌-◌}
 use Rattle.std.specs.Option.{option_map_or}
@@ -13,7 +13,7 @@ use Rattle.md_base.specs.declared.event.Kind.{Kind}
 use Rattle.md_base.specs.declared.event.Kind.TheVariants.{Enter, Exit}
 use Rattle.md_base.specs.declared.event.Name.{Name}
 use Rattle.md_base.specs.declared.event.Name.TheVariants.{Link, Image}
-use Rattle.md_base.specs.Tree.{Forest, Empty, Node, flatten, exiting}
+use Rattle.md_base.specs.Tree.{Forest, Empty, Node, flatten}
 use Rattle.md_base.proofs.Lies.{lie}
 use Rattle.md_pattern.specs.Standing.{standing_of}
 use Rattle.md_pattern.specs.Facts.{facts_at}
@@ -21,14 +21,14 @@ use Rattle.md_pattern.specs.declared.facts.Fact.{Fact}
 use Rattle.md_tree.specs.declared.mention.Referral.{Referral}
 use Rattle.md_tree.specs.declared.mention.Referral.TheVariants.{Missing, Resource, Label}
 use Rattle.md_tree.specs.declared.mention.Mention.{Mention}
-use Rattle.md_tree.specs.Rules.{reading_of, target_of}
+use Rattle.md_tree.specs.Rules.{reading_of}
 use Rattle.md_tree.specs.Texts.{EntersAt}
 use Rattle.md_tree.specs.Mentions.{mention_of, mentions_of}
 use Rattle.md_tree.specs.Numbers.{definition_for}
 use Rattle.md_tree.proofs.Numbers.{IsRecorded, RecordedAt, recorded-at}
 use Rattle.md_pattern.specs.Partners.{definition_entries}
 use Rattle.md_length.specs.Reuse.{is_media, length_at, resolved_lengths, definition_length}
-use Rattle.md_length.specs.Reuse.{definition_lengths, referred, entries}
+use Rattle.md_length.specs.Reuse.{definition_lengths, referred}
 use Rattle.md_measure.specs.Counting.{capped}
 
 -- a mention of neither a link nor an image refers to no definition
@@ -51,9 +51,7 @@ found-capped (Some n) = refl
 pub length-capped : (lengths : List ℕ) (place : Option ℕ) →
     length_at (map capped lengths) place ≡ capped (length_at lengths place)
 length-capped lengths None = refl
-length-capped lengths (Some place) =
-    ap (λ found. option_map_or (λ n. n) found 0) (slice_get-map capped lengths place)
-    ∙ found-capped (slice_get lengths place)
+length-capped lengths (Some place) = grind (arith, slice_get-map)
 
 -- one mention further
 pub led-step : (lengths : List ℕ) (leads : Mention → Option ℕ) (mentions : List Mention)
@@ -61,9 +59,7 @@ pub led-step : (lengths : List ℕ) (leads : Mention → Option ℕ) (mentions :
     resolved_lengths lengths leads (drop index mentions)
     ≡ length_at lengths (leads mention) + resolved_lengths lengths leads (drop (suc index) mentions)
 led-step lengths leads [] index mention here = cc
-led-step lengths leads (m ∷ mentions) zero mention here =
-    let same : m ≡ mention = cc in
-    ap (λ x. length_at lengths (leads x) + resolved_lengths lengths leads mentions) same
+led-step lengths leads (m ∷ mentions) zero mention here = grind arith
 led-step lengths leads (m ∷ mentions) (suc index) mention here =
     led-step lengths leads mentions index mention here
 
@@ -71,11 +67,7 @@ led-step lengths leads (m ∷ mentions) (suc index) mention here =
 pub mentions-length : (forest : Forest) → length (mentions_of forest) ≡ length (flatten forest)
 mentions-length Empty = refl
 mentions-length (Node name start end children rest) =
-    let mention = mention_of (reading_of (standing_of name)) (target_of children Missing) in
-    ap suc (length-append (mentions_of children) (mention ∷ mentions_of rest)
-    ∙ ap (λ n. n + suc (length (mentions_of rest))) (mentions-length children)
-    ∙ ap (λ n. length (flatten children) + suc n) (mentions-length rest)
-    ∙ sym (length-append (flatten children) (exiting name end ∷ flatten rest)))
+    grind (arith, length-append, mentions-length children, mentions-length rest)
 
 -- no mention of an event that exits neither a link nor an image refers to a definition
 pub none-led : (bytes : List ℕ) (document : Forest) (events : List Event) (index : ℕ)
@@ -122,19 +114,13 @@ capped-more counted more later = grind (arith, common_steps)
 pub mention-at : (document : Forest) (events : List Event) (index : ℕ) (event : Event) →
     flatten document ≡ events → slice_get events index ≡ Some event →
     (mention : Mention) × (slice_get (mentions_of document) index ≡ Some mention)
-mention-at document events index event flat there =
-    let (fact, m, fact_there, m_there, recorded) = recorded-at document events index event flat
-    there in
-    (m, m_there)
+mention-at document events index event flat there = grind (arith, recorded-at)
 
 -- there are no mentions after the last event
 pub led-all : (lengths : List ℕ) (leads : Mention → Option ℕ) (document : Forest)
     (events : List Event) (index : ℕ) → flatten document ≡ events → index ≡ length events →
     resolved_lengths lengths leads (drop index (mentions_of document)) ≡ 0
-led-all lengths leads document events index flat end =
-    let few : length (mentions_of document) ≤ index =
-    omega (arith, mentions-length document, ap length flat, end) in
-    ap (resolved_lengths lengths leads) (drop_all index (mentions_of document) few)
+led-all lengths leads document events index flat end = grind (arith, mentions-length, drop_all)
 
 -- the event that enters a definition is one of the events
 pub entered-within : (events : List Event) (index : ℕ) (name : Name) →
@@ -146,10 +132,7 @@ entered-within events index name (event, there, kind, named) =
 pub lengths-capped : (document : Forest) (events : List Event) → flatten document ≡ events →
     map (λ entry. capped (definition_length events entry)) (definition_entries 0 document)
     ≡ map capped (definition_lengths document)
-lengths-capped document events flat =
-    ap (λ es. map (λ entry. capped (definition_length es entry)) (definition_entries 0 document))
-    (sym flat)
-    ∙ sym (map-map capped (definition_length (flatten document)) (definition_entries 0 document))
+lengths-capped document events flat = grind (arith, map-map)
 
 -- ---- what is missing counts nothing
 
@@ -170,8 +153,4 @@ no-lengths leads (mention ∷ mentions) =
 -- if there are no definitions, nothing refers to one
 pub none-referred : (bytes : List ℕ) (document : Forest) → definition_entries 0 document ≡ [] →
     referred bytes document ≡ 0
-none-referred bytes document none =
-    let leads = definition_for bytes (mentions_of document) in
-    ap (λ entries. resolved_lengths (map (definition_length (flatten document)) entries) leads
-    (mentions_of document)) none
-    ∙ no-lengths leads (mentions_of document)
+none-referred bytes document none = grind (arith, no-lengths)
