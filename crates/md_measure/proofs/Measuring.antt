@@ -2,7 +2,7 @@
 -- follows.
 use Rattle.std.proofs.Common.{◌≡◌, ℕ, zero, suc, ◌+◌, ◌-◌, ◌*◌, ◌^◌, ◌≤◌, Bool, true, false, List}
 use Rattle.std.proofs.Common.{[], ◌∷◌}
-use Rattle.std.proofs.Common.{◌++◌, length, max, refl, arith}
+use Rattle.std.proofs.Common.{◌++◌, length, max, arith}
 use Rattle.std.specs.Prelude.{◌||◌, if◌then◌else◌}
 use Rattle.std.proofs.Math.Seq.{append_snoc}
 use Rattle.std.proofs.lemmas.Grind.{common_steps}
@@ -20,8 +20,7 @@ use Rattle.md_measure.specs.Nesting.{is_nested, link_after, images_after, nests}
 use Rattle.md_measure.specs.Nesting.{one_less}
 
 pub or_assoc : (a b c : Bool) → a || (b || c) ≡ (a || b) || c
-or_assoc true b c = refl
-or_assoc false b c = refl
+or_assoc given1 b c = grind arith
 
 capped-step : (counted more later : ℕ) →
     capped (capped (counted + more) + later) ≡ capped (counted + (more + later))
@@ -88,8 +87,7 @@ opened-few : (opens : ℕ) (event : Event) → opened_after opens event ≤ open
 opened-few opens event = moved-few opens event.kind true
 
 if-few : (test : Bool) (n : ℕ) → n + (if test then 1 else 0) ≤ n + 1
-if-few true n = omega arith
-if-few false n = omega arith
+if-few given1 n = grind arith
 
 columns-cases : (first second : Bool) (n : ℕ) →
     (if first then 0 else if second then suc n else n) ≤ n + 1
