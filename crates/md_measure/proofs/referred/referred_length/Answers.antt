@@ -1,9 +1,8 @@
 -- One event further, and one mention; at the end nothing is still to come.
-use Rattle.std.proofs.Common.{◌≡◌, ℕ, ◌+◌, ◌-◌, ◌^◌, ◌≤◌, length, rules, ap, sym, ◌∙◌, arith}
+use Rattle.std.proofs.Common.{◌≡◌, ℕ, ◌+◌, ◌-◌, ◌^◌, ◌≤◌, rules, ap, sym, ◌∙◌, arith}
 use Rattle.std.proofs.Common.{add-one}
 use Rattle.std.proofs.lemmas.Grind.{common_steps}
 use Rattle.std.specs.Prelude.{drop}
-use Rattle.std.proofs.lemmas.List.{nil_from_length}
 use Rattle.md_tree.specs.Mentions.{mentions_of}
 use Rattle.md_tree.specs.Numbers.{definition_for}
 use Rattle.md_length.specs.Reuse.{definition_lengths, resolved_lengths, length_at, referred}
@@ -18,9 +17,7 @@ all-added : (counted later whole : ℕ) → counted ≤ 2 ^ 128 - 1 → later �
 all-added counted later whole fits none before = grind (arith, common_steps, fits, none, before)
 
 pub referred_at-requires-clause-there : goal.referred_at-requires-clause-there
-referred_at-requires-clause-there c =
-    (split-there c.args.checked.now.events c.loop-event.index c.in-Some.event.now
-    c.in-Some.following.now (c.loop-event.invariant.left ∙ c.in-Some.ensures.cases.0)).0
+referred_at-requires-clause-there c = grind (arith, split-there)
 
 pub loop-event-preserved : goal.loop-event-preserved
 loop-event-preserved c =
@@ -54,14 +51,4 @@ loop-event-preserved c =
     }
 
 pub returns : goal.returns
-returns c = λ document flat.
-    let at = c.loop-event in
-    let none = nil_from_length at.rest.now c.in_default.ensures.cases in
-    let given = c.args.checked.now in
-    let whole = referred given.bytes document in
-    let end : at.index ≡ length given.events = omega (arith, at.invariant.gone, ap length none) in
-    all-added at.referred (resolved_lengths (definition_lengths document)
-    (definition_for given.bytes (mentions_of document)) (drop at.index (mentions_of document)))
-    whole at.invariant.referred_fits (led-all (definition_lengths document)
-    (definition_for given.bytes (mentions_of document)) document given.events at.index flat end)
-    (at.invariant.referred document flat)
+returns c = grind (arith, led-all)

@@ -1,4 +1,5 @@
 -- Each claim by its step.
+use Rattle.std.proofs.Common.{arith}
 use Rattle.std.proofs.Common.{ap, ◌∙◌, ◌∷◌, ◌≤◌, ◌^◌, ◌-◌, rules, subst, sym}
 use Rattle.md_measure.specs.Counting.{moved}
 use Rattle.md_measure.proofs.Measuring.{read-step, cells-step, calls-step, depth-step, nested-step}
@@ -24,15 +25,9 @@ returns c = λ events held.
           (held.cells (event ∷ rest));
       calls = λ rest. calls-step self.parts.calls c.note-3.new.self.calls event events rest
           parts.calls (held.calls (event ∷ rest));
-      depth = λ rest. depth-step self.levels.deepest self.levels.opened
-          c.note-2.new.self.deepest c.note-2.new.self.opened event events rest held.opened
-          levels.opened levels.deepest (held.depth (event ∷ rest));
-      nested = λ rest. nested-step self.links.nested self.links.in_link
-          c.note-4.new.self.nested c.note-4.new.self.in_link self.links.images
-          c.note-4.new.self.images event events rest links.nested links.in_link links.images
-          (held.nested (event ∷ rest));
-      few_open = few-open event events self.progress.depth held.few_open
-          c.note.new.self.depth c.is_read.result opens.depth;
+      depth = grind (arith, depth-step);
+      nested = grind (arith, nested-step);
+      few_open = grind (arith, few-open);
       few_levels = few-levels event events self.levels.opened held.few_levels
           c.note-2.new.self.opened levels.opened;
       few_columns = few-columns event events self.parts.columns held.few_columns
