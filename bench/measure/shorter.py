@@ -1,20 +1,19 @@
 #!/usr/bin/env python3
-"""Says which lemmas of a crate have a proof by one tactic.
+"""Says which parts of a crate's proofs one tactic proves, and can write them so.
 
-    bench/measure/shorter.py CRATE [--built CLONE] [--least LINES] [--again]
+    bench/measure/shorter.py CRATE [--built CLONE] [--write]
 
-In a copy of the crate, beside each lemma of LINES lines of proof or more (3 if it isn't given), it
-writes two of the same statement, one proved by `grind arith`, and one by `grind` with the lemmas
-that its proof cites. It checks the copy, and prints for each that passes the lines that it saves,
-most first. With --again a lemma that calls itself is tried too, clause by clause, with what it
-calls as facts. It changes nothing: write what it prints into the file, remove the imports that
-nothing uses (`rattle check --fix-imports`), and check the crate.
+A part is a clause of a lemma or of an answer, several clauses as one, a field of a record, a local
+fact that states its type, or a case of `elim`. In a copy of the crate it writes, beside each lemma,
+one more for each part, with `grind` in its place, with what the part cites as facts; it checks the
+copy, tries what passes once more with each fact left out, and prints what it has found. With
+--write it writes that into the crate, and checks it; what fails there stays as it was. Then look at
+each change: restore what said more to a reader than the tactic does.
 
-The crates below must have been built, in this clone or in CLONE, by `rt ci CRATE` there. A check
-takes some minutes, since each tactic that finds nothing runs to its limit.
+The crates below must have been built, in this clone or in CLONE, by `rt ci CRATE` there. It takes
+one minute to ten, since each tactic that finds nothing runs to its limit.
 """
 import argparse
-import os
 import pathlib
 import re
 import shutil
@@ -22,112 +21,86 @@ import subprocess
 import sys
 import tempfile
 
+import proof_parts
+
 ROOT = pathlib.Path(__file__).resolve().parents[2]
-SIGNATURE = re.compile(r"( *)(?:pub )?([a-zA-Z][^\s(){}:=]*) :(?: |$)")
-CITED = re.compile(r"[A-Za-z][^\s(){}\[\],;.]*")
-# An argument of a call: a word, or something in brackets with at most one pair of brackets in it.
-ARGUMENT = (r"(?: (?!(?:in|then|else|where|as)\b)"
-            r"(?:\((?:[^()]|\([^()]*\))*\)|\w[^\s()\[\],;∙]*|\[\]))")
-IMPORTED = re.compile(r"(?m)^use \S+\.\{(.*)\}$")
+IMPORT = re.compile(r"(?m)^use (\S+)\.\{(.*)\}$")
 REJECTED = re.compile(r"(?m)^\./(\S+?):\d+:\d+: error: `([^`]+)`")
-COMMON = "use Rattle.std.proofs.Common.{arith}"
+# `arith` has what these say.
+OF_TESTS = "Rattle.std.proofs.lemmas.Bool"
+WIDTH = 100
 
 
-def indent(line):
-    return len(line) - len(line.lstrip())
+class Trial:
+    """A lemma of a file, a part of it, and the facts that its proof is tried with."""
+
+    def __init__(self, path, lemma, part, given, rewritten):
+        self.path, self.lemma, self.part = path, lemma, part
+        self.given, self.rewritten = given, rewritten
+
+    def proof(self):
+        return proof_parts.proof_by(self.given, self.rewritten)
+
+    def with_facts(self, given):
+        return Trial(self.path, self.lemma, self.part, tuple(given), self.rewritten)
+
+    def gain(self):
+        """The lines that the file loses, as `rt fmt` lays the new ones out."""
+        new = proof_parts.replaced(self.lemma, self.part, self.proof())
+        return len(self.lemma.body) - sum(len(laid_out(line)) for line in new)
+
+    def overlaps(self, other):
+        mine = (self.part.first, self.part.begin), (self.part.last, self.part.end)
+        its = (other.part.first, other.part.begin), (other.part.last, other.part.end)
+        return (self.path, self.lemma) == (other.path, other.lemma) and (
+            mine[0] < its[1] and its[0] < mine[1])
 
 
-def lemmas(lines):
-    """The lemmas of a file: name, indent, the line after the last, statement, and clauses."""
-    at = 0
-    while at < len(lines):
-        found = SIGNATURE.match(lines[at])
-        at += 1
-        if not found:
+def laid_out(line):
+    """A line of a proof, broken before the tactic and, if need be, between its facts."""
+    found = re.match(r"(.*? (?:=|↦)) ((?:rw \S+ \()?grind \()(.*)\)(\)?[;)]?)$", line)
+    if len(line) <= WIDTH or not found:
+        return [line]
+    margin = " " * (proof_parts.indent(line) + 4)
+    whole = f"{margin}{found[2]}{found[3]}){found[4]}"
+    if len(whole) <= WIDTH:
+        return [found[1], whole]
+    facts = proof_parts.apart(found[3], ",")
+    return [found[1], margin + found[2], *(f"{margin}  {fact}," for fact in facts),
+            f"{margin}){found[4]}"]
+
+
+def importing(text):
+    """The text of a file that imports `arith` if it cites it."""
+    if any("arith" in names.split(", ") for _, names in IMPORT.findall(text)):
+        return text
+    return re.sub(r"(?m)^use ", "use Rattle.std.proofs.Common.{arith}\nuse ", text, count=1)
+
+
+def known_in(text, found):
+    """The lemmas that a file has or imports."""
+    imported = {word.strip() for path, names in IMPORT.findall(text) for word in names.split(",")
+                if ".proofs." in path and path != OF_TESTS}
+    return {lemma.name for lemma in found} | {word for word in imported if re.search("[-_]", word)}
+
+
+def trials_of(crate):
+    for path in sorted(crate.glob("proofs/**/*.antt")):
+        if path.name == "Lib.antt":
             continue
-        depth, name, begin = len(found[1]), found[2], at - 1
-        while at < len(lines) and lines[at].strip() and indent(lines[at]) > depth:
-            at += 1
-        middle = at
-        own = (name + " ", "]", ")", "}")
-        while at < len(lines) and lines[at].strip() and (
-                indent(lines[at]) > depth or lines[at][depth:].startswith(own)):
-            at += 1
-        if at > middle and lines[middle][depth:].startswith(name + " "):
-            yield name, depth, at, lines[begin:middle], lines[middle:at]
+        text = path.read_text(encoding="utf-8")
+        found = list(proof_parts.lemmas(text.split("\n")))
+        known = known_in(text, found)
+        for lemma in found:
+            for part in proof_parts.parts(lemma):
+                for given, rewritten in proof_parts.tactics(lemma, part, known):
+                    trial = Trial(path.relative_to(crate), lemma, part, given, rewritten)
+                    if trial.gain() > 0:
+                        yield trial
 
 
-def patterns(clause, name):
-    """The arguments on the left side of a clause."""
-    left, parts, depth = clause.split(" =", 1)[0].strip()[len(name):], [""], 0
-    for mark in left:
-        depth += (mark in "([{") - (mark in ")]}")
-        if mark.isspace() and depth == 0:
-            parts.append("")
-        else:
-            parts[-1] += mark
-    return [part for part in parts if part]
-
-
-def clauses(body, name, depth):
-    """The clauses of a proof, each with its lines joined."""
-    joined = []
-    for line in body:
-        if line[depth:].startswith(name + " "):
-            joined.append("")
-        joined[-1] += " " + line.strip()
-    return joined
-
-
-def tactics(name, body, depth, known, again):
-    """Shorter proofs of a lemma: each a list of left and right sides."""
-    text = "\n".join(body)
-    cited = [word for word in dict.fromkeys(CITED.findall(text)) if word in known and word != name]
-    parts = clauses(body, name, depth)
-    if any("{" in part.split(" =", 1)[0] for part in parts):
-        return []
-    call = re.compile(rf"(?<![^\s(])({re.escape(name)}{ARGUMENT}+)")
-    calls = [call.findall(part.split(" =", 1)[1]) if " =" in part else [] for part in parts]
-    if not any(calls):
-        variables = " ".join(f"x{k}" for k in range(1, len(patterns(parts[0], name)) + 1))
-        given = [[], cited] if cited else [[]]
-        return [[(variables, f"grind ({', '.join(['arith', *facts])})")] for facts in given]
-    if not again:
-        return []
-    return [[(" ".join(patterns(part, name)),
-              f"grind ({', '.join(['arith', *cited, *facts])})")
-             for part, facts in zip(parts, calls)]]
-
-
-def tried(path, least, again):
-    """Writes the shorter proofs beside each lemma of a file; returns what each would save."""
-    text = path.read_text(encoding="utf-8")
-    lines = text.split("\n")
-    imported = {word.strip() for names in IMPORTED.findall(text) for word in names.split(",")}
-    found = list(lemmas(lines))
-    known = {one[0] for one in found} | {word for word in imported if "-" in word or "_" in word}
-    saved = {}
-    for name, depth, end, statement, body in reversed(found):
-        # a helper below `where` is refused under the name of the lemma that it belongs to
-        if len(body) < least or depth > 2 or any(line.strip() == "where" for line in body):
-            continue
-        for number, proof in enumerate(tactics(name, body, depth, known, again)):
-            other = f"{name}_shorter{number}"
-            new = [re.sub(rf"{re.escape(name)} :", f"{other} :", statement[0], count=1),
-                   *statement[1:]]
-            own = [" " * depth + f"{name} {left} = {right}" for left, right in proof]
-            new += [line.replace(f"{name} ", f"{other} ", 1) for line in own]
-            lines[end:end] = ["", *new]
-            saved[other] = (len(body) - len(own), path, name, "\n".join(own))
-    if saved and not any("arith" in names.split(", ") for names in IMPORTED.findall(text)):
-        first = next(k for k, line in enumerate(lines) if line.startswith("use "))
-        lines.insert(first, COMMON)
-    path.write_text("\n".join(lines), encoding="utf-8")
-    return saved
-
-
-def check(crate, copy, built):
-    """The messages of a check of the copy."""
+def checked(crate, folder, built, *words):
+    """The messages of a check of the crate that stands in a folder."""
     guide = subprocess.check_output(["rt", "doc"], text=True).strip()
     kit = pathlib.Path(guide).parent
     below = re.search(rf"(?m)^{crate}(?: staticlib)?: *(.*)$",
@@ -141,9 +114,100 @@ def check(crate, copy, built):
     for own in sorted(built.glob("crates/*/out/rlib")):
         command += ["-L", f"dependency={own}"]
     command += ["--antt-project", f"{kit}/rattle/logic/antt-project.json", "--logic-built",
-                f"{kit}/logic_built", "--links", f"{crate}=", "--jobs", "1", "--empty-contracts"]
-    done = subprocess.run(command, cwd=copy, capture_output=True, text=True)
+                f"{kit}/logic_built", "--links", f"{crate}=", "--jobs", "1", "--empty-contracts",
+                *words]
+    done = subprocess.run(command, cwd=folder, capture_output=True, text=True)
     return done.stdout + done.stderr
+
+
+def write_beside(path, trials):
+    """Writes, after each lemma of a file, the lemmas that have a part proved in another way."""
+    lines = path.read_text(encoding="utf-8").split("\n")
+    for number, trial in sorted(trials, key=lambda numbered: -numbered[1].lemma.end):
+        lemma, other = trial.lemma, f"{trial.lemma.name}_part{number}"
+        named = re.sub(rf"^( *)(?:pub )?{re.escape(lemma.name)} :", rf"\1{other} :",
+                       lemma.statement[0])
+        margin = " " * lemma.depth
+        body = [margin + other + line[lemma.depth + len(lemma.name):]
+                if line.startswith(f"{margin}{lemma.name} ") else line
+                for line in proof_parts.replaced(lemma, trial.part, trial.proof())]
+        lines[lemma.end:lemma.end] = ["", named, *lemma.statement[1:], *body]
+    path.write_text(importing("\n".join(lines)), encoding="utf-8")
+
+
+def passing(crate, built, trials):
+    """Those of some trials that a check of a copy of the crate accepts."""
+    with tempfile.TemporaryDirectory() as folder:
+        copy = pathlib.Path(folder) / crate
+        shutil.copytree(ROOT / "crates" / crate, copy,
+                        ignore=shutil.ignore_patterns("out", "must-fail"))
+        numbered = list(enumerate(trials))
+        for path in {trial.path for trial in trials}:
+            write_beside(copy / path, [one for one in numbered if one[1].path == path])
+        messages = checked(crate, copy, built)
+    others = [line for line in messages.splitlines()
+              if " error: " in line and not re.search(r"error: `[^`]*_part\d+`", line)]
+    if others or "logic=" not in messages:
+        sys.exit("shorter: the copy has other faults, so nothing is known:\n"
+                 + ("\n".join(others) or messages))
+    rejected = set(REJECTED.findall(messages))
+    return [trial for number, trial in numbered
+            if (str(trial.path), f"{trial.lemma.name}_part{number}") not in rejected]
+
+
+def longest(trials):
+    """Parts that don't overlap, the longest first."""
+    chosen = []
+    for trial in sorted(trials, key=lambda one: (-(one.part.last - one.part.first), -one.gain())):
+        if not any(trial.overlaps(other) for other in chosen):
+            chosen.append(trial)
+    return chosen
+
+
+def with_few_facts(crate, built, chosen):
+    """The trials without the facts that they pass without."""
+    fewer = [(at, fact, trial.with_facts(one for one in trial.given if one != fact))
+             for at, trial in enumerate(chosen) for fact in trial.given]
+    passed = set(passing(crate, built, [trial for _, _, trial in fewer]))
+    spare, one_less = {}, {}
+    for at, fact, trial in fewer:
+        if trial in passed:
+            spare.setdefault(at, []).append(fact)
+            one_less.setdefault(at, trial)
+    least = {at: chosen[at].with_facts(one for one in chosen[at].given if one not in facts)
+             for at, facts in spare.items()}
+    passed = set(passing(crate, built, list(least.values())))
+    return [least[at] if least.get(at) in passed else one_less.get(at, trial)
+            for at, trial in enumerate(chosen)]
+
+
+def write_into(crate, built, found):
+    """Writes what was found into the crate, but for the lemmas that the check then rejects."""
+    folder = ROOT / "crates" / crate
+    old = {trial.path: (folder / trial.path).read_text(encoding="utf-8") for trial in found}
+    while found:
+        for path, text in old.items():
+            lines = text.split("\n")
+            mine = [trial for trial in found if trial.path == path]
+            for lemma in reversed(list(proof_parts.lemmas(lines))):
+                new = lemma
+                for trial in sorted((one for one in mine if one.lemma == lemma),
+                                    key=lambda one: (-one.part.first, -one.part.begin)):
+                    body = proof_parts.replaced(new, trial.part, trial.proof())
+                    new = proof_parts.dataclasses.replace(new, body=tuple(body))
+                lines[lemma.end - len(lemma.body):lemma.end] = [
+                    part for line in new.body for part in laid_out(line)]
+            (folder / path).write_text(
+                importing("\n".join(lines)) if mine else text, encoding="utf-8")
+        messages = checked(crate, folder, built, "--fix-imports")
+        rejected = set(REJECTED.findall(messages))
+        if "logic=proved" in messages:
+            subprocess.run(["rt", "fmt"], cwd=folder, check=True)
+            break
+        if not any((str(one.path), one.lemma.name) in rejected for one in found):
+            sys.exit(messages)
+        found = [one for one in found if (str(one.path), one.lemma.name) not in rejected]
+    return found
 
 
 def main():
@@ -151,27 +215,18 @@ def main():
         description=__doc__, formatter_class=argparse.RawDescriptionHelpFormatter)
     parser.add_argument("crate")
     parser.add_argument("--built", type=pathlib.Path, default=ROOT)
-    parser.add_argument("--least", type=int, default=3)
-    parser.add_argument("--again", action="store_true")
+    parser.add_argument("--write", action="store_true")
     given = parser.parse_args()
-    with tempfile.TemporaryDirectory() as folder:
-        copy = pathlib.Path(folder) / given.crate
-        shutil.copytree(ROOT / "crates" / given.crate, copy, ignore=shutil.ignore_patterns("out"))
-        saved = {}
-        for path in sorted(copy.glob("proofs/*.antt")):
-            if path.name != "Lib.antt":
-                saved.update({(path.name, other): what
-                              for other, what in tried(path, given.least, given.again).items()})
-        messages = check(given.crate, copy, given.built.resolve())
-    others = [line for line in messages.splitlines()
-              if " error: " in line and "_shorter" not in line]
-    if others:
-        sys.exit("shorter: the copy has other faults, so nothing is known:\n" + "\n".join(others))
-    rejected = {(os.path.basename(path), name) for path, name in REJECTED.findall(messages)}
-    passed = [what for key, what in saved.items() if key not in rejected]
-    for lines, path, name, proof in sorted(passed, key=lambda what: -what[0]):
-        print(f"{lines} lines less: proofs/{path.name}\n{proof}\n")
-    print(f"{len(passed)} of {len(saved)} tried pass, {len({what[2] for what in passed})} lemmas")
+    built = given.built.resolve()
+    trials = list(trials_of(ROOT / "crates" / given.crate))
+    print(f"{len(trials)} tried", flush=True)
+    found = with_few_facts(given.crate, built, longest(passing(given.crate, built, trials)))
+    for trial in found:
+        print(f"{trial.gain()} lines less: {trial.path}, a {trial.part.kind} of "
+              f"{trial.lemma.name}\n    {trial.proof()}")
+    if given.write:
+        found = write_into(given.crate, built, found)
+    print(f"{len(found)} parts, {sum(trial.gain() for trial in found)} lines less")
 
 
 if __name__ == "__main__":

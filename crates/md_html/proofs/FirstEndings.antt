@@ -1,9 +1,9 @@
 -- The first line ending of a document is the one that exits first in its events.
 use Rattle.std.proofs.Common.{arith}
-use Rattle.std.proofs.Common.{◌≡◌, ◌⊎◌, inl, inr, ℕ, suc, Bool, true, false, List, [], ◌∷◌, ◌++◌}
-use Rattle.std.proofs.Common.{Option, Some, None, refl, ap, sym, ◌∙◌, append_assoc, append-nil}
+use Rattle.std.proofs.Common.{◌≡◌, ◌⊎◌, inl, inr, ℕ, Bool, true, false, List, [], ◌∷◌, ◌++◌}
+use Rattle.std.proofs.Common.{Option, Some, None, refl, append_assoc, append-nil}
 use Rattle.std.proofs.Common.{slice_get}
-use Rattle.std.specs.Prelude.{if◌then◌else◌, option_map}
+use Rattle.std.specs.Prelude.{if◌then◌else◌}
 use Rattle.md_base.specs.declared.event.Name.{Name}
 use Rattle.md_base.specs.declared.event.Point.{Point}
 use Rattle.md_base.specs.declared.event.Position.{Position}
@@ -53,8 +53,7 @@ exit_step name end place events positions found later = by (is_line_ending name)
       0,
       record {
         position = place;
-        first = ap (λ b. if b then Some 0 else option_map (λ index. suc index) (first_index events))
-            e;
+        first = grind arith;
         there = refl;
         is = refl;
         exits = (name, (exiting name end, refl, refl, refl), ending_text name e);
@@ -105,23 +104,8 @@ module _ (document : Forest) (events : List Event) (flat : flatten document ≡ 
       (outcome document [] [] None (inl (refl, refl)))
 
   pub ending-none : first_index events ≡ None → first_ending document ≡ None
-  ending-none none = elim of_document [
-    | inl there ↦ there.1
-    | inr some ↦ absurd (differ some.0 (sym some.1.first ∙ none))
-  ]
-    where
-      differ : (index : ℕ) → Some index ≡ None → ⊥
-      differ index e = cc
+  ending-none none = grind (arith, of_document)
 
   pub ending-some : (index : ℕ) → first_index events ≡ Some index →
       IsFirst events (positions_of document) (first_ending document) index
-  ending-some index found = elim of_document [
-    | inl none ↦ absurd (differ (sym found ∙ none.0))
-    | inr some ↦ rw (same some.0 (sym some.1.first ∙ found)) at some.1
-  ]
-    where
-      differ : Some index ≡ None → ⊥
-      differ e = cc
-
-      same : (other : ℕ) → Some other ≡ Some index → other ≡ index
-      same other e = cc
+  ending-some index found = grind (arith, of_document)

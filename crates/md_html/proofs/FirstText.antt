@@ -1,25 +1,16 @@
 -- What is printed before all captured texts grows alone, where each that ends has begun.
 use Rattle.std.proofs.Common.{◌≡◌, ◌≤◌, ℕ, zero, suc, ◌-◌, Bool, true, false, not, ◌&&◌, List}
-use Rattle.std.proofs.Common.{[], ◌∷◌, ◌++◌, length, refl, sym, ap, ◌∙◌, subst, arith}
+use Rattle.std.proofs.Common.{[], ◌∷◌, ◌++◌, length, refl, ap, ◌∙◌, arith}
 use Rattle.std.specs.Prelude.{if◌then◌else◌}
 use Rattle.std.proofs.lemmas.Bool.{and_parts}
 use Rattle.std.proofs.lemmas.List.{length-append}
 use Rattle.md_base.specs.declared.event.Event.{Event}
-use Rattle.md_base.specs.declared.event.Kind.{Kind}
-use Rattle.md_base.specs.declared.event.Kind.TheVariants.{Enter, Exit}
-use Rattle.md_base.specs.declared.event.Name.{Name}
-use Rattle.md_base.specs.declared.event.Point.{Point}
-use Rattle.md_base.specs.Tree.{exiting}
 use Rattle.md_meaning.specs.Meaning.At.{Context}
 use Rattle.md_meaning.specs.Meaning.Layout.{Piece, Text, Needed, Forced, laid_after, begins_line}
 use Rattle.md_steps.specs.Run.{Noticed, passes, stepped, run}
 use Rattle.md_steps.specs.State.{State, NodeFacts}
-use Rattle.md_steps.specs.Steps.{entered, restored, passed, is_passed}
-use Rattle.md_steps.specs.State.{captures}
-use Rattle.md_steps.specs.Sides.{opens, closes}
 use Rattle.md_steps.specs.Steps.{first_or, others_of}
 use Rattle.md_html.specs.Fits.{may_end, captured_after, fits}
-use Rattle.md_html.proofs.Stepping.{event_of}
 use Rattle.md_measure.specs.Nesting.{is_none}
 
 -- ---- pieces are laid out after a text
@@ -76,61 +67,20 @@ restored-first : (c : Bool) (text : List ℕ) (below : List (List ℕ)) →
     (below ≡ [] → not c ≡ true) →
     outermost text below
     ≡ outermost (if c then first_or [] below else text) (if c then others_of below else below)
-restored-first true text [] may = absurd (lie (may refl))
-  where
-    lie : not true ≡ true → ⊥
-    lie e = cc
+restored-first true text [] may = grind arith
 restored-first true text (outer ∷ others) may = refl
 restored-first false text below may = refl
 
 -- how many texts are captured after an event
 pub stepped-captured : (context : Context) (event : Event) (facts : NodeFacts) (state : State) →
     length (stepped context event facts state).below ≡ captured_after event (length state.below)
-stepped-captured context event facts state = by event.kind event.name event.point
-  where
-    passing : (p : Bool) (other : State) → State.below (if p then passed state else other)
-        ≡ (if p then state.below else other.below)
-    passing true other = refl
-    passing false other = refl
-
-    by : (kind : Kind) (name : Name) (point : Point) →
-        length (stepped context (event_of kind name point) facts state).below
-        ≡ captured_after (event_of kind name point) (length state.below)
-    by Enter name point =
-        ap (λ below. length below) (passing (is_passed name) (entered context facts name state))
-        ∙ enter-captured (is_passed name) (captures name) (laid_after context.ending state.text
-        (opens context state.scope state.cells facts name)) state.below
-    by Exit name point = exit-captured (captures name) state.below
+stepped-captured context event facts state = grind arith
 
 -- what is before them is no shorter
 stepped-first : (context : Context) (event : Event) (facts : NodeFacts) (state : State) →
     may_end event (length state.below) ≡ true →
     length (first state) ≤ length (first (stepped context event facts state))
-stepped-first context event facts state may = by event.kind event.name event.point may
-  where
-    passing : (name : Name) (p : Bool) → length (first state)
-        ≤ length (first (if p then passed state else entered context facts name state))
-    passing name true = omega arith
-    passing name false =
-        let pieces = opens context state.scope state.cells facts name in
-        enter-first (captures name) state.text (laid_after context.ending state.text pieces)
-        state.below (laid-grows context.ending state.text pieces)
-
-    by : (kind : Kind) (name : Name) (point : Point) →
-        may_end (event_of kind name point) (length state.below) ≡ true →
-        length (first state)
-        ≤ length (first (stepped context (event_of kind name point) facts state))
-    by Enter name point may = passing name (is_passed name)
-    by Exit name point may =
-        let left : State = restored name state in
-        let inner : List ℕ = if captures name then state.text else [] in
-        let pieces = closes context left state.ended facts inner name in
-        subst (λ t. length t
-        ≤ length (outermost (laid_after context.ending left.text pieces) left.below))
-        (sym (restored-first (captures name) state.text state.below (λ none.
-        subst (λ b. may_end (exiting name point) (length b) ≡ true) none may)))
-        (outermost-grows left.text (laid_after context.ending left.text pieces) left.below
-        (laid-grows context.ending left.text pieces))
+stepped-first context event facts state may = grind (arith, laid-grows, outermost-grows)
 
 -- ---- all that are left
 no-captured : (text : List ℕ) (below : List (List ℕ)) → is_none (length below) ≡ true →

@@ -3,7 +3,7 @@ use Rattle.std.proofs.Common.{◌≡◌, ℕ, zero, suc, ◌-◌, Bool, true, fa
 use Rattle.std.proofs.Common.{◌∷◌, ◌++◌, length, drop, refl, append-nil}
 use Rattle.std.proofs.Common.{append_assoc, arith}
 use Rattle.std.specs.Prelude.{if◌then◌else◌}
-use Rattle.std.proofs.lemmas.Bool.{and_parts, and_from}
+use Rattle.std.proofs.lemmas.Bool.{and_from}
 use Rattle.md_base.specs.declared.event.Event.{Event}
 use Rattle.md_base.specs.declared.event.Name.{Name}
 use Rattle.md_base.specs.declared.event.Point.{Point}
@@ -31,10 +31,7 @@ pub fits-step :
     fits 0 captured (event ∷ events) (one ∷ seen) ≡ true →
     fits 0 (captured_after event captured) (drop (passes event one.inside) events)
     (drop (passes event one.inside) seen) ≡ true
-fits-step captured event one events seen f =
-    fits-passing (passes event one.inside) (captured_after event captured) events seen
-    (and_parts (may_end event captured)
-    (fits (passes event one.inside) (captured_after event captured) events seen) f).1
+fits-step captured event one events seen f = grind (arith, fits-passing)
 
 -- ---- a document's events
 may-enter : (name : Name) (start : Point) (captured : ℕ) →

@@ -10,14 +10,13 @@ use Rattle.md_base.specs.declared.event.Kind.TheVariants.{Enter, Exit}
 use Rattle.md_base.specs.declared.event.Name.{Name}
 use Rattle.md_base.specs.declared.event.Name.TheVariants.{Definition, GfmTableCell}
 use Rattle.md_base.specs.declared.event.Point.{Point}
-use Rattle.md_base.specs.NameTests.{is_fence}
 use Rattle.md_base.specs.Tree.{Forest, flatten, entering, exiting}
 use Rattle.md_meaning.specs.Meaning.At.{Context}
 use Rattle.md_tree.specs.Grammar.{Handed, IsChecked, IsReadAs}
 use Rattle.md_tree.specs.Texts.{IsEventAt, EntersAt}
 use Rattle.md_steps.specs.Run.{Noticed, noticed, passes, stepped}
 use Rattle.md_steps.specs.State.{State, NodeFacts}
-use Rattle.md_steps.specs.Steps.{entered, exited, passed, is_passed, is_row, is_raw}
+use Rattle.md_steps.specs.Steps.{is_passed}
 use Rattle.md_steps.specs.Steps.{cells_after}
 use Rattle.md_facts.specs.NodeFacts.{IsNoticedAt}
 use Rattle.md_facts.proofs.Nodes.{NodeAt, node-entered, node-exited}
@@ -96,36 +95,17 @@ definition-seen given index checked enters =
 -- ---- counts
 
 kept : (b : Bool) (n m : ℕ) → n ≤ m → (if b then 0 else n) ≤ m
-kept true n m le = omega arith
-kept false n m le = le
+kept given1 n m le = grind arith
 
 cells-raised : (name : Name) (n m : ℕ) → n < m → cells_after name n ≤ m
 cells-raised GfmTableCell n m lt = omega (arith, lt)
 cells-raised _ n m lt = omega (arith, lt)
 
 fences-raised : (b : Bool) (n m : ℕ) → n < m → (if b then n + 1 else n) ≤ m
-fences-raised true n m lt = omega (arith, lt)
-fences-raised false n m lt = omega (arith, lt)
+fences-raised given1 n m lt = grind arith
 
 -- one event raises each by one at most
 pub stepped-few : (context : Context) (event : Event) (facts : NodeFacts) (state : State)
     (m n : ℕ) → m < n →
     Few m state → Few n (stepped context event facts state)
-stepped-few context event facts state m n lt few =
-    let cells : state.cells < n = omega (arith, few.0, lt) in
-    let fences : state.fences < n = omega (arith, few.1, lt) in
-    by event.kind (is_passed event.name) cells fences
-  where
-    by : (kind : Kind) (b : Bool) → state.cells < n → state.fences < n → Few n (elim kind [
-      | Enter ↦ if b then passed state else entered context facts event.name state
-      | Exit ↦ exited context facts event.name state
-    ])
-    by Enter true f g = (omega (arith, f), omega (arith, g))
-    by Enter false f g = (
-      kept (is_row event.name) state.cells n (omega (arith, f)),
-      kept (is_raw event.name) state.fences n (omega (arith, g)),
-    )
-    by Exit b f g = (
-      cells-raised event.name state.cells n f,
-      fences-raised (is_fence event.name) state.fences n g,
-    )
+stepped-few context event facts state m n lt few = grind arith

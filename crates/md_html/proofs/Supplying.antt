@@ -3,7 +3,7 @@
 use Rattle.std.proofs.Common.{arith}
 use Rattle.std.proofs.Common.{◌≡◌, ◌<◌, ℕ, Bool, true, false, Option, Some, None, List}
 use Rattle.std.proofs.Common.{[], length, refl, sym, ap, ◌∙◌, subst}
-use Rattle.std.specs.Prelude.{slice_get, map, option_map, unwrap_or, option_and_then, if◌then◌else◌}
+use Rattle.std.specs.Prelude.{slice_get, map, option_and_then, if◌then◌else◌}
 use Rattle.std.specs.Option.{option_map_or}
 use Rattle.std.proofs.lemmas.Option.{slice_get-map}
 use Rattle.md_base.specs.Reference.{name_table}
@@ -29,14 +29,7 @@ mapped-led : (found : List Defined) (place : Option ℕ) →
     ≡ option_map_or (λ (d : Defined). d.target)
     (option_and_then (λ there. slice_get found there) place) nowhere
 mapped-led found None = refl
-mapped-led found (Some place) =
-    ap (λ o. unwrap_or o nowhere) (slice_get-map (λ (d : Defined). d.target) found place)
-    ∙ by (slice_get found place)
-  where
-    by : (o : Option Defined) → unwrap_or (option_map (λ (d : Defined). d.target) o) nowhere
-        ≡ option_map_or (λ (d : Defined). d.target) o nowhere
-    by None = refl
-    by (Some d) = refl
+mapped-led found (Some place) = grind (arith, slice_get-map)
 
 module _ (code : Supplied) (named : name_table code.names.now ≡ code.checked.now.names) where
   -- before the definitions are known

@@ -1,12 +1,9 @@
 -- Where HTML is escaped the tag filter changes no meaning.
 use Rattle.std.proofs.Common.{arith}
-use Rattle.std.proofs.Common.{◌≡◌, ℕ, Bool, true, false, ◌&&◌, zero, suc, List, [], ◌++◌}
+use Rattle.std.proofs.Common.{◌≡◌, ℕ, Bool, false, ◌&&◌, zero, suc, List, [], ◌++◌}
 use Rattle.std.proofs.Common.{refl, ap, ◌∙◌}
-use Rattle.std.specs.Prelude.{if◌then◌else◌, ◌==◌, codes}
-use Rattle.std.proofs.lemmas.Bool.{true≢false}
 use Rattle.md_base.specs.declared.event.Name.{Name}
 use Rattle.md_base.specs.declared.event.Name.TheVariants.{BlockQuote}
-use Rattle.md_text.specs.Filter.{tag_filtered}
 use Rattle.md_base.specs.Tree.{Forest, Empty, Node}
 use Rattle.md_base.specs.Children.{is_empty}
 use Rattle.md_pattern.specs.Looseness.{is_loose}
@@ -17,12 +14,12 @@ use Rattle.md_tree.specs.Rules.{place}
 use Rattle.md_meaning.specs.Meaning.Finds.{first_ending}
 use Rattle.md_meaning.specs.Meaning.{meaning, ending_at}
 use Rattle.md_meaning.specs.Meaning.Layout.{Piece, layout}
-use Rattle.md_meaning.specs.Meaning.At.{Context, Defined, Footnote, At, Before, text_in}
+use Rattle.md_meaning.specs.Meaning.At.{Context, Defined, Footnote, At, Before}
 use Rattle.md_meaning.specs.Meaning.Before.{nothing_before, before_children}
 use Rattle.md_meaning.specs.Meaning.Spans.{html}
 use Rattle.md_meaning.specs.Meaning.Means.{prints}
 use Rattle.md_meaning.specs.Meaning.Nodes.{Outcome, outcome, node, both, continued, before_next}
-use Rattle.md_meaning.specs.Meaning.Footnotes.{backreference, backreferences}
+use Rattle.md_meaning.specs.Meaning.Footnotes.{backreferences}
 use Rattle.md_meaning.specs.Meaning.Footnotes.{item}
 use Rattle.md_meaning.specs.Meaning.Footnotes.{section}
 
@@ -37,16 +34,7 @@ under filter context = record context { options = filtering filter context.optio
 html-moot : (filter : Bool) (context : Context) (at : At) → context.options.allow_dangerous_html ≡
     false →
     html (under filter context) at ≡ html context at
-html-moot filter context at h = if_allowed context.options.allow_dangerous_html h
-  where
-    if_allowed : (allow : Bool) → allow ≡ false →
-        (if allow && filter then tag_filtered (text_in context.bytes at.place)
-        else text_in context.bytes at.place)
-        ≡ (if allow && context.options.gfm_tagfilter then tag_filtered
-        (text_in context.bytes at.place)
-        else text_in context.bytes at.place)
-    if_allowed true e = absurd (true≢false e)
-    if_allowed false e = refl
+html-moot filter context at h = grind arith
 
 means-moot : (filter : Bool) (context : Context) (at : At) →
     context.options.allow_dangerous_html ≡ false →
@@ -102,10 +90,7 @@ ways_back-moot :
     backreferences (filtering filter options) identifier number count
     ≡ backreferences options identifier number count
 ways_back-moot filter options identifier number zero = refl
-ways_back-moot filter options identifier number (suc count) =
-    ap (λ back. back ++ ((if count == 0 then [] else codes " ")
-    ++ backreference options identifier number (suc count)))
-    (ways_back-moot filter options identifier number count)
+ways_back-moot filter options identifier number (suc count) = grind arith
 
 item-moot :
     (filter : Bool) (context : Context) (footnotes : List Footnote) (identifier : List ℕ) →

@@ -1,6 +1,6 @@
 -- The events between two indices, in sequence.
 use Rattle.std.proofs.Common.{◌≡◌, ◌≤◌, ◌<◌, ℕ, zero, suc, ◌+◌, Some, List, [], ◌∷◌, length, take}
-use Rattle.std.proofs.Common.{drop, refl, sym, ap, ◌∙◌, arith, add-one, take_all, length-take}
+use Rattle.std.proofs.Common.{drop, refl, ap, ◌∙◌, arith, add-one, take_all, length-take}
 use Rattle.std.proofs.Common.{drop-drop, get_or-take}
 use Rattle.std.specs.Prelude.{slice_get}
 use Rattle.std.proofs.lemmas.List.{drop_more, drop_all}
@@ -54,8 +54,7 @@ pub run-passing :
     run context left events seen state ≡ run context 0 (drop left events) (drop left seen) state
 run-passing context zero events seen state = refl
 run-passing context (suc left) [] seen state = refl
-run-passing context (suc left) (event ∷ events) [] state =
-    sym (run-none context 0 (drop left events) state)
+run-passing context (suc left) (event ∷ events) [] state = grind (arith, run-none)
 run-passing context (suc left) (event ∷ events) (one ∷ seen) state =
     run-passing context left events seen state
 
@@ -63,5 +62,4 @@ run-passing context (suc left) (event ∷ events) (one ∷ seen) state =
 pub window-end : (context : Context) (events : List Event) (seen : List Noticed) (i to : ℕ)
     (state : State) → to ≤ i →
     run context 0 (window i to events) (window i to seen) state ≡ state
-window-end context events seen i to state le =
-    ap (λ es. run context 0 es (window i to seen) state) (window-none events i to le)
+window-end context events seen i to state le = grind (arith, window-none)

@@ -1,4 +1,5 @@
 -- The first line ending of the document is that of the event that was found.
+use Rattle.std.proofs.Common.{arith}
 use Rattle.std.proofs.Common.{[], ◌∙◌, ap, sym}
 use Rattle.std.specs.Prelude.{unwrap_or}
 use Rattle.md_tree.specs.Grammar.{IsReadAs}
@@ -21,8 +22,4 @@ returns-in-Some-clause-ending c = λ document flat.
     ∙ ap (λ t. unwrap_or t []) text)
 
 pub returns-in-None-clause-ending : goal.returns-in-None-clause-ending
-returns-in-None-clause-ending c = λ document flat.
-    let none = ending-none document c.args.checked.now.events flat
-    (sym c.first_ending.ensures.index ∙ c.in-None.is) in
-    c.as_str.ensures
-    ∙ sym (ap (λ place. ending_at c.args.options.now c.args.checked.now.bytes place) none)
+returns-in-None-clause-ending c = grind (arith, ending-none)

@@ -1,5 +1,5 @@
 -- The text of all events with the section of footnotes, or that it is longer than the limit.
-use Rattle.std.proofs.Common.{rules, ◌≡◌, length, ap, arith}
+use Rattle.std.proofs.Common.{rules, ◌≡◌, length, arith}
 use Rattle.std.specs.Prelude.{string_bytes}
 use Rattle.md_html.specs.Printed.{IsPrinted}
 use Rattle.md_html.proofs.Long.{printed, longer-text}
@@ -25,13 +25,7 @@ returns-else-is_whole c = record {
         (c.in_ok-is_whole.ensures.whole w.if-is_whole.true) c.in_ok-text.ensures in
         let size : w.len.result ≡ length text = search rules in
         record {
-          is = λ at document supplies flat.
-              omega (
-                arith,
-                w.if-len-limit.false,
-                size,
-                ap (λ t. length t) (whole.is at document supplies flat),
-              );
+          is = grind arith;
         }
     | goal.else-is_whole-via-else-is_whole w ↦
         longer-text _ c.args.limit (c.in_ok-is_whole.ensures.too_long w.if-is_whole.false)

@@ -1,16 +1,13 @@
 -- Each iteration continues where the previous one ended; a text that is too long while nothing is
 -- captured stays so.
 use Rattle.std.proofs.Common.{rules, ◌≤◌, length, ap, arith}
-use Rattle.md_html.specs.Stepping.{Few, Goes}
+use Rattle.md_html.specs.Stepping.{Goes}
 use Rattle.md_html.proofs.Turns.{goes-few, goes-on}
 use Rattle.md_html.proofs.Long.{whole-run, longer-run}
 use Rattle.md_html.proofs.rendering_within.run_events_within.Goals as goal
 
 pub run_events-requires-clause-few : goal.run_events-requires-clause-few
-run_events-requires-clause-few c =
-    let none : Few 0 c.args.printer.now = rw c.requires.new (omega arith, omega arith) in
-    goes-few _ _ _ _ _ _ c.requires.supplied c.events-count.ensures.grammatical
-    c.loop-index.invariant none
+run_events-requires-clause-few c = grind (arith, goes-few)
 
 pub loop-index-preserved : goal.loop-index-preserved
 loop-index-preserved c =
@@ -29,9 +26,4 @@ returns-then-is_longer-clause-too_long c = λ no.
     c.args.limit (c.is_longer.ensures c.if-is_longer.true)
 
 pub returns-clause-whole : goal.returns-clause-whole
-returns-clause-whole c = λ yes.
-    let count = length c.events-count.result.now in
-    let past : count ≤ c.loop-index.index = search rules in
-    whole-run _ c.loop-index.index count c.loop-index.printer
-    (ap (λ es. length es) c.events-count.ensures.events)
-    (rw c.requires.new at c.loop-index.invariant) past
+returns-clause-whole c = grind (arith, whole-run)

@@ -1,5 +1,5 @@
 -- Each iteration continues where the previous one ended.
-use Rattle.std.proofs.Common.{◌≡◌, ◌≤◌, ◌<◌, ℕ, Some, List, length, get_or, sym, ap, ◌∙◌, arith}
+use Rattle.std.proofs.Common.{◌≡◌, ◌≤◌, ◌<◌, ℕ, Some, List, length, get_or, ap, arith}
 use Rattle.std.specs.Prelude.{slice_get}
 use Rattle.std.proofs.lemmas.Option.{slice_get-get_or}
 use Rattle.md_base.specs.declared.event.Event.{Event}
@@ -9,22 +9,13 @@ use Rattle.md_html.proofs.running.run_events.Goals as goal
 
 there : (events found : List Event) (index to : ℕ) (other : Event) → found ≡ events → index < to →
     to ≤ length events → slice_get events index ≡ Some (get_or found index other)
-there events found index to other same lt le =
-    ap (λ es. slice_get es index) (sym same)
-    ∙ slice_get-get_or found index other (omega (arith, ap (λ es. length es) same, lt, le))
+there events found index to other same lt le = grind (arith, slice_get-get_or)
 
 pub step-requires-clause-there : goal.step-requires-clause-there
-step-requires-clause-there c =
-    there _ c.events-events.result.now c.loop-index.index c.args.to _
-    c.events-events.ensures.events c.loop-index-test.true c.requires.within
+step-requires-clause-there c = grind (arith, there)
 
 pub step-requires-clause-few : goal.step-requires-clause-few
-step-requires-clause-few c =
-    let few = goes-few _ _ _ _ _ _ c.requires.supplied c.events-events.ensures.grammatical
-    c.loop-index.invariant c.requires.few in
-    let count = ap (λ es. length es) c.events-events.ensures.events in
-    rw (c.in_ok-leaf.ensures.same c.if-branch.false)
-    (omega (arith, few.0, count), omega (arith, few.1, count))
+step-requires-clause-few c = grind (arith, goes-few)
 
 pub overflow_add-index-else-branch : goal.overflow_add-index-else-branch
 overflow_add-index-else-branch c =
@@ -45,12 +36,7 @@ overflow_add-index-else-branch-2 c =
     omega (arith, within, ap (λ es. length es) c.events-events.ensures.events)
 
 pub loop-index-preserved-then-branch : goal.loop-index-preserved-then-branch
-loop-index-preserved-then-branch c =
-    goes-leaf _ c.args.from c.loop-index.index c.args.to _ c.args.printer.now c.loop-index.printer
-    c.leaf.new.printer
-    (there _ c.events-events.result.now c.loop-index.index c.args.to _
-    c.events-events.ensures.events c.loop-index-test.true c.requires.within)
-    c.loop-index.invariant (c.in_ok-leaf.ensures.left c.if-branch.true)
+loop-index-preserved-then-branch c = grind (arith, goes-leaf, there)
 
 pub loop-index-preserved : goal.loop-index-preserved
 loop-index-preserved c =

@@ -1,8 +1,8 @@
 -- The checked events are those of the arguments, so a text is the meaning of their document, and
 -- facts about each meaning hold for it.
-use Rattle.std.proofs.Common.{rules, ◌≡◌, ◌≤◌, ◌<◌, ◌^◌, inr, length, string_bytes, arith, Result}
+use Rattle.std.proofs.Common.{rules, ◌≡◌, ◌≤◌, ◌<◌, ◌^◌, length, string_bytes, arith, Result}
 use Rattle.std.proofs.Common.{Ok, Err, sym, ◌∙◌, subst, ℕ, Bool, false, nat_lt}
-use Rattle.std.proofs.lemmas.Bool.{ltb-true, ltb-false}
+use Rattle.std.proofs.lemmas.Bool.{ltb-false}
 use Rattle.std.specs.Prelude.{IfErr}
 use Rattle.std.specs.Result.{IsErrAnd}
 use Rattle.md_base.specs.Tree.{Forest, flatten}
@@ -38,8 +38,7 @@ returns-in-Some-clause-text c =
     let few : length given.events < 2 ^ 63 = omega arith in
     let read : IsChecked given = c.in_ok-checked.ensures.grammatical in
     let worked : work given.events ≤ c.args.limits.work =
-    at_most _ _ _ _ c.exceeds.ensures (c.work.ensures _ c.args.given.now.measured)
-    c.if-exceeds.false in
+    grind (arith, c.exceeds.ensures, c.work.ensures, c.if-exceeds.false) in
     let shallow : depth given.events ≤ c.args.limits.depth = search rules in
     let reused : IsReuseWithin c.args.options.now given c.args.limits.work =
     subst (λ (given : Handed). IsReuseWithin c.args.options.now given c.args.limits.work)
@@ -63,11 +62,13 @@ returns-then-branch-clause-refused c =
     c.args.limits.work < reuse c.args.options.now given.bytes document in
     record {
       too_deep = search rules;
-      too_much = inr (
-        c.in_ok-checked.ensures.grammatical,
-        subst more c.in_ok-checked.ensures.ok (λ document flat. ltb-true _ _
-            (sym (c.in_ok-is_reuse_over.ensures document flat) ∙ c.if-branch.true)),
-      );
+      too_much =
+          grind (
+            arith,
+            c.in_ok-checked.ensures.grammatical,
+            c.in_ok-is_reuse_over.ensures,
+            c.if-branch.true,
+          );
       too_long = search rules;
       long_grammatical = search rules;
       refused = search rules;
@@ -78,8 +79,7 @@ returns-in_err-text-clause-refused c =
     err-and (λ why. why ≡ within.Compile refusal.Memory) _ c.from_residual-in_err-text.result
     (λ why is. rw is (record {
       too_deep = search rules;
-      too_much = at_most _ _ _ _ c.exceeds.ensures
-          (c.work.ensures _ c.args.given.now.measured) c.if-exceeds.false;
+      too_much = grind arith;
       too_long = tt;
       long_grammatical = tt;
       refused = search rules;
