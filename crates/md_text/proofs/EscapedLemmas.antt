@@ -1,14 +1,13 @@
 -- Escaped texts: joined, cut and with a byte taken out. So a text that is printed in parts is a
 -- text of the HTML grammar.
-use Rattle.std.proofs.Common.{◌≡◌, ℕ, ◌==◌, Bool, true, false, not, ◌||◌, eqb, List, [], ◌∷◌}
+use Rattle.std.proofs.Common.{arith, ◌≡◌, ℕ, ◌==◌, Bool, true, false, not, ◌||◌, List, [], ◌∷◌}
 use Rattle.std.proofs.Common.{◌++◌, refl, sym, ◌∙◌, inl, inr, codes, Some, None}
 use Rattle.std.specs.Prelude.{if◌then◌else◌, is_some}
 use Rattle.std.specs.List.{list_all}
-use Rattle.std.proofs.lemmas.Bool.{and_parts, and_from, or_cases, or_left, or_right, cond_both}
-use Rattle.std.proofs.lemmas.Bool.{not-true, both_ways, cases_Bool}
+use Rattle.std.proofs.lemmas.Bool.{and_parts, and_from, cond_both, cases_Bool}
 use Rattle.md_text.specs.References.{is_escaped, is_escaped_byte, reference_before, begins_with}
 use Rattle.md_text.specs.References.{outside_references}
-use Rattle.md_text.specs.Url.{sanitized, sanitized_with, normalized_url, has_permitted_protocol}
+use Rattle.md_text.specs.Url.{sanitized, sanitized_with, normalized_url}
 use Rattle.md_text.proofs.EncodeLaws.{is_escaped-encoded}
 
 -- a text that begins so still does when more follows
@@ -17,9 +16,7 @@ begins-append : (start text more : List ℕ) → begins_with start text ≡ true
 begins-append [] text more h = refl
 begins-append (s ∷ start) [] more h = cc
 begins-append (s ∷ start) (b ∷ text) more h =
-    let parts = and_parts (eqb s b) (begins_with start text) h in
-    and_from (eqb s b) (begins_with start (text ++ more)) parts.0
-    (begins-append start text more parts.1)
+    let later = begins-append start text more in grind (arith, later, h)
 
 -- a `&` begins a reference before these bytes
 abbrev pub completes_reference : List ℕ → Bool
@@ -44,8 +41,7 @@ completes-any rest =
 
 or_keeps : (a b c d : Bool) → (a ≡ true → c ≡ true) → (b ≡ true → d ≡ true) →
     (a || b) ≡ true → (c || d) ≡ true
-or_keeps a b c d f g h =
-    elim (or_cases a b h) [ inl x ↦ or_left c d (f x) | inr y ↦ or_right c d (g y) ]
+or_keeps a b c d f g h = grind (arith, f, g, h)
 
 completes-append : (rest more : List ℕ) → completes_reference rest ≡ true →
     completes_reference (rest ++ more) ≡ true
@@ -82,23 +78,14 @@ escaped-tail b rest h = (and_parts (is_escaped_byte b rest) (is_escaped rest) h)
 begins-without : (b : ℕ) (start text more : List ℕ) → list_all (λ c. not (c == b)) start ≡ true →
     begins_with start (text ++ (b ∷ more)) ≡ true → begins_with start (text ++ more) ≡ true
 begins-without b [] text more out h = refl
-begins-without b (s ∷ start) [] more out h =
-    absurd (both_ways (eqb s b)
-    (not-true (eqb s b) (and_parts (not (eqb s b)) (list_all (λ c. not (c == b)) start) out).0)
-    (and_parts (eqb s b) (begins_with start more) h).0)
+begins-without b (s ∷ start) [] more out h = grind (arith, out, h)
 begins-without b (s ∷ start) (c ∷ text) more out h =
-    let parts = and_parts (eqb s c) (begins_with start (text ++ (b ∷ more))) h in
-    and_from (eqb s c) (begins_with start (text ++ more)) parts.0
-    (begins-without b start text more
-    (and_parts (not (eqb s b)) (list_all (λ c. not (c == b)) start) out).1 parts.1)
+    let later = begins-without b start text more in grind (arith, later, out, h)
 
 all_front : (b : ℕ) (x y : List ℕ) → list_all (λ c. not (c == b)) (x ++ y) ≡ true →
     (list_all (λ c. not (c == b)) x ≡ true) × (list_all (λ c. not (c == b)) y ≡ true)
 all_front b [] y h = (refl, h)
-all_front b (c ∷ x) y h =
-    let parts = and_parts (not (c == b)) (list_all (λ c. not (c == b)) (x ++ y)) h in
-    let on = all_front b x y parts.1 in
-    (and_from (not (c == b)) (list_all (λ c. not (c == b)) x) parts.0 on.0, on.1)
+all_front b (c ∷ x) y h = let later = all_front b x y in grind (arith, later, h)
 
 completes-without : (b : ℕ) (text more : List ℕ) → outside_references b ≡ true →
     completes_reference (text ++ (b ∷ more)) ≡ true → completes_reference (text ++ more) ≡ true
@@ -140,6 +127,4 @@ sanitized-escaped x = is_escaped-encoded (normalized_url x)
 
 pub sanitized_with-escaped : (protocols : List (List ℕ)) (x : List ℕ) →
     is_escaped (sanitized_with protocols x) ≡ true
-sanitized_with-escaped protocols x =
-    cond_both (has_permitted_protocol protocols (sanitized x)) (sanitized x) [] (λ v. is_escaped v
-    ≡ true) (λ _. sanitized-escaped x) (λ _. refl)
+sanitized_with-escaped protocols x = grind (arith, cond_both, sanitized-escaped)

@@ -1,11 +1,10 @@
 -- A paragraph takes an insertion before its end: so the ways back stand in a
 -- footnote's last paragraph.
 use Rattle.md_base.specs.Identifier.{is_nonempty}
-use Rattle.std.proofs.Common.{◌≡◌, ◌⊎◌, ℕ, ◌==◌, Bool, true, not, ◌&&◌, ◌||◌, List, [], ◌∷◌, ◌++◌}
-use Rattle.std.proofs.Common.{refl, sym, ap, ap₂, ◌∙◌, subst, inl, inr, append-nil, append_assoc}
-use Rattle.std.proofs.Common.{codes, eqb-true}
+use Rattle.std.proofs.Common.{arith, ◌≡◌, ◌⊎◌, ℕ, Bool, true, not, ◌&&◌, List, [], ◌∷◌, ◌++◌, refl}
+use Rattle.std.proofs.Common.{sym, ap, ap₂, ◌∙◌, subst, inl, inr, append-nil, append_assoc, codes}
 use Rattle.std.specs.List.{list_all}
-use Rattle.std.proofs.lemmas.Bool.{and_parts, and_from, or_cases}
+use Rattle.std.proofs.lemmas.Bool.{and_parts}
 use Rattle.md_text.specs.References.{is_escaped}
 use Rattle.md_text.specs.Laws.{is_line_ends}
 use Rattle.md_text.specs.Html.{Attribute, Forest, Empty, Text, Void, Element, is_forest, is_tag}
@@ -50,13 +49,7 @@ not_in_tag : (name tail before after y : List ℕ) (d : ℕ) (m : List ℕ) → 
     list_all no_angle (name ++ tail) ≡ true
     → 60 ∷ (name ++ tail) ≡ before ++ (d ∷ m) → end_before after ≡ (d ∷ m) ++ y → ⊥
 not_in_tag name tail before after y d m h angles cut z =
-    let at : 60 ∷ (name ++ tail) ≡ before ++ (60 ∷ m) = cut
-    ∙ ap (λ d. before ++ (d ∷ m)) (sym (first_of d after m y z)) in
-    let empty = first_angle (name ++ tail) before m angles at in
-    let whole : 60 ∷ (name ++ tail) ≡ 60 ∷ m = at ∙ ap (λ b. b ++ (60 ∷ m)) empty in
-    let rest : name ++ tail ≡ m = cc in
-    name-not 47 name (tail ++ y) (112 ∷ 62 ∷ after) refl h
-    (sym (append_assoc name tail y) ∙ ap (λ x. x ++ y) rest ∙ sym (later_of d after m y z))
+    grind (arith, first_of, first_angle, name-not, append_assoc, later_of)
 
 -- a list of pieces, however it is grouped
 pieces-4 : (o c e r : List ℕ) → (o ++ c ++ e) ++ r ≡ o ++ (c ++ (e ++ r))
@@ -66,20 +59,12 @@ pieces-4 o c e r = append_assoc (o ++ c) e r ∙ append_assoc o c (e ++ r)
 element-before : (name : List ℕ) (attributes : List Attribute) (children rest : Forest)
     → written (Element name attributes children rest) ≡ opening_tag name attributes
     ++ (written children ++ (closing_tag name ++ written rest))
-element-before name attributes children rest =
-    ap (λ x. 60
-    ∷ (name ++ (written_attributes attributes ++ (62 ∷ (written children ++ (60 ∷ 47 ∷ x))))))
-    (sym (append_assoc name (62 ∷ []) (written rest)))
-    ∙ sym (opening-before name attributes (written children ++ (closing_tag name ++ written rest)))
+element-before name attributes children rest = grind (arith, append_assoc, opening-before)
 
 -- a void tag and what follows it
 void-before : (name : List ℕ) (attributes : List Attribute) (rest : Forest) →
     written (Void name attributes rest) ≡ written (Void name attributes Empty) ++ written rest
-void-before name attributes rest =
-    sym (ap (λ x. 60 ∷ x)
-    (append_assoc name (written_attributes attributes ++ (32 ∷ 47 ∷ 62 ∷ [])) (written rest)
-    ∙ ap (λ x. name ++ x)
-    (append_assoc (written_attributes attributes) (32 ∷ 47 ∷ 62 ∷ []) (written rest))))
+void-before name attributes rest = grind (arith, append_assoc)
 
 nil_not : (before : List ℕ) (m : List ℕ) → [] ≡ before ++ (60 ∷ m) → ⊥
 nil_not [] m e = cc
@@ -201,16 +186,7 @@ put x made is (Element name attributes children rest) before after hf angles e =
 line_ends-angle : (endings : List ℕ) → is_line_ends endings ≡ true →
     list_all no_angle endings ≡ true
 line_ends-angle [] h = refl
-line_ends-angle (b ∷ endings) h =
-    let parts = and_parts ((b == 13) || (b == 10)) (is_line_ends endings) h in
-    and_from (no_angle b) (list_all no_angle endings) (by b parts.0)
-    (line_ends-angle endings parts.1)
-  where
-    by : (b : ℕ) → ((b == 13) || (b == 10)) ≡ true → no_angle b ≡ true
-    by b h = elim (or_cases (b == 13) (b == 10) h) [
-      | inl is ↦ subst (λ b. no_angle b ≡ true) (sym (eqb-true b 13 is)) refl
-      | inr is ↦ subst (λ b. no_angle b ≡ true) (sym (eqb-true b 10 is)) refl
-    ]
+line_ends-angle (b ∷ endings) h = let later = line_ends-angle endings in grind (arith, later, h)
 
 -- the result for a paragraph's text and line endings
 pub made-before : (made : Forest → List ℕ → Type 0) (before endings inserted : List ℕ) →
@@ -218,10 +194,7 @@ pub made-before : (made : Forest → List ℕ → Type 0) (before endings insert
     IsMade inserted made → (f : Forest) → IsReading (before ++ codes "</p>" ++ endings) f
     → made f (before ++ inserted ++ codes "</p>" ++ endings)
 made-before made before endings inserted h is f reading =
-    subst (made f) (sym (append_assoc (before ++ inserted) (codes "</p>") endings
-    ∙ append_assoc before inserted (end_before endings)))
-    (put inserted made is f before endings reading.in_grammar (line_ends-angle endings h)
-    (reading.written_so ∙ append_assoc before (codes "</p>") endings))
+    grind (arith, append_assoc, put, line_ends-angle)
 
 -- readings in which each attribute passes a test
 reading-made : (p : Attribute → Bool) (x : List ℕ) → HasReadingWith p x →

@@ -2,7 +2,7 @@
 -- that fails.
 use Rattle.std.proofs.Common.{◌≡◌, ℕ, ◌+◌, ◌%◌, ◌^◌, ◌<◌, ◌≤◌, eqb, Bool, true, not, cond}
 use Rattle.std.proofs.Common.{List, [], ◌∷◌, map, length, get_or, take, drop, min, Fits, w8, refl}
-use Rattle.std.proofs.Common.{ap, ap₂, ◌∙◌, arith, zero, suc}
+use Rattle.std.proofs.Common.{ap, ◌∙◌, arith, zero, suc}
 use Rattle.std.proofs.lemmas.Bool.{agree_below, agree_below_at}
 use Rattle.std.proofs.lemmas.Simd.{map-map, mask_l-mod, length-chunk, chunk-fits, first_set_mask_l}
 use Rattle.std.proofs.lemmas.List.{length-map}
@@ -14,11 +14,9 @@ use lib.Lanes.{Each1, chunk, mask_l, top}
 -- if some pass, the others are in the rest
 pub prefix_len-drop : (q : ℕ → Bool) (i : ℕ) (xs : List ℕ) → i ≤ prefix_len q xs →
     prefix_len q xs ≡ i + prefix_len q (drop i xs)
-prefix_len-drop q zero xs le = omega arith
-prefix_len-drop q (suc i) [] le = omega arith
-prefix_len-drop q (suc i) (x ∷ xs) le =
-    let rest = prefix_len-drop q i xs in
-    grind (arith, le, rest)
+prefix_len-drop q zero xs le = grind arith
+prefix_len-drop q (suc i) [] le = grind arith
+prefix_len-drop q (suc i) (x ∷ xs) le = grind (arith, prefix_len-drop q i xs)
 
 -- of the first n
 prefix_len-take : (q : ℕ → Bool) (n : ℕ) (xs : List ℕ) →
@@ -33,8 +31,7 @@ prefix_len-agree : (p q : ℕ → Bool) → agree_below p q 256 ≡ true → (xs
     prefix_len p xs ≡ prefix_len q xs
 prefix_len-agree p q all [] fits = refl
 prefix_len-agree p q all (x ∷ xs) fits =
-    ap₂ (λ b n. cond b (1 + n) 0) (agree_below_at p q 256 x all fits.0.fits)
-    (prefix_len-agree p q all xs fits.1)
+    rw (agree_below_at p q 256 x all fits.0.fits, prefix_len-agree p q all xs fits.1) refl
 
 -- a load of n bytes and a lane-wise function f of it, whose top bit is set exactly where q fails
 pub run_is : (q : ℕ → Bool) (d : List ℕ) (i n r : ℕ) (z : List ℕ) → i + n ≤ length d → n ≤ 64 →
@@ -68,5 +65,4 @@ run_goes_on q d i n r seen is whole = omega (arith, prefix_len-drop q i d seen)
 -- one that reaches to the end
 pub run_at_end : (q : ℕ → Bool) (d : List ℕ) (i n r : ℕ) → i ≤ prefix_len q d → length d ≤ i + n →
     r ≡ min n (prefix_len q (drop i d)) → i + r ≡ prefix_len q d
-run_at_end q d i n r seen reaches is =
-    omega (arith, prefix_len-drop q i d seen, prefix_len-le-length q d)
+run_at_end q d i n r seen reaches is = grind (arith, prefix_len-drop, prefix_len-le-length)

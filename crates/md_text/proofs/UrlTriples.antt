@@ -1,8 +1,8 @@
 -- Each `%` of a sanitized URL begins a percent triple: the law `percent_begins_a_triple`.
-use Rattle.std.proofs.Common.{◌≡◌, ℕ, ◌==◌, ◌<◌, ◌/◌, ◌%◌, true, false, not, ◌&&◌, ◌||◌, cond, List}
-use Rattle.std.proofs.Common.{[], ◌∷◌, ◌++◌, refl, sym, ap, ◌∙◌, subst, inl, inr}
-use Rattle.std.proofs.lemmas.Bool.{cases_Bool, cases_eq, agree_below_at, or_cases, and_parts}
-use Rattle.std.proofs.lemmas.Bool.{or_left, or_right, and_from, both_ways}
+use Rattle.std.proofs.Common.{arith, ◌≡◌, ℕ, ◌==◌, ◌<◌, ◌/◌, ◌%◌, true, not, ◌&&◌, ◌||◌, cond, List}
+use Rattle.std.proofs.Common.{[], ◌∷◌, ◌++◌, refl, sym, subst, inl, inr}
+use Rattle.std.proofs.lemmas.Bool.{cases_Bool, cases_eq, or_cases, and_parts}
+use Rattle.std.proofs.lemmas.Bool.{or_left, or_right, and_from}
 use Rattle.std.proofs.lemmas.List.Elements.{All-head, All-tail}
 use Rattle.md_text.specs.Encode.{encoded, encoded_byte}
 use Rattle.md_text.specs.Url.{is_triple_byte, stays, stays_anywhere, completes_triple}
@@ -13,22 +13,13 @@ use Rattle.md_text.proofs.UrlLaws.{IsUrl, IsByte, AreUrlBytes, normalized-url, u
 use Rattle.md_text.proofs.UrlLaws.{hex_digit-plain, high_digit, low_digit}
 use Rattle.md_text.proofs.UrlTwice.{completes-normalized}
 
--- a byte that stays anywhere is no `%`
-anywhere_or_not : (b : ℕ) → b < 256 → (not (stays_anywhere b) || not (b == 37)) ≡ true
-anywhere_or_not b l =
-    agree_below_at (λ b. not (stays_anywhere b) || not (b == 37)) (λ b. true) 256 b refl l
-
 anywhere-begins : (b : ℕ) (rest : List ℕ) → b < 256 → stays_anywhere b ≡ true →
     (not (b == 37) || completes_triple rest) ≡ true
-anywhere-begins b rest l e =
-    or_left (not (b == 37)) (completes_triple rest)
-    (ap (λ t. not t || not (b == 37)) (sym e) ∙ anywhere_or_not b l)
+anywhere-begins b rest l e = grind arith
 
 digit-begins : (d : ℕ) (rest : List ℕ) → d < 16 →
     (not (hex_digit d == 37) || completes_triple rest) ≡ true
-digit-begins d rest l =
-    or_left (not (hex_digit d == 37)) (completes_triple rest)
-    (agree_below_at (λ d. not (hex_digit d == 37)) (λ d. true) 16 d refl l)
+digit-begins d rest l = grind arith
 
 percents-normalized : (x : List ℕ) → AreBytes x → percents_begin_triples (normalized_url x) ≡ true
 percents-normalized [] h = refl
@@ -64,20 +55,17 @@ percents-normalized (b ∷ rest) h = elim (cases_Bool (stays b rest)) [
 
 -- a byte of a triple is written as it is
 triple-encoded : (b : ℕ) → IsUrl b → is_triple_byte b ≡ true → encoded_byte true b ≡ b ∷ []
-triple-encoded b u e = encoded_byte-stays b (48 ∷ 48 ∷ []) (url_stays b u)
-    (λ is. both_ways (is_triple_byte 38) refl (subst (λ b. is_triple_byte b ≡ true) is e))
+triple-encoded b u e = grind arith
 
 completes-encoded : (y : List ℕ) → AreUrlBytes y → completes_triple y ≡ true →
     completes_triple (encoded true y) ≡ true
 completes-encoded [] u e = e
-completes-encoded (a ∷ []) u e = absurd (both_ways false refl e)
+completes-encoded (a ∷ []) u e = cc
 completes-encoded (a ∷ b ∷ rest) u e =
-    let parts = and_parts (is_triple_byte a) (is_triple_byte b) e in
-    let same_a = triple-encoded a (All-head IsUrl a (b ∷ rest) u) parts.0 in
-    let same_b = triple-encoded b (All-head IsUrl b rest (All-tail IsUrl a (b ∷ rest) u)) parts.1 in
-    ap (λ t. completes_triple (t ++ (encoded_byte true b ++ encoded true rest))) same_a
-    ∙ ap (λ t. completes_triple (a ∷ (t ++ encoded true rest))) same_b
-    ∙ e
+    let first = triple-encoded a (All-head IsUrl a (b ∷ rest) u) (grind (arith, e)) in
+    let second = triple-encoded b (All-head IsUrl b rest (All-tail IsUrl a (b ∷ rest) u))
+    (grind (arith, e)) in
+    rw (first, second) e
 
 percents-encoded : (y : List ℕ) → AreUrlBytes y → percents_begin_triples y ≡ true →
     percents_begin_triples (encoded true y) ≡ true
@@ -102,5 +90,4 @@ percents-encoded (b ∷ rest) u e =
     ]
 
 pub percents-sanitized : (x : List ℕ) → AreBytes x → percents_begin_triples (sanitized x) ≡ true
-percents-sanitized x h =
-    percents-encoded (normalized_url x) (normalized-url x h) (percents-normalized x h)
+percents-sanitized x h = grind (arith, percents-encoded, normalized-url, percents-normalized)

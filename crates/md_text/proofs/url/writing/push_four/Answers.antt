@@ -1,5 +1,5 @@
 -- Triples are ASCII.
-use Rattle.std.proofs.Common.{◌<◌, [], ◌∷◌, lit<}
+use Rattle.std.proofs.Common.{[], ◌∷◌, lit<}
 use Rattle.std.proofs.lemmas.List.Elements.{All-from_recursion}
 use Rattle.md_text.proofs.url.writing.push_four.Goals as goal
 use Rattle.md_text.proofs.UrlLaws.{IsAsciiByte}
