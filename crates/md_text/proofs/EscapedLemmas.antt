@@ -1,6 +1,6 @@
 -- Escaped texts: joined, cut and with a byte taken out. So a text that is printed in parts is a
 -- text of the HTML grammar.
-use Rattle.std.proofs.Common.{arith, ◌≡◌, ℕ, ◌==◌, Bool, true, false, not, ◌||◌, List, [], ◌∷◌}
+use Rattle.std.proofs.Common.{arith, ◌≡◌, ℕ, ◌==◌, Bool, true, not, ◌||◌, List, [], ◌∷◌}
 use Rattle.std.proofs.Common.{◌++◌, refl, sym, ◌∙◌, inl, inr, codes, Some, None}
 use Rattle.std.specs.Prelude.{if◌then◌else◌, is_some}
 use Rattle.std.specs.List.{list_all}
@@ -33,11 +33,7 @@ completes-any rest =
     by : (amp quot lt gt : Bool) → is_some {T = List ℕ × ℕ} (if amp then Some (codes "amp;", 38)
         else (if quot then Some (codes "quot;", 34) else (if lt then Some (codes "lt;", 60)
         else (if gt then Some (codes "gt;", 62) else None)))) ≡ (amp || quot || lt || gt)
-    by true quot lt gt = refl
-    by false true lt gt = refl
-    by false false true gt = refl
-    by false false false true = refl
-    by false false false false = refl
+    by amp quot lt gt = grind arith
 
 or_keeps : (a b c d : Bool) → (a ≡ true → c ≡ true) → (b ≡ true → d ≡ true) →
     (a || b) ≡ true → (c || d) ≡ true
@@ -67,8 +63,7 @@ pub escaped-append : (x y : List ℕ) → is_escaped x ≡ true → is_escaped y
 escaped-append [] y hx hy = hy
 escaped-append (b ∷ x) y hx hy =
     let parts = and_parts (is_escaped_byte b x) (is_escaped x) hx in
-    and_from (is_escaped_byte b (x ++ y)) (is_escaped (x ++ y)) (escaped_byte-append b x y parts.0)
-    (escaped-append x y parts.1 hy)
+    search (and_from, escaped_byte-append b x y parts.0, escaped-append x y parts.1 hy)
 
 -- the rest of an escaped text after its first byte is escaped
 pub escaped-tail : (b : ℕ) (rest : List ℕ) → is_escaped (b ∷ rest) ≡ true → is_escaped rest ≡ true
@@ -82,22 +77,13 @@ begins-without b (s ∷ start) [] more out h = grind (arith, out, h)
 begins-without b (s ∷ start) (c ∷ text) more out h =
     let later = begins-without b start text more in grind (arith, later, out, h)
 
-all_front : (b : ℕ) (x y : List ℕ) → list_all (λ c. not (c == b)) (x ++ y) ≡ true →
-    (list_all (λ c. not (c == b)) x ≡ true) × (list_all (λ c. not (c == b)) y ≡ true)
-all_front b [] y h = (refl, h)
-all_front b (c ∷ x) y h = let later = all_front b x y in grind (arith, later, h)
-
 completes-without : (b : ℕ) (text more : List ℕ) → outside_references b ≡ true →
     completes_reference (text ++ (b ∷ more)) ≡ true → completes_reference (text ++ more) ≡ true
 completes-without b text more out h =
-    let all = (and_parts (not (b == 38)) _ out).1 in
-    let amp = all_front b (codes "amp;") (codes "quot;lt;gt;") all in
-    let quot = all_front b (codes "quot;") (codes "lt;gt;") amp.1 in
-    let lt = all_front b (codes "lt;") (codes "gt;") quot.1 in
-    completes-any (text ++ more)
-    ∙ or_keeps _ _ _ _ (or_keeps _ _ _ _ (or_keeps _ _ _ _ (begins-without b (codes "amp;") text
-    more amp.0) (begins-without b (codes "quot;") text more quot.0))
-    (begins-without b (codes "lt;") text more lt.0)) (begins-without b (codes "gt;") text more lt.1)
+    let on = λ (start : List ℕ). begins-without b start text more in
+    completes-any (text ++ more) ∙ or_keeps _ _ _ _ (or_keeps _ _ _ _ (or_keeps _ _ _ _
+    (on (codes "amp;") (grind (arith, out))) (on (codes "quot;") (grind (arith, out))))
+    (on (codes "lt;") (grind (arith, out)))) (on (codes "gt;") (grind (arith, out)))
     (sym (completes-any (text ++ (b ∷ more))) ∙ h)
 
 escaped_byte-without : (b c : ℕ) (text more : List ℕ) → outside_references b ≡ true →
@@ -116,8 +102,7 @@ pub escaped-without : (b : ℕ) (text more : List ℕ) → outside_references b 
     is_escaped (text ++ (b ∷ more)) ≡ true → is_escaped (text ++ more) ≡ true
 escaped-without b [] more out h = escaped-tail b more h
 escaped-without b (c ∷ text) more out h =
-    let parts =
-    and_parts (is_escaped_byte c (text ++ (b ∷ more))) (is_escaped (text ++ (b ∷ more))) h in
+    let parts = and_parts (is_escaped_byte c (text ++ (b ∷ more))) _ h in
     and_from (is_escaped_byte c (text ++ more)) (is_escaped (text ++ more))
     (escaped_byte-without b c text more out parts.0) (escaped-without b text more out parts.1)
 

@@ -5,7 +5,6 @@ use Rattle.std.specs.List.{list_all, list_any}
 use Rattle.std.proofs.Common.{◌≡◌, ℕ, suc, ◌+◌, ◌≤◌, Bool, true, false, not, ◌&&◌, cond, List}
 use Rattle.std.proofs.Common.{[], ◌∷◌, ◌++◌, refl, ap, ap₂, ◌∙◌, subst, arith, append-nil}
 use Rattle.std.proofs.Common.{append_assoc, codes}
-use Rattle.std.proofs.lemmas.Bool.{and_from}
 use Rattle.std.proofs.lemmas.Slice.Eq.{bytes_eq-Decides}
 use Rattle.md_text.specs.References.{read_back}
 use Rattle.md_text.specs.Html.{Attribute, Forest, Empty, Text, Void, Element, is_forest, is_tag}
@@ -179,16 +178,11 @@ occurs-any x (y ∷ ys) h = let later = occurs-any x ys in grind (arith, h, late
 
 -- where each text is among some at most once, no two of them are equal
 pub distinct-ids : (xs : List (List ℕ)) → ((w : List ℕ) → occurs w xs ≤ 1) → are_distinct xs ≡ true
-distinct-ids [] h = grind (arith, bytes_eq-Decides, and_from, occurs-any)
+distinct-ids [] h = refl
 distinct-ids (x ∷ xs) h =
-    grind (
-      arith,
-      bytes_eq-Decides,
-      and_from,
-      occurs-any,
-      distinct-ids xs (λ w. let few = h w in
-          grind (arith, few)),
-    )
+    let few = h x in
+    let later = distinct-ids xs (λ w. let few = h w in grind (arith, few)) in
+    grind (arith, bytes_eq-Decides, occurs-any, few, later)
 
 -- where each id stands in a reading of a text at most once, the text has distinct ids
 pub counted-once : (x : List ℕ) → ((w : List ℕ) → Counts w 1 x) → HasDistinctIds x

@@ -2,8 +2,8 @@
 -- and two such texts joined. All printed text is built from these.
 use Rattle.md_base.specs.Identifier.{is_nonempty}
 use Rattle.std.specs.List.{list_all}
-use Rattle.std.proofs.Common.{arith, ◌≡◌, ℕ, Bool, true, not, ◌&&◌, List, [], ◌∷◌, ◌++◌, refl, sym}
-use Rattle.std.proofs.Common.{ap, ◌∙◌, append-nil, append_assoc}
+use Rattle.std.proofs.Common.{arith, ◌≡◌, ℕ, Bool, true, not, ◌&&◌, List, [], ◌∷◌, ◌++◌, refl}
+use Rattle.std.proofs.Common.{append-nil, append_assoc}
 use Rattle.std.proofs.lemmas.Bool.{and_parts, and_from}
 use Rattle.md_text.specs.References.{is_escaped}
 use Rattle.md_text.specs.Html.{Attribute, Forest, Empty, Text, Void, Element, is_forest, is_tag}
@@ -104,36 +104,20 @@ after_forest p (Text bytes rest) g hf pf hg pg =
     let c = and_parts (is_nonempty bytes) (is_escaped bytes) b.0 in
     let on = after_forest p rest g a.1 pf hg pg in (
       forest-text_before bytes (joined rest g) c.0 c.1 on.0,
-      written-text_before bytes (joined rest g) ∙ ap (λ x. bytes ++ x) on.1
-          ∙ sym (append_assoc bytes (written rest) (written g)),
+      simp (written-text_before, on.1, append_assoc),
       all-text_before p bytes (joined rest g) on.2,
     )
 after_forest p (Void name attributes rest) g hf pf hg pg =
     let a = and_parts (is_tag void_tags name attributes) (is_forest rest) hf in
     let b = and_parts (list_all p attributes) (all_attributes p rest) pf in
-    let on = after_forest p rest g a.1 b.1 hg pg in (
-      and_from (is_tag void_tags name attributes) (is_forest (joined rest g)) a.0 on.0,
-      ap (λ x. 60 ∷ (name ++ (written_attributes attributes ++ (32 ∷ 47 ∷ 62 ∷ x)))) on.1
-          ∙ sym (ap (λ x. 60 ∷ x) (append_assoc name _ (written g)
-          ∙ ap (λ x. name ++ x) (append_assoc (written_attributes attributes) (32 ∷ 47 ∷ 62
-          ∷ written rest) (written g)))),
-      and_from (list_all p attributes) (all_attributes p (joined rest g)) b.0 on.2,
-    )
+    let on = after_forest p rest g a.1 b.1 hg pg in
+    (and_from _ _ a.0 on.0, simp (on.1, append_assoc), and_from _ _ b.0 on.2)
 after_forest p (Element name attributes children rest) g hf pf hg pg =
     let a = and_parts (is_tag elements name attributes && is_forest children) (is_forest rest) hf in
     let b =
     and_parts (list_all p attributes && all_attributes p children) (all_attributes p rest) pf in
-    let on = after_forest p rest g a.1 b.1 hg pg in (
-      and_from _ (is_forest (joined rest g)) a.0 on.0,
-      ap (λ x. 60 ∷ (name ++ (written_attributes attributes
-          ++ (62 ∷ (written children ++ (60 ∷ 47 ∷ (name ++ (62 ∷ x)))))))) on.1
-          ∙ sym (ap (λ x. 60 ∷ x) (append_assoc name _ (written g)
-          ∙ ap (λ x. name ++ x) (append_assoc (written_attributes attributes) _ (written g)
-          ∙ ap (λ x. written_attributes attributes ++ (62 ∷ x)) (append_assoc (written children) _
-          (written g) ∙ ap (λ x. written children ++ (60 ∷ 47 ∷ x))
-          (append_assoc name (62 ∷ written rest) (written g)))))),
-      and_from _ (all_attributes p (joined rest g)) b.0 on.2,
-    )
+    let on = after_forest p rest g a.1 b.1 hg pg in
+    (and_from _ _ a.0 on.0, simp (on.1, append_assoc), and_from _ _ b.0 on.2)
 
 pub join : (p : Attribute → Bool) (x y : List ℕ) → HasReadingWith p x → HasReadingWith p y →
     HasReadingWith p (x ++ y)

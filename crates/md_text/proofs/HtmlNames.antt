@@ -40,8 +40,7 @@ pub escaped-angle : (text : List ℕ) → is_escaped text ≡ true → list_all 
 escaped-angle [] e = refl
 escaped-angle (b ∷ rest) e =
     let parts = and_parts (is_escaped_byte b rest) (is_escaped rest) e in
-    and_from (no_angle b) (list_all no_angle rest) (escaped_byte-angle b rest parts.0)
-    (escaped-angle rest parts.1)
+    grind (arith, escaped_byte-angle b rest parts.0, escaped-angle rest parts.1)
 
 pub escaped-quote : (text : List ℕ) → is_escaped text ≡ true → list_all no_quote text ≡ true
 escaped-quote [] e = refl

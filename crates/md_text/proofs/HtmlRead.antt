@@ -74,7 +74,6 @@ tag-at go name attributes r tidy ends =
       arith,
       past_angle-name,
       read_run-at,
-      is_name_byte,
       name_bytes,
       attributes_stop,
       read_attributes-at,
@@ -120,18 +119,14 @@ size-written : (f : Forest) → is_forest f ≡ true → size f ≤ suc (length 
 size-written Empty h = omega arith
 size-written (Text bytes rest) h =
     let p = text_parts bytes rest h in
-    let later = size-written rest p.later in
     let filled : 1 ≤ length bytes = grind (arith, p.filled) in
-    omega (arith, later, filled, length-append {A = ℕ})
+    omega (arith, size-written rest p.later, filled, length-append {A = ℕ})
 size-written (Void name attributes rest) h =
     let p = void_parts name attributes rest h in
-    let later = size-written rest p.later in
-    omega (arith, later, length-append {A = ℕ})
+    omega (arith, size-written rest p.later, length-append {A = ℕ})
 size-written (Element name attributes children rest) h =
     let p = element_parts name attributes children rest h in
-    let inside = size-written children p.inside in
-    let later = size-written rest p.later in
-    omega (arith, inside, later, length-append {A = ℕ})
+    omega (arith, size-written children p.inside, size-written rest p.later, length-append {A = ℕ})
 
 -- ---- which texts have a reading
 abbrev pub guessed : List ℕ → Forest
@@ -150,16 +145,11 @@ readable text h = grind (arith, guessed_reading, all-any)
 
 guessed-is : (text : List ℕ) (f : Forest) → IsReading text f → guessed text ≡ f
 guessed-is text f reading =
-    let whole : forest_before f [] ≡ text =
-    sym (written-before f []) ∙ append-nil (written f) ∙ reading.written_so in
-    let enough : size f ≤ suc (length text) = omega (
-      arith,
-      size-written f reading.in_grammar,
-      ap length reading.written_so,
-    ) in
-    ap (λ t. (read_forest (suc (length text)) t).found) (sym whole)
-    ∙ ap (λ r. r.found)
-    (read_forest-at (suc (length text)) f [] reading.in_grammar (inl refl) enough)
+    let whole = written-before f [] in
+    let enough : size f ≤ suc (length text) =
+    omega (arith, size-written f reading.in_grammar, ap length reading.written_so) in
+    let read = read_forest-at (suc (length text)) f [] reading.in_grammar (inl refl) enough in
+    grind (arith, whole, append-nil, read, reading)
 
 pub reads : (text : List ℕ) → HasReading text → is_readable text ≡ true
 reads text h =

@@ -96,16 +96,16 @@ slash_angle x y e = cc
 same : (f g : Forest) (r s : List ℕ) → is_forest f ≡ true → is_forest g ≡ true → IsEnd r → IsEnd s →
     forest_before f r ≡ forest_before g s → (f ≡ g) × (r ≡ s)
 same Empty Empty r s hf hg er es e = (refl, e)
-same Empty (Text bytes rest) r s hf hg er es e = (let p = text_parts bytes rest hg in
-    absurd (text_not_end bytes (forest_before rest s) r p.filled p.angles er e))
+same Empty (Text bytes rest) r s hf hg er es e =
+    let p = text_parts bytes rest hg in
+    absurd (text_not_end bytes (forest_before rest s) r p.filled p.angles er e)
 same Empty (Void name attributes rest) r s hf hg er es e =
-    (let p = void_parts name attributes rest hg in
-    absurd (tag_not_end name _ r p.tidy.0 er e))
+    absurd (tag_not_end name _ r (void_parts name attributes rest hg).tidy.0 er e)
 same Empty (Element name attributes children rest) r s hf hg er es e =
-    (let p = element_parts name attributes children rest hg in
-    absurd (tag_not_end name _ r p.tidy.0 er e))
-same (Text bytes rest) Empty r s hf hg er es e = (let p = text_parts bytes rest hf in
-    absurd (text_not_end bytes (forest_before rest r) s p.filled p.angles es (sym e)))
+    absurd (tag_not_end name _ r (element_parts name attributes children rest hg).tidy.0 er e)
+same (Text bytes rest) Empty r s hf hg er es e =
+    let p = text_parts bytes rest hf in
+    absurd (text_not_end bytes (forest_before rest r) s p.filled p.angles es (sym e))
 same (Text bytes rest) (Text bytes' rest') r s hf hg er es e =
     let p = text_parts bytes rest hf in
     let q = text_parts bytes' rest' hg in
@@ -114,26 +114,23 @@ same (Text bytes rest) (Text bytes' rest') r s hf hg er es e =
     let later = same rest rest' r s p.later q.later er es parts.1 in
     ((λ i. Text (parts.0 i) (later.0 i)), later.1)
 same (Text bytes rest) (Void name attributes rest') r s hf hg er es e =
-    (let p = text_parts bytes rest hf in
-    absurd (text_not_tag bytes (forest_before rest r) _ p.filled p.angles e))
+    let p = text_parts bytes rest hf in
+    absurd (text_not_tag bytes (forest_before rest r) _ p.filled p.angles e)
 same (Text bytes rest) (Element name attributes children rest') r s hf hg er es e =
-    (let p = text_parts bytes rest hf in
-    absurd (text_not_tag bytes (forest_before rest r) _ p.filled p.angles e))
+    let p = text_parts bytes rest hf in
+    absurd (text_not_tag bytes (forest_before rest r) _ p.filled p.angles e)
 same (Void name attributes rest) Empty r s hf hg er es e =
-    (let p = void_parts name attributes rest hf in
-    absurd (tag_not_end name _ s p.tidy.0 es (sym e)))
+    absurd (tag_not_end name _ s (void_parts name attributes rest hf).tidy.0 es (sym e))
 same (Void name attributes rest) (Text bytes rest') r s hf hg er es e =
-    (let p = text_parts bytes rest' hg in
-    absurd (text_not_tag bytes (forest_before rest' s) _ p.filled p.angles (sym e)))
+    let p = text_parts bytes rest' hg in
+    absurd (text_not_tag bytes (forest_before rest' s) _ p.filled p.angles (sym e))
 same (Void name attributes rest) (Void name' attributes' rest') r s hf hg er es e =
     let p = void_parts name attributes rest hf in
     let q = void_parts name' attributes' rest' hg in
     let tag = same_tag name name' attributes attributes' (32 ∷ 47 ∷ 62 ∷ forest_before rest r)
     (32 ∷ 47 ∷ 62 ∷ forest_before rest' s) p.tidy q.tidy
-    (inr (62 ∷ forest_before rest r, refl)) (inr (62 ∷ forest_before rest' s, refl))
-    (tail_of 60 60 _ _ e) in
-    let on : forest_before rest r ≡ forest_before rest' s = cc tag.2 in
-    let later = same rest rest' r s p.later q.later er es on in
+    (inr (62 ∷ forest_before rest r, refl)) (inr (62 ∷ forest_before rest' s, refl)) (cc) in
+    let later = same rest rest' r s p.later q.later er es (cc tag.2) in
     ((λ i. Void (tag.0 i) (tag.1 i) (later.0 i)), later.1)
 same (Void name attributes rest) (Element name' attributes' children rest') r s hf hg er es e =
     let p = void_parts name attributes rest hf in
@@ -144,11 +141,10 @@ same (Void name attributes rest) (Element name' attributes' children rest') r s 
     (inr (62 ∷ forest_before rest r, refl)) (inl (inside, refl)) (tail_of 60 60 _ _ e) in
     absurd (slash_angle _ _ tag.2)
 same (Element name attributes children rest) Empty r s hf hg er es e =
-    (let p = element_parts name attributes children rest hf in
-    absurd (tag_not_end name _ s p.tidy.0 es (sym e)))
+    absurd (tag_not_end name _ s (element_parts name attributes children rest hf).tidy.0 es (sym e))
 same (Element name attributes children rest) (Text bytes rest') r s hf hg er es e =
-    (let p = text_parts bytes rest' hg in
-    absurd (text_not_tag bytes (forest_before rest' s) _ p.filled p.angles (sym e)))
+    let p = text_parts bytes rest' hg in
+    absurd (text_not_tag bytes (forest_before rest' s) _ p.filled p.angles (sym e))
 same (Element name attributes children rest) (Void name' attributes' rest') r s hf hg er es e =
     let p = element_parts name attributes children rest hf in
     let q = void_parts name' attributes' rest' hg in
@@ -165,16 +161,13 @@ same (Element name attributes children rest) (Element name' attributes' children
     let close' = name' ++ (62 ∷ forest_before rest' s) in
     let inside = forest_before children (60 ∷ 47 ∷ close) in
     let inside' = forest_before children' (60 ∷ 47 ∷ close') in
-    let tag = same_tag name name' attributes attributes' (62 ∷ inside) (62
-    ∷ inside') p.tidy q.tidy (inl (inside, refl)) (inl (inside', refl)) (tail_of 60 60 _ _ e) in
-    let within = same children children' (60 ∷ 47 ∷ close) (60 ∷ 47
-    ∷ close') p.inside q.inside (inr (close, refl)) (inr (close', refl))
-    (tail_of 62 62 inside inside' tag.2) in
-    let closes : close ≡ close' = tail_of 47 47 close close' (tail_of 60 60 _ _ within.1) in
-    let ends =
-    split is_name_byte name name' (62 ∷ forest_before rest r) (62 ∷ forest_before rest' s)
-    (and_parts (is_nonempty name) (list_all is_name_byte name) p.tidy.0).1
-    (and_parts (is_nonempty name') (list_all is_name_byte name') q.tidy.0).1 refl refl closes in
+    let tag = same_tag name name' attributes attributes' (62 ∷ inside) (62 ∷ inside') p.tidy q.tidy
+    (inl (inside, refl)) (inl (inside', refl)) (tail_of 60 60 _ _ e) in
+    let within = same children children' (60 ∷ 47 ∷ close) (60 ∷ 47 ∷ close') p.inside q.inside
+    (inr (close, refl)) (inr (close', refl)) (tail_of 62 62 inside inside' tag.2) in
+    let closes : close ≡ close' = cc within.1 in
+    let ends = split is_name_byte name name' _ _ (grind (arith, p.tidy)) (grind (arith, q.tidy))
+    refl refl closes in
     let later = same rest rest' r s p.later q.later er es (tail_of 62 62 _ _ ends.1) in
     ((λ i. Element (tag.0 i) (tag.1 i) (within.0 i) (later.0 i)), later.1)
 

@@ -1,6 +1,6 @@
 -- The parts of a URL: runs of plain bytes, percent triples, and bytes that become triples.
 use Rattle.std.proofs.Common.{◌≡◌, ◌≢◌, ℕ, ◌+◌, ◌<◌, ◌≤◌, true, false, List, [], ◌∷◌, ◌++◌, ◌||◌}
-use Rattle.std.proofs.Common.{length, get_or, take, drop, min, Fits, w8, refl, sym, ap, ap₂, ◌∙◌}
+use Rattle.std.proofs.Common.{length, get_or, take, drop, min, Fits, w8, refl, ap₂}
 use Rattle.std.proofs.Common.{arith, append-nil, append_assoc, suc, zero, suc-le-suc, inl, inr}
 use Rattle.std.proofs.Math.Seq.{take-add}
 use Rattle.std.proofs.lemmas.List.{length-drop, drop-drop}
@@ -73,16 +73,15 @@ plain-ascii b p = grind arith
 
 -- plain bytes at the front
 pub kept-plain : (n : ℕ) (bs : List ℕ) → n ≤ prefix_len is_plain bs → AreKept bs n
-kept-plain zero bs = λ le. (omega arith, All-nil IsAsciiByte, refl)
-kept-plain (suc n) [] = λ le. absurd (omega (arith, le))
-kept-plain (suc n) (b ∷ bs) = elim (cases_Bool (is_plain b)) [
-  | inl e ↦ rw e (λ le. let kept = kept-plain n bs (omega (arith, le)) in (
-    suc-le-suc kept.0,
-    All-cons IsAsciiByte b (take n bs) (plain-ascii b e) kept.1,
-    ap (λ x. b ∷ x) kept.2 ∙ sym (sanitized-plain b bs e),
-  ))
-  | inr e ↦ rw e (λ le. absurd (omega (arith, le)))
-]
+kept-plain zero bs le = (omega arith, All-nil IsAsciiByte, refl)
+kept-plain (suc n) [] le = absurd (omega (arith, le))
+kept-plain (suc n) (b ∷ bs) le =
+    let plain : is_plain b ≡ true = grind (arith, le) in
+    let kept = kept-plain n bs (grind (arith, le)) in (
+      suc-le-suc kept.0,
+      All-cons IsAsciiByte b (take n bs) (plain-ascii b plain) kept.1,
+      rw (sanitized-plain b bs plain, ← kept.2) refl,
+    )
 
 -- a percent triple at the front
 triple-plain : (b : ℕ) → is_triple_byte b ≡ true → is_plain b ≡ true
@@ -90,19 +89,17 @@ triple-plain b e = grind (arith, cases_lt, agree_below_at, nat_tests, both_ways)
 
 pub kept-triple : (bs : List ℕ) → begins_triple bs ≡ true → AreKept bs 3
 kept-triple [] e = cc
-kept-triple (b ∷ []) e = absurd (grind (arith, e))
-kept-triple (b ∷ c ∷ []) e = absurd (grind (arith, e))
+kept-triple (b ∷ []) e = grind (arith, e)
+kept-triple (b ∷ c ∷ []) e = grind (arith, e)
 kept-triple (b ∷ c ∷ d ∷ rest) e =
     let first = triple-plain c (grind (arith, e)) in
-    let second = triple-plain d (grind (arith, e)) in (
+    let second = triple-plain d (grind (arith, e)) in
+    let third : b < 128 = grind (arith, e) in (
       omega arith,
       All-from_recursion IsAsciiByte (b ∷ c ∷ d ∷ [])
-          (grind (arith, e), (plain-ascii c first, (plain-ascii d second, tt))),
-      rw (
-        sanitized-stays b (c ∷ d ∷ rest) (grind (arith, e)) (grind (arith, e)),
-        sanitized-plain c (d ∷ rest) first,
-        sanitized-plain d rest second,
-      ) refl,
+          (third, (plain-ascii c first, (plain-ascii d second, tt))),
+      rw (sanitized-stays b (c ∷ d ∷ rest) (grind (arith, e)) (grind (arith, e)))
+          (rw (sanitized-plain c (d ∷ rest) first) (rw (sanitized-plain d rest second) refl)),
     )
 
 -- some at the front, and some in the rest

@@ -100,27 +100,20 @@ none_stays : (n : ℕ) (v : List ℕ) → front_goes_on n v ≡ true → protoco
     protocol_of (read_back_after n v) ≡ None
 none_stays n [] f e = refl
 none_stays zero (b ∷ rest) f e = elim (cases_eq b 38) [
-  | inl is ↦ (let tail =
-      map_none 38 (protocol_of rest) (subst (λ b. protocol_of (b ∷ rest) ≡ None) is e) in
+  | inl is ↦ (let tail = map_none 38 (protocol_of rest) (rw is at e) in
       let later = none_stays (reference_tail rest) rest (reference-goes_on rest) tail in
-      rw is (rw (
-        protocol_of-goes_on (referenced rest) (read_back_after (reference_tail rest) rest)
-            (referenced-goes_on rest),
-        later,
-      ) refl))
+      let first = referenced-goes_on rest in
+      rw is (rw (protocol_of-goes_on (referenced rest) _ first) (rw later refl)))
   | inr ne ↦ rw (read_back-other b rest ne) (elim (cases_Bool (goes_on b)) [
-    | inl on ↦ rw (
-      protocol_of-goes_on b (read_back rest) on,
-      none_stays 0 rest refl
-          (map_none b (protocol_of rest) (rw (protocol_of-goes_on b rest on) at e)),
-    ) refl
+    | inl on ↦ (let tail = map_none b (protocol_of rest) (rw (protocol_of-goes_on b rest on) at e) in
+        rw (protocol_of-goes_on b (read_back rest) on) (rw (none_stays 0 rest refl tail) refl))
     | inr off ↦ grind (arith, off, e)
   ])
 ]
 none_stays (suc n) (b ∷ rest) f e =
     let parts = and_parts (goes_on b) (front_goes_on n rest) f in
-    none_stays n rest parts.1
-    (map_none b (protocol_of rest) (sym (protocol_of-goes_on b rest parts.0) ∙ e))
+    none_stays n rest parts.1 (map_none b (protocol_of rest)
+    (rw (protocol_of-goes_on b rest parts.0) at e))
 
 -- a byte that isn't `&`
 abbrev pub no_and : ℕ → Bool

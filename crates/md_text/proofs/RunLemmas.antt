@@ -2,7 +2,7 @@
 -- that fails.
 use Rattle.std.proofs.Common.{◌≡◌, ℕ, ◌+◌, ◌%◌, ◌^◌, ◌<◌, ◌≤◌, eqb, Bool, true, not, cond}
 use Rattle.std.proofs.Common.{List, [], ◌∷◌, map, length, get_or, take, drop, min, Fits, w8, refl}
-use Rattle.std.proofs.Common.{ap, ◌∙◌, arith, zero, suc}
+use Rattle.std.proofs.Common.{arith, zero, suc}
 use Rattle.std.proofs.lemmas.Bool.{agree_below, agree_below_at}
 use Rattle.std.proofs.lemmas.Simd.{map-map, mask_l-mod, length-chunk, chunk-fits, first_set_mask_l}
 use Rattle.std.proofs.lemmas.List.{length-map}
@@ -44,13 +44,15 @@ run_is q d i n r z room few fits found f lanes all =
     let v = chunk i n d in
     let p = λ (x : ℕ). top 7 (f x) in
     let long = length-chunk i n d room in
-    let mask = ap (λ l. mask_l l % 2 ^ 64) (ap (map (top 7)) lanes ∙ map-map (top 7) f v)
-    ∙ mask_l-mod (map p v) 64 (omega (arith, length-map v p, long)) in
-    found
-    ∙ ap (λ m. cond (eqb m 0) n (count_trailing_zeros 64 m)) mask
-    ∙ first_set_mask_l p v n long few
-    ∙ prefix_len-agree (λ x. not (p x)) q all v (chunk-fits w8 i n d fits)
-    ∙ prefix_len-take q n (drop i d)
+    let mask = mask_l-mod (map p v) 64 (omega (arith, length-map v p, long)) in
+    rw (
+      found,
+      lanes,
+      map-map,
+      mask,
+      first_set_mask_l p v n long few,
+      prefix_len-agree (λ x. not (p x)) q all v (chunk-fits w8 i n d fits),
+    ) (prefix_len-take q n (drop i d))
 
 -- a load from a place up to which all pass: it finds where the run ends, or all of it pass
 pub run_ends : (q : ℕ → Bool) (d : List ℕ) (i n r : ℕ) → i ≤ prefix_len q d →

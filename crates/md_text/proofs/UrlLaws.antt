@@ -47,13 +47,8 @@ IsByte b = b < 256
 normalized_byte-url : (b : ℕ) (rest : List ℕ) → b < 256 → AreUrlBytes (normalized_byte b rest)
 normalized_byte-url b rest l = elim (cases_Bool (stays b rest)) [
   | inl s ↦ rw s (All-cons IsUrl b [] (stays-url b rest s) (All-nil IsUrl))
-  | inr gone ↦ rw gone (All-from_recursion IsUrl (percent b) (
-    refl,
-    (
-      or_left _ (hex_digit (b / 16) == 37) (hex_digit-stays (b / 16) (high_digit b l)),
-      (or_left _ (hex_digit (b % 16) == 37) (hex_digit-stays (b % 16) (low_digit b)), tt),
-    ),
-  ))
+  | inr gone ↦ rw gone (All-from_recursion IsUrl (percent b)
+      (search (or_left, hex_digit-stays, high_digit b l, low_digit b)))
 ]
 
 pub normalized-url : (x : List ℕ) → AreBytes x → AreUrlBytes (normalized_url x)

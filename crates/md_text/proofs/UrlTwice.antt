@@ -1,15 +1,14 @@
 -- A normalized URL stays as it is, and one with no `&` is its own escaped text: so to sanitize
 -- twice is to do it once.
-use Rattle.std.proofs.Common.{arith, ◌≡◌, ◌≢◌, ℕ, ◌==◌, ◌<◌, ◌/◌, ◌%◌, true, false, not, ◌&&◌, ◌||◌}
-use Rattle.std.proofs.Common.{cond, eqb, List, [], ◌∷◌, ◌++◌, All, refl, sym, ap, ap₂, ◌∙◌, inl}
-use Rattle.std.proofs.Common.{inr}
+use Rattle.std.proofs.Common.{arith, ◌≡◌, ◌≢◌, ℕ, ◌==◌, ◌<◌, true, false, not, ◌&&◌, ◌||◌, cond}
+use Rattle.std.proofs.Common.{eqb, List, [], ◌∷◌, ◌++◌, All, refl, sym, ap, ap₂, ◌∙◌, inl, inr}
 use Rattle.std.proofs.lemmas.Bool.{cases_Bool, or_cases, and_parts, or_left}
 use Rattle.std.proofs.lemmas.Bool.{or_right, and_from, both_ways}
 use Rattle.std.proofs.lemmas.List.Elements.{All-nil, All-cons, All-head, All-tail, All-append}
 use Rattle.std.proofs.lemmas.List.Elements.{All-from_recursion}
 use Rattle.md_text.specs.Encode.{encoded}
 use Rattle.md_text.specs.Url.{is_triple_byte, stays, stays_anywhere, completes_triple}
-use Rattle.md_text.specs.Url.{normalized_byte, normalized_url, percent, hex_digit, sanitized}
+use Rattle.md_text.specs.Url.{normalized_byte, normalized_url, percent, sanitized}
 use Rattle.md_text.specs.Laws.{AreBytes}
 use Rattle.md_text.proofs.UrlLemmas.{encoded_byte-stays}
 use Rattle.md_text.proofs.UrlLaws.{IsUrl, IsByte, AreUrlBytes, normalized-url, url_stays}
@@ -65,21 +64,18 @@ pub normalized-twice : (x : List ℕ) → AreBytes x →
 normalized-twice [] h = refl
 normalized-twice (b ∷ rest) h =
     let later = normalized-twice rest (All-tail IsByte b rest h) in
+    let stay = stays-normalized b rest (All-tail IsByte b rest h) in
+    let high = high_digit b (All-head IsByte b rest h) in
     elim (cases_Bool (stays b rest)) [
-      | inl s ↦ rw (
-        normalized-stays b rest s,
-        normalized-stays b (normalized_url rest)
-            (stays-normalized b rest (All-tail IsByte b rest h) s),
+      | inl s ↦ simp (normalized-stays, s, stay s, later)
+      | inr gone ↦ rw gone (simp (
+        normalized-percent,
+        hex_digit-stays,
+        hex_digit-plain,
+        high,
+        low_digit,
         later,
-      ) refl
-      | inr gone ↦ (let high = high_digit b (All-head IsByte b rest h) in
-          rw gone (rw (
-            normalized-percent (hex_digit (b / 16)) (hex_digit (b % 16))
-                (normalized_url rest) (hex_digit-stays (b / 16) high)
-                (hex_digit-stays (b % 16) (low_digit b)) (hex_digit-plain (b / 16) high)
-                (hex_digit-plain (b % 16) (low_digit b)),
-            later,
-          ) refl))
+      ))
     ]
 
 -- no `&` comes from bytes that are none
@@ -96,8 +92,9 @@ normalized_byte-no_and b rest l ne = elim (cases_Bool (stays b rest)) [
   | inr gone ↦ rw gone (All-from_recursion NoAnd (percent b) (
     no_and 37 refl,
     (
-      no_and (hex_digit (b / 16)) (hex_digit-no_and (b / 16) (high_digit b l)),
-      (no_and (hex_digit (b % 16)) (hex_digit-no_and (b % 16) (low_digit b)), tt),
+      no_and _
+          (hex_digit-no_and _ (high_digit b l)),
+      (no_and _ (hex_digit-no_and _ (low_digit b)), tt),
     ),
   ))
 ]
