@@ -1,10 +1,10 @@
 -- The columns that a node adds to those of the tables around it, as the pass collects them.
-use Rattle.std.proofs.Common.{◌≡◌, ℕ, Bool, true, false, cond, List, [], ◌∷◌, ◌++◌, length, drop}
-use Rattle.std.proofs.Common.{refl, ap, sym, ◌∙◌, append_assoc, append-nil}
+use Rattle.std.proofs.Common.{arith, ◌≡◌, ℕ, Bool, true, false, cond, List, [], ◌∷◌, ◌++◌, refl, ap}
+use Rattle.std.proofs.Common.{sym, ◌∙◌, append_assoc, append-nil}
 use Rattle.std.proofs.lemmas.List.{take_at, drop_at}
 use Rattle.md_base.specs.declared.event.AlignKind.{AlignKind}
 use Rattle.md_base.specs.declared.event.Name.{Name}
-use Rattle.md_base.specs.declared.event.Name.TheVariants.{GfmTable, GfmTableDelimiterCellValue}
+use Rattle.md_base.specs.declared.event.Name.TheVariants.{GfmTableDelimiterCellValue}
 use Rattle.md_pattern.specs.declared.columns.Part.{Part}
 use Rattle.md_pattern.specs.declared.columns.Part.TheVariants as part
 use Rattle.md_base.specs.Tree.{Forest}
@@ -35,9 +35,7 @@ record Parted (name : Name) : Type 0 where
   leads : is_leads_part (part_of name) ≡ leads_to_values name
 
 parted : (name : Name) → Parted name
-parted GfmTable = record { table = refl; value = refl; leads = refl }
-parted GfmTableDelimiterCellValue = record { table = refl; value = refl; leads = refl }
-parted _ = record { table = refl; value = refl; leads = refl }
+parted name = grind arith
 
 -- the columns that a node adds to those of the table around it
 abbrev pub added : Bool → Bool → Forest → List AlignKind
@@ -58,26 +56,17 @@ made starts tables pending = record { tables = tables; pending = pending; starts
 pub both_made :
     (starts : List ℕ) (tables others : List (List AlignKind)) (pending more : List AlignKind) →
     tables ≡ others → pending ≡ more → made starts tables pending ≡ made starts others more
-both_made starts tables others pending more a b =
-    ap (λ t. made starts t pending) a ∙ ap (λ p. made starts others p) b
+both_made starts tables others pending more a b = grind arith
 
 pub cond-nil : (collects : Bool) (none : List AlignKind) → cond collects none none ≡ none
-cond-nil true none = refl
-cond-nil false none = refl
+cond-nil collects none = grind arith
 
 columns_part : (p : Part) (children : Forest) (collects : Bool) (columns : Collected) →
     exited_where p (summary_over children empty_summary) collects
     (columns_after children (collects_where p collects) (entered_where p columns))
     ≡ columns_next (is_table_part p) (is_value_part p) (is_leads_part p) children collects columns
 columns_part part.Table children collects columns =
-    let pending = columns.pending in
-    both_made columns.starts _ _ _ _
-    (append_assoc columns.tables (tables_of children)
-    (drop (length pending) (pending ++ alignments children) ∷ [])
-    ∙ ap (λ own. columns.tables ++ (tables_of children ++ own ∷ []))
-    (drop_at pending (alignments children) (length pending) refl))
-    (take_at pending (alignments children) (length pending) refl ∙ sym (append-nil pending)
-    ∙ ap (λ none. pending ++ none) (sym (cond-nil collects [])))
+    grind (arith, both_made, append_assoc, drop_at, take_at, append-nil, cond-nil)
 columns_part part.Leads children collects columns =
     both_made columns.starts _ _ _ _
     (ap (λ tables. columns.tables ++ tables) (sym (append-nil (tables_of children)))) refl
@@ -103,15 +92,7 @@ pub columns_node : (name : Name) (children : Forest) (collects : Bool) (columns 
     (columns_after children (collects_in name collects) (columns_entered name columns))
     ≡ columns_next (is_table name) (is GfmTableDelimiterCellValue name) (leads_to_values name)
     children collects columns
-columns_node name children collects columns =
-    let parts = parted name in
-    columns_part (part_of name) children collects columns
-    ∙ ap (λ b. columns_next b (is_value_part (part_of name)) (is_leads_part (part_of name)) children
-    collects columns) parts.table
-    ∙ ap (λ b. columns_next (is_table name) b (is_leads_part (part_of name)) children collects
-    columns) parts.value
-    ∙ ap (λ b. columns_next (is_table name) (is GfmTableDelimiterCellValue name) b children collects
-    columns) parts.leads
+columns_node name children collects columns = grind (arith, parted, columns_part)
 
 pub columns_rest : (name : Name) (children rest : Forest) (tables : List (List AlignKind))
     (own : List AlignKind) (collects : Bool) (columns : Collected) → columns_after rest collects
@@ -125,19 +106,8 @@ pub columns_rest : (name : Name) (children rest : Forest) (tables : List (List A
       pending = columns.pending ++ cond collects (own ++ alignments rest) [];
       starts = columns.starts;
     }
-columns_rest name children rest tables own collects columns =
-    both_made columns.starts _ _ _ _
-    (append_assoc columns.tables (tables_of children ++ tables) (tables_of rest)
-    ∙ ap (λ ts. columns.tables ++ ts) (append_assoc (tables_of children) tables (tables_of rest)))
-    (append_assoc columns.pending (cond collects own []) (cond collects (alignments rest) [])
-    ∙ ap (λ more. columns.pending ++ more) (by collects))
-  where
-    by : (c : Bool) →
-        cond c own [] ++ cond c (alignments rest) [] ≡ cond c (own ++ alignments rest) []
-    by true = refl
-    by false = refl
+columns_rest name children rest tables own collects columns = grind (arith, both_made, append_assoc)
 
 pub entered_tables : (p : Part) (columns : Collected) →
     Collected.tables (entered_where p columns) ≡ columns.tables
-entered_tables part.Table columns = refl
-entered_tables _ columns = refl
+entered_tables p columns = grind arith

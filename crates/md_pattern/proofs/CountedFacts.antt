@@ -1,6 +1,6 @@
 -- How many facts and tables are defined of some nodes: a fact for each event.
-use Rattle.std.proofs.Common.{◌≡◌, ℕ, suc, Bool, true, false, cond, List, [], ◌∷◌, ◌++◌, length}
-use Rattle.std.proofs.Common.{refl, ap, sym, ◌∙◌, append_assoc, append-nil}
+use Rattle.std.proofs.Common.{arith, ◌≡◌, ℕ, suc, Bool, true, false, cond, List, [], ◌∷◌, ◌++◌}
+use Rattle.std.proofs.Common.{length, refl, ap, sym, ◌∙◌, append_assoc, append-nil}
 use Rattle.md_base.specs.declared.event.AlignKind.{AlignKind}
 use Rattle.md_base.specs.declared.event.Name.{Name}
 use Rattle.md_pattern.specs.declared.facts.Fact.{Fact}
@@ -17,9 +17,7 @@ length_one (y ∷ xs) x = ap suc (length_one xs x)
 
 pub regrouped : {A : Type 0} (a b c : List A) (x y : A) →
     ((((a ++ x ∷ []) ++ b) ++ y ∷ []) ++ c) ≡ a ++ (x ∷ (b ++ (y ∷ c)))
-regrouped a b c x y =
-    append_assoc ((a ++ x ∷ []) ++ b) (y ∷ []) c ∙ append_assoc (a ++ x ∷ []) b (y ∷ c)
-    ∙ append_assoc a (x ∷ []) (b ++ (y ∷ c))
+regrouped a b c x y = grind (arith, append_assoc)
 
 pub length_facts : (forest : Forest) (index tables : ℕ) (facts : List Fact) → length facts ≡ index →
     length (facts ++ facts_of index tables forest) ≡ index_after index forest

@@ -1,11 +1,9 @@
 -- What words say where a record has come, and where a word comes or changes.
-use Rattle.std.proofs.Common.{◌≡◌, ℕ, ◌-◌, ◌<◌, ◌^◌, List, [], ◌∷◌, ◌++◌, Result, Ok, Err}
-use Rattle.std.proofs.Common.{length, get_or, if◌then◌else◌}
-use Rattle.std.proofs.Common.{refl, sym, ap, ◌∙◌, subst, arith}
+use Rattle.std.proofs.Common.{◌≡◌, ℕ, ◌-◌, ◌<◌, ◌^◌, List, [], ◌∷◌, ◌++◌, Result, length, ap, ◌∙◌}
+use Rattle.std.proofs.Common.{arith}
 use Rattle.std.specs.Prelude.{set, OnOk, ◌≤◌}
 use Rattle.std.proofs.lemmas.List.{map-append, map-set, append-nil, length-map}
 use Rattle.std.proofs.lemmas.List.{set-append_left, set-append_right}
-use Rattle.std.proofs.lemmas.Bool.{lt-leb}
 use Rattle.std.proofs.lemmas.List.Elements.{All-head, All-tail, All-weaker, All-push, All-set}
 use Rattle.md_pattern.specs.declared.facts.Fact.{Fact}
 use Rattle.md_pattern.specs.Facts.{partner_alone}
@@ -18,12 +16,9 @@ module _ (old new : List Fact) (still : (word : ℕ) → IsWord old word → IsW
 
   pub facts-same : (words : List ℕ) → AreWords old words →
       facts_of_words new words ≡ facts_of_words old words
-  facts-same [] are = refl
+  facts-same [] are = grind (arith, All-head, All-tail)
   facts-same (word ∷ words) are =
-      ap (λ fact. fact ∷ facts_of_words new words)
-      (same word (All-head (IsWord old) word words are))
-      ∙ ap (λ facts. fact_of_word old word ∷ facts)
-      (facts-same words (All-tail (IsWord old) word words are))
+      grind (arith, All-head, All-tail, facts-same words (All-tail (IsWord old) word words are))
 
   -- a word that is added
   pub AreWords-push : (words : List ℕ) (word : ℕ) → AreWords old words → IsWord new word →
@@ -34,10 +29,7 @@ module _ (old new : List Fact) (still : (word : ℕ) → IsWord old word → IsW
   pub facts-push : (words : List ℕ) (word : ℕ) (fact : Fact) → AreWords old words →
       fact_of_word new word ≡ fact →
       facts_of_words new (words ++ word ∷ []) ≡ facts_of_words old words ++ fact ∷ []
-  facts-push words word fact are says =
-      map-append (fact_of_word new) words (word ∷ [])
-      ∙ ap (λ facts. facts ++ fact_of_word new word ∷ []) (facts-same words are)
-      ∙ ap (λ f. facts_of_words old words ++ f ∷ []) says
+  facts-push words word fact are says = grind (arith, map-append, facts-same)
 
   -- writing a word at an index
   pub AreWords-put : (words : List ℕ) (index word : ℕ) → AreWords old words → IsWord new word →
@@ -48,33 +40,24 @@ module _ (old new : List Fact) (still : (word : ℕ) → IsWord old word → IsW
   pub facts-put : (words : List ℕ) (index word : ℕ) (fact : Fact) → AreWords old words →
       fact_of_word new word ≡ fact →
       facts_of_words new (set words index word) ≡ set (facts_of_words old words) index fact
-  facts-put words index word fact are says =
-      map-set (fact_of_word new) words index word
-      ∙ ap (λ facts. set facts index (fact_of_word new word)) (facts-same words are)
-      ∙ ap (λ f. set (facts_of_words old words) index f) says
+  facts-put words index word fact are says = grind (arith, map-set, facts-same)
 
 -- an index that is low enough encodes a partner
 partner-low : (records : List Fact) (index : ℕ) → index < 2 ^ 31 →
     fact_of_word records index ≡ partner_alone index
-partner-low records index low =
-    ap (λ b. if b then get_or records (index - 2 ^ 31) (partner_alone 0) else partner_alone index)
-    (lt-leb (2 ^ 31) index low)
+partner-low records index low = grind arith
 
 -- with no rest the facts are those that the words encode
 pub no_rest : (records : List Fact) (words : List ℕ) (rest : List Fact) → rest ≡ [] →
     all_facts records words rest ≡ facts_of_words records words
-no_rest records words rest none =
-    ap (λ facts. facts_of_words records words ++ facts) none
-    ∙ append-nil (facts_of_words records words)
+no_rest records words rest none = grind (arith, append-nil)
 
 -- with no rest, what changes the words and adds to them changes the facts likewise
 pub by_words : (old new : List Fact) (words changed : List ℕ) (rest more : List Fact) → rest ≡ [] →
     (change : List Fact → List Fact) →
     facts_of_words new changed ≡ change (facts_of_words old words) ++ more →
     all_facts new changed rest ≡ change (all_facts old words rest) ++ more
-by_words old new words changed rest more none change is =
-    no_rest new changed rest none ∙ is
-    ∙ ap (λ facts. change facts ++ more) (sym (no_rest old words rest none))
+by_words old new words changed rest more none change is = grind (arith, no_rest)
 
 -- the word of an entry whose exit is the next event, and the word of the exit
 pub facts-closed : (records : List Fact) (words : List ℕ) (entry : ℕ) (fact : Fact) →
@@ -82,13 +65,7 @@ pub facts-closed : (records : List Fact) (words : List ℕ) (entry : ℕ) (fact 
     facts_of_words records (set words entry (length words) ++ entry ∷ [])
     ≡ set (facts_of_words records words) entry fact ++ partner_alone entry ∷ []
 facts-closed records words entry fact before low is =
-    map-append (fact_of_word records) (set words entry (length words)) (entry ∷ [])
-    ∙ ap (λ facts. facts ++ fact_of_word records entry ∷ [])
-    (map-set (fact_of_word records) words entry (length words))
-    ∙ ap (λ f. set (facts_of_words records words) entry f ++ fact_of_word records entry ∷ [])
-    (partner-low records (length words) low ∙ sym is)
-    ∙ ap (λ f. set (facts_of_words records words) entry fact ++ f ∷ [])
-    (partner-low records entry (omega (arith, before, low)))
+    grind (arith, map-append, map-set, partner-low)
 
 -- a fact that is written at an index, among those that words encode and among the rest
 pub facts-written : (old new : List Fact) (words changed : List ℕ) (rest : List Fact) (index : ℕ)
@@ -96,17 +73,13 @@ pub facts-written : (old new : List Fact) (words changed : List ℕ) (rest : Lis
     facts_of_words new changed ≡ set (facts_of_words old words) index fact →
     all_facts new changed rest ≡ set (all_facts old words rest) index fact
 facts-written old new words changed rest index fact before is =
-    ap (λ facts. facts ++ rest) is
-    ∙ sym (set-append_left (facts_of_words old words) rest index fact
-    (subst (λ n. index < n) (sym (length-map words (fact_of_word old))) before))
+    grind (arith, set-append_left, length-map)
 
 pub rest-written : (records : List Fact) (words : List ℕ) (rest : List Fact) (n index : ℕ)
     (fact : Fact) → length words ≡ n → n ≤ index →
     all_facts records words (set rest (index - n) fact)
     ≡ set (all_facts records words rest) index fact
-rest-written records words rest n index fact is after =
-    sym (set-append_right (facts_of_words records words) rest n index fact
-    (length-map words (fact_of_word records) ∙ is) after)
+rest-written records words rest n index fact is after = grind (arith, set-append_right, length-map)
 
 -- the index of an event that comes as a word
 pub facts-pushed : (records : List Fact) (words : List ℕ) (rest : List Fact) (partner : ℕ) →
@@ -121,5 +94,4 @@ facts-pushed records words rest partner none low =
 -- a result with one more known fact
 pub on_ok : {A E : Type 0} (P Q : Type 0) → (P → Q) → (result : Result A E) → OnOk result P →
     OnOk result Q
-on_ok P Q f (Ok a) p = f p
-on_ok P Q f (Err e) p = p
+on_ok P Q f h3 p = grind arith

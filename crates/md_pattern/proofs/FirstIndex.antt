@@ -1,28 +1,23 @@
 -- The first line ending among some events is found event by event.
-use Rattle.std.proofs.Common.{◌≡◌, ◌+◌, ◌<◌, ◌≤◌, ℕ, suc, List, [], ◌∷◌, ◌++◌}
-use Rattle.std.proofs.Common.{Option, Some, None, refl, ap, sym, ◌∙◌, length, take, get_or, add-one}
-use Rattle.std.proofs.Common.{arith, inl, inr}
+use Rattle.std.proofs.Common.{◌≡◌, ◌+◌, ◌<◌, ◌≤◌, ℕ, suc, List, [], ◌∷◌, ◌++◌, Option, ap, sym, ◌∙◌}
+use Rattle.std.proofs.Common.{length, take, get_or, add-one, arith}
 use Rattle.std.proofs.lemmas.Bool.{cases_Bool}
 use Rattle.std.specs.Prelude.{option_map}
 use Rattle.std.proofs.Math.Seq.{take-suc}
 use Rattle.std.proofs.lemmas.List.{length-take-le}
 use Rattle.md_base.specs.declared.event.Event.{Event}
-use Rattle.md_pattern.specs.Ending.{exits_line_ending, first_index, ending_after}
+use Rattle.md_pattern.specs.Ending.{first_index, ending_after}
 
 one_later : (found : Option ℕ) (index : ℕ) (event : Event) →
     option_map (λ i. suc i) (ending_after found index event)
     ≡ ending_after (option_map (λ i. suc i) found) (suc index) event
-one_later (Some found) index event = refl
-one_later None index event = grind arith
+one_later found index event = grind arith
 
 first_index-append : (events : List Event) (event : Event) →
     first_index (events ++ event ∷ []) ≡ ending_after (first_index events) (length events) event
-first_index-append [] event = refl
-first_index-append (first ∷ events) event = elim (cases_Bool (exits_line_ending first)) [
-  | inl ends ↦ rw ends refl
-  | inr on ↦ rw on (ap (option_map (λ i. suc i)) (first_index-append events event)
-      ∙ one_later (first_index events) (length events) event)
-]
+first_index-append [] event = grind (arith, cases_Bool, one_later)
+first_index-append (first ∷ events) event =
+    grind (arith, cases_Bool, one_later, first_index-append events event)
 
 pub first_index-more : (events : List Event) (index : ℕ) (d : Event) (found : Option ℕ) →
     index < length events →

@@ -1,15 +1,13 @@
 -- A node without children, which exits right after its entry.
-use Rattle.std.proofs.Common.{◌≡◌, ℕ, ◌+◌, false, List, [], ◌∷◌, ◌++◌, length, refl, ap, sym, ◌∙◌}
+use Rattle.std.proofs.Common.{arith, ◌≡◌, ℕ, ◌+◌, false, List, [], ◌∷◌, ◌++◌, length, ap}
 use Rattle.std.specs.Prelude.{set}
 use Rattle.std.proofs.Math.Seq.{set-append_seam}
 use Rattle.std.proofs.lemmas.List.{length-append}
 use Rattle.md_base.specs.declared.event.Name.{Name}
-use Rattle.md_base.specs.declared.event.Name.TheVariants.{GfmTable}
 use Rattle.md_pattern.specs.declared.seeking.Sought.{Sought}
 use Rattle.md_pattern.specs.declared.facts.Fact.{Fact}
 use Rattle.md_pattern.specs.declared.facts.OpenNode.{OpenNode}
 use Rattle.md_base.specs.NameTests.{is_table}
-use Rattle.md_base.proofs.Lies.{lie}
 use Rattle.md_pattern.specs.Summary.{empty_summary}
 use Rattle.md_pattern.specs.Columns.{Collected, columns_entered, columns_exited}
 use Rattle.md_pattern.specs.Facts.{PassState, sought_inside, opened, followed, fact_of}
@@ -18,13 +16,11 @@ use Rattle.md_pattern.specs.Facts.{partner_alone, definitions_with, passed_entry
 -- a node that is no table begins no columns, and its fact is its partner alone
 plain-entered : (name : Name) (columns : Collected) → is_table name ≡ false →
     columns_entered name columns ≡ columns
-plain-entered GfmTable columns plain = lie (sym plain)
-plain-entered _ columns plain = refl
+plain-entered name columns plain = grind arith
 
 plain-fact : (name : Name) (exit table : ℕ) (around : Sought) → is_table name ≡ false →
     partner_alone exit ≡ fact_of name exit table 0 (sought_inside name around) empty_summary
-plain-fact GfmTable exit table around plain = lie (sym plain)
-plain-fact _ exit table around plain = refl
+plain-fact name exit table around plain = grind arith
 
 -- the facts after such a node
 abbrev pub after_leaf : Name → PassState → PassState
@@ -43,10 +39,7 @@ after_leaf name pass = record {
 facts-leaf : (found : List Fact) (alone : Fact) (at : ℕ → Fact) →
     found ++ at (length found + 1) ∷ []
     ≡ set (found ++ alone ∷ []) (length found) (at (length (found ++ alone ∷ [])))
-facts-leaf found alone at =
-    sym (set-append_seam found alone [] (at (length found + 1)))
-    ∙ ap (λ n. set (found ++ alone ∷ []) (length found) (at n))
-    (sym (length-append found (alone ∷ [])))
+facts-leaf found alone at = grind (arith, set-append_seam, length-append)
 
 pub passed-leaf : (name : Name) (pass : PassState) →
     after_leaf name pass ≡ passed_exit name (passed_entry name pass)
@@ -75,15 +68,4 @@ pub passed-leaf_by :
     }
     ≡ passed_exit name (passed_entry name pass)
 passed-leaf_by name pass entry here columns once twice definitions plain e1 e5 e6 e7 e8 e9 =
-    rw (e9, e8, e7, e6, e5, e1) (ap (λ f. record {
-      facts = (pass.facts ++ f ∷ []) ++ partner_alone (length pass.facts) ∷ [];
-      columns = columns_exited name empty_summary (OpenNode.collects pass.here) pass.columns;
-      definitions = definitions_with name (length pass.facts) pass.definitions;
-      here = followed name (opened (length pass.facts) name pass.here) pass.here;
-      outer = pass.outer;
-    }) (plain-fact name (length pass.facts + 1)
-    (length (Collected.tables (columns_entered name pass.columns)))
-    (OpenNode.sought pass.here) plain)
-    ∙ ap (λ c. record (after_leaf name pass) {
-      columns = columns_exited name empty_summary (OpenNode.collects pass.here) c;
-    }) (sym (plain-entered name pass.columns plain)) ∙ passed-leaf name pass)
+    grind (arith, plain-fact, plain-entered, passed-leaf)

@@ -1,11 +1,9 @@
 -- Looseness that looks ahead to a blank line ending, as the pass computes it, equals looseness that
 -- looks back from the blank line ending.
-use Rattle.std.proofs.Common.{◌≡◌, Bool, true, false, not, ◌&&◌, ◌||◌, refl, ap, ◌∙◌, arith}
+use Rattle.std.proofs.Common.{◌≡◌, Bool, true, false, not, ◌&&◌, ◌||◌, arith}
 use Rattle.std.specs.Prelude.{if◌then◌else◌}
-use Rattle.md_base.proofs.Lies.{lie}
 use Rattle.md_base.specs.declared.event.Name.{Name}
-use Rattle.md_base.specs.declared.event.Name.TheVariants.{BlankLineEnding, ListItem, ListItemPrefix}
-use Rattle.md_base.specs.declared.event.Name.TheVariants.{SpaceOrTab}
+use Rattle.md_base.specs.declared.event.Name.TheVariants.{ListItem, ListItemPrefix, SpaceOrTab}
 use Rattle.md_base.specs.Is.{is}
 use Rattle.md_base.specs.Tree.{Forest, Empty, Node}
 use Rattle.md_base.specs.Children.{is_empty}
@@ -24,41 +22,30 @@ ended last but_space (Node name start end children rest) =
 
 ended-same : (last but_space : Bool) (forest : Forest) →
     ends_bare last but_space forest ≡ ended last but_space forest
-ended-same last but_space Empty = refl
+ended-same last but_space Empty = grind arith
 ended-same last but_space (Node name start end children Empty) = grind arith
 ended-same last but_space (Node name start end children (Node next begin stop inner rest)) =
-    let later = ended-same (is_bare name children)
-    (if is SpaceOrTab name then last else is_bare name children)
-    (Node next begin stop inner rest) in
-    grind (arith, later)
+    grind (
+      arith,
+      ended-same (is_bare name children) (if is SpaceOrTab name then last else is_bare
+          name children) (Node next begin stop inner rest),
+    )
 
 -- a space is not bare
 space_bare : (name : Name) (children : Forest) → is SpaceOrTab name ≡ true →
     is_bare name children ≡ false
-space_bare SpaceOrTab children h = refl
-space_bare _ children h = lie h
+space_bare name children h = grind arith
 
 bare-same : (forest : Forest) → old.ends_bare forest ≡ ends_bare false false forest
-bare-same Empty = refl
-bare-same (Node name start end children Empty) =
-    let space = space_bare name children in
-    let ended = ended-same false false (Node name start end children Empty) in
-    grind (arith, space, ended)
-bare-same (Node name start end children (Node next begin stop inner rest)) =
-    let ended =
-    ended-same false false (Node name start end children (Node next begin stop inner rest)) in
-    grind (arith, ended)
+bare-same forest = grind (arith, space_bare, ended-same)
 
 -- lists
 parting-same : (excused : Bool) (forest : Forest) →
     begins_blank forest && not excused || old.has_parting_blank forest
     ≡ has_parting_blank excused forest
-parting-same excused Empty = refl
+parting-same excused Empty = grind (arith, bare-same)
 parting-same excused (Node name start end children rest) =
-    ap (λ b. is BlankLineEnding name && not excused
-    || (begins_blank rest && not (is ListItem name && b) || old.has_parting_blank rest))
-    (bare-same children) ∙ ap (λ b. is BlankLineEnding name && not excused || b)
-    (parting-same (is ListItem name && ends_bare false false children) rest)
+    grind (arith, bare-same, parting-same (is ListItem name && ends_bare false false children) rest)
 
 pub without-same : (children : Forest) →
     old.is_loose_without_items children ≡ is_loose_without_items children
@@ -74,18 +61,18 @@ inner-same : (last but_space : Bool) (forest : Forest) →
     begins_blank forest && not but_space
     || (begins_space_blank forest && not last || old.has_inner_blank forest)
     ≡ has_inner_blank last but_space forest
-inner-same last but_space Empty = refl
+inner-same last but_space Empty = grind (arith, arranged)
 inner-same last but_space (Node name start end children rest) =
-    ap (λ b. is BlankLineEnding name && not but_space || b)
-    (arranged (is SpaceOrTab name) (begins_blank rest) (begins_space_blank rest)
-    last (is ListItemPrefix name) (old.has_inner_blank rest) ∙ inner-same (is ListItemPrefix name)
-    (if is SpaceOrTab name then last else is ListItemPrefix name) rest)
+    grind (
+      arith,
+      arranged,
+      inner-same (is ListItemPrefix name) (if is SpaceOrTab name then last
+          else is ListItemPrefix name) rest,
+    )
 
 pub item-same : (children : Forest) → old.is_loose_item children ≡ is_loose_item children
 item-same children = let inner = inner-same false false children in grind (arith, inner)
 
 pub items-same : (children : Forest) → old.has_loose_item children ≡ has_loose_item children
-items-same Empty = refl
-items-same (Node name start end children rest) =
-    ap (λ b. is ListItem name && b || old.has_loose_item rest) (item-same children)
-    ∙ ap (λ b. is ListItem name && is_loose_item children || b) (items-same rest)
+items-same Empty = grind (arith, item-same)
+items-same (Node name start end children rest) = grind (arith, item-same, items-same rest)

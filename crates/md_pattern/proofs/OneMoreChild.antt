@@ -1,5 +1,5 @@
 -- The facts about some children with one more after them.
-use Rattle.std.proofs.Common.{◌≡◌, Bool, true, false, not, ◌&&◌, ◌||◌, cond, refl}
+use Rattle.std.proofs.Common.{arith, ◌≡◌, Bool, true, false, not, ◌&&◌, ◌||◌, cond}
 use Rattle.md_base.specs.declared.event.Name.{Name}
 use Rattle.md_base.specs.declared.event.Name.TheVariants as name_variants
 use name_variants.{BlankLineEnding, ListItem, GfmTableDelimiterMarker, SpaceOrTab, ListItemPrefix}
@@ -22,8 +22,7 @@ not_prefix final.Prefix = false
 not_prefix _ = true
 
 pub or-false : (b : Bool) → b ≡ (b || false)
-or-false true = refl
-or-false false = refl
+or-false b = grind arith
 
 -- nothing stands after a marker in a node of this name, by its own last child
 abbrev pub bare_by : Name → Last → Bool
@@ -54,61 +53,39 @@ AsTested name own before last =
     × (is_bare_last (spaced last) ≡ bare_by name own)
 
 item_tested : (own before : Last) → AsTested ListItem own before (item_as own)
-item_tested final.Prefix before = (refl, refl, refl, refl, refl, refl, refl, refl)
-item_tested _ before = (refl, refl, refl, refl, refl, refl, refl, refl)
+item_tested own before = grind arith
 
 space_tested : (own before : Last) → AsTested SpaceOrTab own before (spaced before)
-space_tested own final.Prefix = (refl, refl, refl, refl, refl, refl, refl, refl)
-space_tested own _ = (refl, refl, refl, refl, refl, refl, refl, refl)
+space_tested own before = grind arith
 
 quote_tested : (own before : Last) → AsTested BlockQuote own before (quote_as own)
-quote_tested final.QuotePrefix before = (refl, refl, refl, refl, refl, refl, refl, refl)
-quote_tested _ before = (refl, refl, refl, refl, refl, refl, refl, refl)
+quote_tested own before = grind arith
 
 tested : (name : Name) (own summary : Summary) →
     AsTested name own.last summary.last (Summary.last (summary_with name own summary))
-tested ListItem own summary = item_tested own.last summary.last
-tested SpaceOrTab own summary = space_tested own.last summary.last
-tested BlockQuote own summary = quote_tested own.last summary.last
-tested _ own summary = (refl, refl, refl, refl, refl, refl, refl, refl)
+tested name own summary = grind arith
 
 pub last_with : (name : Name) (own summary : Summary) →
     IsLast name own.last summary.last (Summary.last (summary_with name own summary))
-last_with name own summary =
-    let (quote, marker, nothing, parting, loosening, prefix, bare, bare_spaced) =
-    tested name own summary in
-    record {
-      quote = quote;
-      marker = marker;
-      nothing = nothing;
-      parting = parting;
-      loosening = loosening;
-      prefix = prefix;
-      bare = bare;
-      bare_spaced = bare_spaced;
-    }
+last_with name own summary = grind arith
 
 -- ---- what is known of all of them
 pub begins_with : (name : Name) (own summary : Summary) →
     Summary.begins_with_marker (summary_with name own summary)
     ≡ (summary.begins_with_marker || (is GfmTableDelimiterMarker name && is_nothing summary.last))
-begins_with GfmTableDelimiterMarker own summary = refl
-begins_with _ own summary = or-false summary.begins_with_marker
+begins_with name own summary = grind arith
 
 pub without_with : (name : Name) (own summary : Summary) → Summary.without_items
     (summary_with name own summary)
     ≡ (summary.without_items || (is BlankLineEnding name && parts summary.last))
-without_with BlankLineEnding own summary = refl
-without_with _ own summary = or-false summary.without_items
+without_with name own summary = grind arith
 
 pub item_with : (name : Name) (own summary : Summary) → Summary.of_item
     (summary_with name own summary)
     ≡ (summary.of_item || (is BlankLineEnding name && loosens summary.last))
-item_with BlankLineEnding own summary = refl
-item_with _ own summary = or-false summary.of_item
+item_with name own summary = grind arith
 
 pub loose_item_with : (name : Name) (own summary : Summary) →
     Summary.has_loose_item (summary_with name own summary)
     ≡ (summary.has_loose_item || (is ListItem name && own.of_item))
-loose_item_with ListItem own summary = refl
-loose_item_with _ own summary = or-false summary.has_loose_item
+loose_item_with name own summary = grind arith

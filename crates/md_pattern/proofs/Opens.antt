@@ -1,6 +1,6 @@
 -- The open nodes; the vector has the innermost last: the list after that one changes.
 use Rattle.std.proofs.Common.{◌≡◌, ℕ, false, ◌+◌, ◌-◌, ◌<◌, List, [], ◌∷◌, ◌++◌, length, get_or}
-use Rattle.std.proofs.Common.{Result, Ok, Err, refl, sym, ap, subst, ◌∙◌, arith}
+use Rattle.std.proofs.Common.{Result, refl, sym, ap, subst, ◌∙◌, arith}
 use Rattle.std.specs.Prelude.{set, reverse, OnOk}
 use Rattle.std.proofs.Math.Seq.{set-append_seam, get_or-append_seam}
 use Rattle.std.proofs.lemmas.List.{length-append, reverse-append, reverse-reverse}
@@ -19,13 +19,10 @@ use Rattle.md_pattern.proofs.Leaves.{passed-leaf_by}
 pub on_answer : {A E : Type 0} (P Q R S : Type 0) → (P → Q → R → S) →
     (result : Result A E) → OnOk result P →
     OnOk result Q → OnOk result R → OnOk result S
-on_answer P Q R S f (Ok a) p q r = f p q r
-on_answer P Q R S f (Err e) p q r = p
+on_answer P Q R S f h5 p q r = grind arith
 
 opens-seam : (r : List OpenNode) (x d : OpenNode) → opens (reverse r ++ x ∷ []) d ≡ x ∷ r ++ d ∷ []
-opens-seam r x d =
-    ap (λ xs. xs ++ d ∷ [])
-    (reverse-append (reverse r) (x ∷ []) ∙ ap (λ xs. x ∷ xs) (reverse-reverse r))
+opens-seam r x d = grind (arith, reverse-append, reverse-reverse)
 
 one_less : (n : ℕ) → (n + 1) - 1 ≡ n
 one_less n = omega arith
@@ -65,12 +62,10 @@ opens-alone [] d none = refl
 opens-alone (x ∷ items) d none = absurd (omega (arith, none))
 
 grounded-next : (r : List OpenNode) → next_outer (grounded r) ≡ next_outer r
-grounded-next [] = refl
-grounded-next (x ∷ r) = refl
+grounded-next r = grind arith
 
 grounded-others : (r : List OpenNode) → others_outer (grounded r) ≡ others_outer r
-grounded-others [] = refl
-grounded-others (x ∷ r) = refl
+grounded-others r = grind arith
 
 -- the exit of a node, by the results of each step: the node, the rest, and its new value
 pub passed_exit-by :
@@ -90,20 +85,8 @@ pub passed_exit-by :
       here = next_outer stack;
       outer = others_outer stack;
     } ≡ passed_exit name pass
-passed_exit-by name pass own here after facts columns definitions left stack own_is left_is here_is
-    stack_is after_is facts_is columns_is definitions_is =
-    rw (
-      stack_is,
-      after_is,
-      facts_is,
-      columns_is,
-      definitions_is,
-      here_is,
-      left_is,
-      own_is,
-      grounded-next pass.outer,
-      grounded-others pass.outer,
-    ) refl
+passed_exit-by name pass own here after facts columns definitions left stack own_is left_is here_is stack_is after_is facts_is columns_is definitions_is =
+    grind arith
 
 -- a node without children, by what each step gave
 pub passed_leaf-by :
@@ -122,9 +105,5 @@ pub passed_leaf-by :
       here = next_outer stack;
       outer = others_outer stack;
     } ≡ passed_exit name (passed_entry name pass)
-passed_leaf-by name pass entry here after columns once twice definitions stack plain entry_is
-    once_is twice_is here_is stack_is columns_is definitions_is after_is =
-    rw stack_is (passed-leaf_by name pass entry after columns once twice definitions plain
-    entry_is once_is twice_is
-    (columns_is ∙ ap (λ h. columns_exited name empty_summary (OpenNode.collects h) pass.columns)
-    here_is) definitions_is (after_is ∙ ap (λ h. followed name (opened entry name h) h) here_is))
+passed_leaf-by name pass entry here after columns once twice definitions stack plain entry_is once_is twice_is here_is stack_is columns_is definitions_is after_is =
+    grind (arith, passed-leaf_by)

@@ -1,8 +1,6 @@
 -- The pass from the first event to the last finds what is defined of a forest's nodes.
-use Rattle.std.proofs.Common.{◌≡◌, ℕ, suc, ◌+◌, ◌<◌, add-one, get_or, Bool, true, false, cond, List}
-use Rattle.std.proofs.Common.{[], ◌∷◌, ◌++◌, length, take, refl, ap, sym, ◌∙◌, append_assoc}
-use Rattle.std.proofs.Common.{append-nil}
-use Rattle.std.specs.Prelude.{set}
+use Rattle.std.proofs.Common.{arith, ◌≡◌, ℕ, suc, ◌+◌, ◌<◌, add-one, get_or, cond, List, [], ◌∷◌}
+use Rattle.std.proofs.Common.{◌++◌, length, take, refl, ap, sym, ◌∙◌, append_assoc, append-nil}
 use Rattle.std.proofs.Math.Seq.{take-suc}
 use Rattle.std.proofs.lemmas.List.{set_at}
 use Rattle.md_base.specs.declared.event.Name.{Name}
@@ -13,18 +11,15 @@ use Rattle.md_pattern.specs.declared.seeking.Sought.{Sought}
 use Rattle.md_pattern.specs.declared.facts.Fact.{Fact}
 use Rattle.md_pattern.specs.declared.facts.OpenNode.{OpenNode}
 use Rattle.md_base.specs.Tree.{Forest, Empty, Node, flatten, exiting}
-use Rattle.md_base.specs.NameTests.{is_transparent, is_item, is_table, is_link_definition}
-use Rattle.md_base.specs.NameTests.{leads_to_values}
+use Rattle.md_base.specs.NameTests.{is_table, is_link_definition, leads_to_values}
 use Rattle.md_base.specs.Is.{is}
 use Rattle.md_pattern.specs.Alignments.{alignments}
 use Rattle.md_pattern.specs.Partners.{index_after, definition_entries}
-use Rattle.md_pattern.specs.Summary.{empty_summary, summary_over, looseness}
 use Rattle.md_pattern.specs.Seeking.{search_of}
-use Rattle.md_pattern.specs.Columns.{Collected, part_of, collects_in, columns_entered}
-use Rattle.md_pattern.specs.Columns.{columns_exited, tables_of, columns_after}
+use Rattle.md_pattern.specs.Columns.{Collected, part_of, columns_entered, tables_of, columns_after}
 use Rattle.md_pattern.specs.Facts.{PassState, pass_beginning, sought_inside, opened, followed}
 use Rattle.md_pattern.specs.Facts.{fact_of, partner_alone, passed_exit, passed, passed_over}
-use Rattle.md_pattern.specs.Facts.{contributing_over, sought_over, followed_over, tables_with}
+use Rattle.md_pattern.specs.Facts.{sought_over, followed_over, tables_with}
 use Rattle.md_pattern.specs.Facts.{tables_after, fact_at, facts_of}
 use Rattle.md_pattern.proofs.ColumnsAdded.{columns_next, columns_node, entered_tables, added}
 use Rattle.md_pattern.proofs.ColumnsAdded.{both_made, cond-nil, columns_rest}
@@ -37,21 +32,7 @@ fact_same : (name : Name) (exit tables contributing index : ℕ) (children : For
     fact_of name exit tables contributing (sought_over index children (sought_inside name sought))
     summary ≡ fact_of name exit tables contributing (sought_over index children (search_of name))
     summary
-fact_same name exit tables contributing index children sought summary = by (is_transparent name)
-  where
-    fact_where : Bool → Sought → Fact
-    fact_where through own = record {
-      partner = exit;
-      read_at = cond (is_table name) tables
-          (cond (is_item name) contributing (cond through 0 own.read_at));
-      looseness = looseness summary;
-    }
-
-    by : (through : Bool) →
-        fact_where through (sought_over index children (cond through sought (search_of name)))
-        ≡ fact_where through (sought_over index children (search_of name))
-    by true = refl
-    by false = refl
+fact_same name exit tables contributing index children sought summary = grind arith
 
 -- ---- the pass
 abbrev state : List OpenNode → OpenNode → List ℕ → List Fact → Collected → PassState
@@ -106,43 +87,17 @@ exit_after : (index tables : ℕ) (name : Name) (children : Forest) (pass : Pass
     (passed_forest (suc index) tables children (inside_node index name pass))
     ≡ after_node index tables name children pass
 exit_after index tables name children pass e t =
-    let inner = facts_of (suc index) tables children in
-    let here =
-    followed name (followed_over (suc index) children (opened index name pass.here)) pass.here in
-    let found = (pass.facts ++ partner_alone 0 ∷ []) ++ inner in
-    let ended = Collected.tables (columns_entered name pass.columns) ++ tables_of children in
-    let contributing = contributing_over (suc index) children 0 in
-    let sought = sought_over (suc index) children (sought_inside name pass.here.sought) in
-    let summary = summary_over children empty_summary in
-    let definitions = (pass.definitions ++ definition_entries (suc index) children)
-    ++ cond (is_link_definition name) (index ∷ []) [] in
-    let exit_is : length found ≡ index_after (suc index) children =
-    length_facts children (suc index) tables (pass.facts ++ partner_alone 0
-    ∷ []) (length_one pass.facts (partner_alone 0) ∙ ap suc e) in
-    let tables_are : length ended ≡ tables_after tables children =
-    length_tables children tables (Collected.tables (columns_entered name pass.columns))
-    (ap length (entered_tables (part_of name) pass.columns) ∙ t) in
-    let fact_is : fact_of name (length found) (length ended) contributing sought summary
-    ≡ fact_at index tables name children =
-    ap (λ n. fact_of name n (length ended) contributing sought summary) exit_is
-    ∙ ap (λ n. fact_of name (index_after (suc index) children) n contributing sought summary)
-    tables_are
-    ∙ fact_same name (index_after (suc index) children) (tables_after tables children) contributing
-    (suc index) children pass.here.sought summary in
-    let put : set found index (fact_of name (length found) (length ended) contributing sought
-    summary)
-    ≡ (pass.facts ++ fact_at index tables name children ∷ []) ++ inner =
-    ap (λ (f : Fact). set found index f) fact_is
-    ∙ ap (λ fs. set fs index (fact_at index tables name children))
-    (append_assoc pass.facts (partner_alone 0 ∷ []) inner)
-    ∙ set_at pass.facts (partner_alone 0) inner (fact_at index tables name children) index e
-    ∙ sym (append_assoc pass.facts (fact_at index tables name children ∷ []) inner) in
-    ap (λ fs. state pass.outer here definitions (fs ++ partner_alone index
-    ∷ []) (columns_exited name summary pass.here.collects (columns_after children
-    (collects_in name pass.here.collects) (columns_entered name pass.columns)))) put
-    ∙ ap (λ columns. state pass.outer here definitions
-    (((pass.facts ++ fact_at index tables name children ∷ []) ++ inner) ++ partner_alone index ∷ [])
-    columns) (columns_node name children pass.here.collects pass.columns)
+    grind (
+      arith,
+      length_facts,
+      length_one,
+      length_tables,
+      entered_tables,
+      fact_same,
+      append_assoc,
+      set_at,
+      columns_node,
+    )
 
 definitions_joined : (a b c d : List ℕ) → ((a ++ b) ++ c) ++ d ≡ a ++ (b ++ (c ++ d))
 definitions_joined a b c d = append_assoc (a ++ b) c d ∙ append_assoc a b (c ++ d)
@@ -151,15 +106,7 @@ pub passed_over-flatten : (forest : Forest) (index tables : ℕ) (pass : PassSta
     length pass.facts ≡ index →
     length pass.columns.tables ≡ tables →
     passed_over (flatten forest) pass ≡ passed_forest index tables forest pass
-passed_over-flatten Empty index tables pass e t =
-    ap (λ ds. state pass.outer pass.here ds pass.facts pass.columns)
-    (sym (append-nil pass.definitions))
-    ∙ ap (λ fs. state pass.outer pass.here (pass.definitions ++ []) fs pass.columns)
-    (sym (append-nil pass.facts))
-    ∙ ap (λ columns. state pass.outer pass.here (pass.definitions ++ []) (pass.facts ++ []) columns)
-    (both_made pass.columns.starts _ _ _ _ (sym (append-nil pass.columns.tables))
-    (sym (append-nil pass.columns.pending) ∙ ap (λ none. pass.columns.pending
-    ++ none) (sym (cond-nil pass.here.collects []))))
+passed_over-flatten Empty index tables pass e t = grind (arith, append-nil, both_made, cond-nil)
 passed_over-flatten (Node name start end children rest) index tables pass e t =
     let exit = index_after (suc index) children in
     let more = tables_with name (tables_after tables children) in

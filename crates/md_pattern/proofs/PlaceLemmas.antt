@@ -1,10 +1,10 @@
 -- The table of places: what its letters encode, row by row and symbol by symbol.
 use Rattle.std.proofs.Common.{◌≡◌, ℕ, zero, suc, ◌+◌, ◌<◌, ◌≤◌, Bool, true, false, ◌&&◌}
 use Rattle.std.proofs.Common.{Option, Some, None, List, [], ◌∷◌, map, length, get_or, take}
-use Rattle.std.proofs.Common.{cond, eqb, leb, ltb, ◌||◌, refl, sym, ap, ◌∙◌, subst, arith}
+use Rattle.std.proofs.Common.{cond, eqb, ltb, ◌||◌, refl, sym, ap, ◌∙◌, subst, arith}
 use Rattle.std.specs.List.{list_all}
 use Rattle.std.proofs.lemmas.List.{length-map, get_or-map, get_or-take}
-use Rattle.std.proofs.lemmas.Bool.{and_parts, eqb-true, eqb-false, leb-true, ltb-true, ltb-false}
+use Rattle.std.proofs.lemmas.Bool.{and_parts, eqb-true, eqb-false, ltb-true, ltb-false}
 use denote.Enum.Declared.{tag_of}
 use Rattle.md_pattern.specs.contracts.kinds.Symbol as symbol_contract
 use Rattle.md_pattern.specs.contracts.kinds.Role as role_contract
@@ -14,10 +14,8 @@ use Rattle.md_pattern.specs.declared.kinds.Role.{Role}
 use Rattle.md_pattern.specs.declared.kinds.Role.TheVariants as role
 use Rattle.md_pattern.specs.declared.state.Stage.TheVariants.{Whole}
 use Rattle.md_pattern.specs.Places.{At, at, places, symbols, all_roles, place_at, decoded}
-use Rattle.md_pattern.specs.Places.{decoded_from}
-use Rattle.md_pattern.specs.Places.{moves, moved_from, encodes_row, encodes_rows_from, state_at}
-use Rattle.md_pattern.specs.Places.{AreRows, AreEnds}
-use Rattle.md_pattern.specs.Places.{AreStarts}
+use Rattle.md_pattern.specs.Places.{decoded_from, moves, moved_from, encodes_row, encodes_rows_from}
+use Rattle.md_pattern.specs.Places.{state_at, AreRows, AreEnds, AreStarts}
 use Rattle.md_pattern.specs.declared.state.State.{State}
 use Rattle.md_pattern.specs.declared.state.Stage.{Stage}
 use Rattle.md_pattern.specs.Steps.{is_complete, may_hold, start_of}
@@ -46,8 +44,7 @@ decoded-row : (n i k : ℕ) (rows : List (List ℕ)) → n + i ≡ k → i < len
     get_or (decoded_from n rows) i [] ≡ map (λ letter. decoded k letter) (get_or rows i [])
 unfolding decoded_from
 decoded-row n i k [] e inside = absurd (omega (arith, inside))
-decoded-row n zero k (row ∷ rows) e inside =
-    ap (λ m. map (λ letter. decoded m letter) row) (omega (arith, e))
+decoded-row n zero k (row ∷ rows) e inside = grind arith
 decoded-row n (suc i) k (row ∷ rows) e inside =
     decoded-row (n + 1) i k rows (omega (arith, e)) (omega (arith, inside))
 
@@ -56,10 +53,7 @@ encodes-row : (n i k : ℕ) (rows : List (List ℕ)) → n + i ≡ k → i < len
     list_all (λ letter. encodes_row k letter) (get_or rows i []) ≡ true
 unfolding encodes_rows_from
 encodes-row n i k [] e inside all = absurd (omega (arith, inside))
-encodes-row n zero k (row ∷ rows) e inside all =
-    subst (λ m. list_all (λ letter. encodes_row m letter) row ≡ true) (omega (arith, e))
-    (and_parts (list_all (λ letter. encodes_row n letter) row) (encodes_rows_from (n + 1) rows)
-    all).0
+encodes-row n zero k (row ∷ rows) e inside all = grind arith
 encodes-row n (suc i) k (row ∷ rows) e inside all =
     encodes-row (n + 1) i k rows (omega (arith, e)) (omega (arith, inside))
     (and_parts (list_all (λ letter. encodes_row n letter) row) (encodes_rows_from (n + 1) rows)
@@ -68,12 +62,10 @@ encodes-row n (suc i) k (row ∷ rows) e inside all =
 letter-encodes_row : (k i : ℕ) (row : List ℕ) → i < length row →
     list_all (λ letter. encodes_row k letter) row ≡ true →
     encodes_row k (get_or row i 0) ≡ true
-letter-encodes_row k i [] inside all = absurd (omega (arith, inside))
-letter-encodes_row k zero (letter ∷ row) inside all =
-    (and_parts (encodes_row k letter) (list_all (λ l. encodes_row k l) row) all).0
+letter-encodes_row k i [] inside all = grind (arith, and_parts)
+letter-encodes_row k zero (letter ∷ row) inside all = grind (arith, and_parts)
 letter-encodes_row k (suc i) (letter ∷ row) inside all =
-    letter-encodes_row k i row (omega (arith, inside))
-    (and_parts (encodes_row k letter) (list_all (λ l. encodes_row k l) row) all).1
+    grind (arith, and_parts, letter-encodes_row k i row (omega (arith, inside)))
 
 counted : length places ≡ 114
 unfolding places
@@ -116,10 +108,7 @@ letter-decoded rows i k seen are inside few is =
 
 pub letter-led : (rows : List (List ℕ)) (i k : ℕ) → AreRows rows → i < length rows → k < 47 →
     encodes_row i (get_or (get_or rows i []) k 0) ≡ true
-letter-led rows i k are inside few =
-    letter-encodes_row i k (get_or rows i []) (subst (λ n. k < n) (sym (row-long rows i are inside))
-    few)
-    (encodes-row 0 i i rows (omega arith) inside are.encodes)
+letter-led rows i k are inside few = grind (arith, letter-encodes_row, row-long, encodes-row)
 
 get_or-outside : (xs : List At) (i : ℕ) (d : At) → length xs ≤ i → get_or xs i d ≡ d
 get_or-outside [] i d past = refl
@@ -139,19 +128,14 @@ pub moved-outside : (i : ℕ) (seen : Symbol) → 114 ≤ i → moved_from (plac
 moved-outside i seen past = ap (λ place. moved_from place seen) (place-outside i past)
 
 otherwise : (b : Bool) (x : Option At) → (b ≡ true → ⊥) → cond b None x ≡ x
-otherwise true x other = absurd (other refl)
-otherwise false x other = refl
+otherwise b x other = grind arith
 
 led : (a b c : Bool) (x : ℕ) → (a ≡ true → ⊥) → (a || (b && c)) ≡ true → (b ≡ true) × (c ≡ true)
-led true b c x other all = absurd (other refl)
-led false b c x other all = and_parts b c all
+led a b c x other all = grind arith
 
 pub encodes_row-some : (i letter : ℕ) → (letter ≡ 46 → ⊥) → encodes_row i letter ≡ true →
     (letter ≤ 122) × (109 ≤ i + letter)
-encodes_row-some i letter other all =
-    let both = led (eqb letter 46) (leb letter 122) (leb 109 (i + letter)) 0
-    (λ is. other (eqb-true letter 46 is)) all in
-    (leb-true letter 122 both.0, leb-true 109 (i + letter) both.1)
+encodes_row-some i letter other all = grind arith
 
 -- ---- where spines end, and where they begin
 
@@ -179,17 +163,14 @@ ends-at letters i letter before are inside is =
 
 pub ends-outside : (i : ℕ) (before : Option Symbol) → 114 ≤ i →
     true ≡ is_complete (state_at (place_at i) before)
-ends-outside i before past =
-    ap (λ place. is_complete (state_at place before)) (sym (place-outside i past))
+ends-outside i before past = grind (arith, place-outside)
 
 roles-counted : length all_roles ≡ 41
 unfolding all_roles
 roles-counted = refl
 
 starts-count : (rows : List ℕ) → AreStarts rows → length rows ≡ 41
-starts-count rows are =
-    sym (length-map rows (λ row. place_at row)) ∙ ap length are
-    ∙ length-map all_roles (λ r. at r 0 Whole) ∙ roles-counted
+starts-count rows are = grind (arith, length-map, roles-counted)
 
 pub start-at : (rows : List ℕ) (i : ℕ) (r : Role) → AreStarts rows → i < 41 →
     get_or all_roles i role.Childless ≡ r →
@@ -219,8 +200,7 @@ test-at : (test : At → Bool) (xs : List At) (i : ℕ) (d : At) → i < length 
     test (get_or xs i d) ≡ true
 test-at test [] i d inside all = absurd (omega (arith, inside))
 test-at test (x ∷ xs) zero d inside all = (and_parts (test x) (list_all test xs) all).0
-test-at test (x ∷ xs) (suc i) d inside all =
-    test-at test xs i d (omega (arith, inside)) (and_parts (test x) (list_all test xs) all).1
+test-at test (x ∷ xs) (suc i) d inside all = let later = test-at test xs i d in grind (arith, later)
 
 taken-counted : length (take 113 places) ≡ 113
 unfolding places
@@ -228,9 +208,7 @@ taken-counted = refl
 
 last-or : (i : ℕ) (b : Bool) → eqb i 113 ≡ b → 113 ≤ i → false ≡ may_hold (place_at i).role
 last-or i true e past = sym (ap (λ n. may_hold (place_at n).role) (eqb-true i 113 e) ∙ last-holds)
-last-or i false e past =
-    let other = eqb-false i 113 e in
-    ap (λ place. may_hold (At.role place)) (sym (place-outside i (omega (arith, past, other))))
+last-or i false e past = grind (arith, eqb-false, place-outside)
 
 holds-by : (i : ℕ) (b : Bool) → ltb i 113 ≡ b → b ≡ may_hold (place_at i).role
 holds-by i true e =
@@ -239,8 +217,7 @@ holds-by i true e =
     (sym (get_or-take 113 places i (at role.Childless 0 Whole) few))
     ∙ test-at (λ place. may_hold place.role) (take 113 places) i (at role.Childless 0 Whole)
     (subst (λ n. i < n) (sym taken-counted) few) hold)
-holds-by i false e =
-    last-or i (eqb i 113) refl (ltb-false i 113 e)
+holds-by i false e = grind (arith, last-or, ltb-false)
 
 pub place-holds : (i : ℕ) → ltb i 113 ≡ may_hold (place_at i).role
 place-holds i = holds-by i (ltb i 113) refl
@@ -252,5 +229,4 @@ mapped : (r : Role) (seen : Symbol) (next : Option (ℕ × Stage)) →
     (option_map {U = At} (λ n. record { role = r; position = n.0; stage = n.1 }) next)
     ≡ option_map {U = State}
     (λ n. record { role = r; before = Some seen; position = n.0; stage = n.1 }) next
-mapped r seen None = refl
-mapped r seen (Some n) = refl
+mapped r seen next = grind arith

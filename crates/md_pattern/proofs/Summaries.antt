@@ -1,6 +1,6 @@
 -- The facts that the pass finds about children are those of the definitions.
-use Rattle.std.proofs.Common.{◌≡◌, Bool, true, false, not, ◌&&◌, ◌||◌, cond, Option, Some, None}
-use Rattle.std.proofs.Common.{refl, sym, ap, ◌∙◌, arith, inl, inr}
+use Rattle.std.proofs.Common.{◌≡◌, Bool, true, false, not, ◌&&◌, ◌||◌, cond, Option}
+use Rattle.std.proofs.Common.{refl, ap, ◌∙◌, arith, inl, inr}
 use Rattle.std.proofs.lemmas.Bool.{cases_Bool}
 use Rattle.std.proofs.Math.Bool.{or_assoc, and-true}
 use Rattle.std.specs.Prelude.{unwrap_or}
@@ -25,36 +25,28 @@ use Rattle.md_pattern.specs.Alignments.{begins_with_marker, alignment_of}
 use Rattle.md_pattern.specs.Summary.{spaced, is_bare_last, parts, loosens, is_nothing}
 use Rattle.md_pattern.specs.Summary.{is_marker_last}
 use Rattle.md_pattern.specs.Summary.{summary_with, empty_summary, summary_over, alignment}
-use Rattle.md_pattern.proofs.OneMoreChild.{is_quote_last, not_prefix, or-false}
-use Rattle.md_pattern.proofs.OneMoreChild.{IsLast, last_with, begins_with, without_with}
-use Rattle.md_pattern.proofs.OneMoreChild.{item_with, loose_item_with}
+use Rattle.md_pattern.proofs.OneMoreChild.{is_quote_last, not_prefix, or-false, IsLast, last_with}
+use Rattle.md_pattern.proofs.OneMoreChild.{begins_with, without_with, item_with, loose_item_with}
 
 last_step : (test : Name → Bool) (o : Option Name) (name : Name) →
     option_map_or test o (test name) ≡ test (unwrap_or o name)
-last_step test None name = refl
-last_step test (Some other) name = refl
+last_step test o name = grind arith
 
 quote_over : (forest : Forest) (summary : Summary) → is_quote_last
     (Summary.last (summary_over forest summary))
     ≡ option_map_or (is BlockQuotePrefix) (last_name forest) (is_quote_last summary.last)
 quote_over Empty summary = refl
 quote_over (Node name start end children rest) summary =
-    let own = summary_over children empty_summary in
-    quote_over rest (summary_with name own summary)
-    ∙ ap (λ b. option_map_or (is BlockQuotePrefix) (last_name rest) b)
-    (IsLast.quote (last_with name own summary))
-    ∙ last_step (is BlockQuotePrefix) (last_name rest) name
+    let later = quote_over rest in
+    grind (arith, last_with, last_step, later)
 
 marker_over : (forest : Forest) (summary : Summary) → is_marker_last
     (Summary.last (summary_over forest summary))
     ≡ option_map_or (is GfmTableDelimiterMarker) (last_name forest) (is_marker_last summary.last)
 marker_over Empty summary = refl
 marker_over (Node name start end children rest) summary =
-    let own = summary_over children empty_summary in
-    marker_over rest (summary_with name own summary)
-    ∙ ap (λ b. option_map_or (is GfmTableDelimiterMarker) (last_name rest) b)
-    (IsLast.marker (last_with name own summary))
-    ∙ last_step (is GfmTableDelimiterMarker) (last_name rest) name
+    let later = marker_over rest in
+    grind (arith, last_with, last_step, later)
 
 begins_over : (forest : Forest) (summary : Summary) → Summary.begins_with_marker
     (summary_over forest summary)
@@ -93,9 +85,8 @@ bare_over : (forest : Forest) (summary : Summary) → is_bare_last
     ≡ bare_after summary.last forest
 bare_over Empty summary = refl
 bare_over (Node name start end children rest) summary =
-    let own = summary_over children empty_summary in
-    bare_over rest (summary_with name own summary)
-    ∙ bare_step rest name children own summary (quote_over children empty_summary)
+    let later = bare_over rest in
+    grind (arith, bare_step, quote_over, later)
 
 ends_bare-end : (forest : Forest) → bare_after final.Nothing forest ≡ ends_bare forest
 ends_bare-end Empty = refl
@@ -118,8 +109,7 @@ without_over : (forest : Forest) (summary : Summary) → Summary.without_items
     (summary_over forest summary)
     ≡ ((summary.without_items || (begins_blank forest && parts summary.last)) || has_parting_blank
     forest)
-without_over Empty summary = or-false summary.without_items ∙ or-false
-    (summary.without_items || false)
+without_over Empty summary = grind arith
 without_over (Node name start end children rest) summary =
     let own = summary_over children empty_summary in
     without_over rest (summary_with name own summary)
@@ -167,42 +157,26 @@ item_over (Node name start end children rest) summary =
 -- an item's children
 of_item_summary : (children : Forest) →
     Summary.of_item (summary_over children empty_summary) ≡ is_loose_item children
-of_item_summary children =
-    item_over children empty_summary
-    ∙ ap (λ b. b || ((begins_space_blank children && true) || has_inner_blank children))
-    (and-true (begins_blank children))
-    ∙ ap (λ b. begins_blank children || (b || has_inner_blank children))
-    (and-true (begins_space_blank children)) ∙ sym (or_assoc (begins_blank children)
-    (begins_space_blank children) (has_inner_blank children))
+of_item_summary children = grind (arith, item_over, and-true, or_assoc)
 
 loose_items_over : (forest : Forest) (summary : Summary) → Summary.has_loose_item
     (summary_over forest summary)
     ≡ (summary.has_loose_item || has_loose_item forest)
 loose_items_over Empty summary = or-false summary.has_loose_item
 loose_items_over (Node name start end children rest) summary =
-    let own = summary_over children empty_summary in
-    loose_items_over rest (summary_with name own summary)
-    ∙ ap (λ b. b || has_loose_item rest) (loose_item_with name own summary
-    ∙ ap (λ b. summary.has_loose_item || (is ListItem name && b)) (of_item_summary children))
-    ∙ or_assoc summary.has_loose_item (is ListItem name && is_loose_item children)
-    (has_loose_item rest)
+    let later = loose_items_over rest in
+    grind (arith, loose_item_with, of_item_summary, or_assoc, later)
 
 -- a list's children, ignoring its items, and with them
 pub without_items-summary : (children : Forest) → Summary.without_items
     (summary_over children empty_summary)
     ≡ written.is_loose_without_items children
-without_items-summary children =
-    without_over children empty_summary
-    ∙ ap (λ b. b || has_parting_blank children) (and-true (begins_blank children))
-    ∙ without-same children
+without_items-summary children = grind (arith, without_over, and-true, without-same)
 
 pub with_items-summary : (children : Forest) → (Summary.without_items
     (summary_over children empty_summary)
     || Summary.has_loose_item (summary_over children empty_summary)) ≡ written.is_loose children
-with_items-summary children =
-    ap (λ b. b || Summary.has_loose_item (summary_over children empty_summary))
-    (without_items-summary children) ∙ ap (λ b. written.is_loose_without_items children || b)
-    (loose_items_over children empty_summary ∙ items-same children)
+with_items-summary children = grind (arith, without_items-summary, loose_items_over, items-same)
 
 pub of_item-summary : (children : Forest) → Summary.of_item (summary_over children empty_summary)
     ≡ written.is_loose_item children
@@ -211,7 +185,4 @@ of_item-summary children = of_item_summary children ∙ item-same children
 -- a value's children
 pub alignment-summary : (children : Forest) →
     alignment (summary_over children empty_summary) ≡ alignment_of children
-alignment-summary children =
-    let begins = begins_over children empty_summary in
-    let marker = marker_over children empty_summary in
-    grind (arith, begins, marker)
+alignment-summary children = grind (arith, begins_over, marker_over)

@@ -1,14 +1,13 @@
 -- Escaped texts: joined, cut and with a byte taken out. So a text that is printed in parts is a
 -- text of the HTML grammar.
-use Rattle.std.proofs.Common.{◌≡◌, ℕ, ◌==◌, Bool, true, false, not, ◌||◌, eqb, List, [], ◌∷◌}
+use Rattle.std.proofs.Common.{arith, ◌≡◌, ℕ, ◌==◌, Bool, true, not, ◌||◌, List, [], ◌∷◌}
 use Rattle.std.proofs.Common.{◌++◌, refl, sym, ◌∙◌, inl, inr, codes, Some, None}
 use Rattle.std.specs.Prelude.{if◌then◌else◌, is_some}
 use Rattle.std.specs.List.{list_all}
-use Rattle.std.proofs.lemmas.Bool.{and_parts, and_from, or_cases, or_left, or_right, cond_both}
-use Rattle.std.proofs.lemmas.Bool.{not-true, both_ways, cases_Bool}
+use Rattle.std.proofs.lemmas.Bool.{and_parts, and_from, cond_both, cases_Bool}
 use Rattle.md_text.specs.References.{is_escaped, is_escaped_byte, reference_before, begins_with}
 use Rattle.md_text.specs.References.{outside_references}
-use Rattle.md_text.specs.Url.{sanitized, sanitized_with, normalized_url, has_permitted_protocol}
+use Rattle.md_text.specs.Url.{sanitized, sanitized_with, normalized_url}
 use Rattle.md_text.proofs.EncodeLaws.{is_escaped-encoded}
 
 -- a text that begins so still does when more follows
@@ -17,9 +16,7 @@ begins-append : (start text more : List ℕ) → begins_with start text ≡ true
 begins-append [] text more h = refl
 begins-append (s ∷ start) [] more h = cc
 begins-append (s ∷ start) (b ∷ text) more h =
-    let parts = and_parts (eqb s b) (begins_with start text) h in
-    and_from (eqb s b) (begins_with start (text ++ more)) parts.0
-    (begins-append start text more parts.1)
+    let later = begins-append start text more in grind (arith, later, h)
 
 -- a `&` begins a reference before these bytes
 abbrev pub completes_reference : List ℕ → Bool
@@ -36,16 +33,11 @@ completes-any rest =
     by : (amp quot lt gt : Bool) → is_some {T = List ℕ × ℕ} (if amp then Some (codes "amp;", 38)
         else (if quot then Some (codes "quot;", 34) else (if lt then Some (codes "lt;", 60)
         else (if gt then Some (codes "gt;", 62) else None)))) ≡ (amp || quot || lt || gt)
-    by true quot lt gt = refl
-    by false true lt gt = refl
-    by false false true gt = refl
-    by false false false true = refl
-    by false false false false = refl
+    by amp quot lt gt = grind arith
 
 or_keeps : (a b c d : Bool) → (a ≡ true → c ≡ true) → (b ≡ true → d ≡ true) →
     (a || b) ≡ true → (c || d) ≡ true
-or_keeps a b c d f g h =
-    elim (or_cases a b h) [ inl x ↦ or_left c d (f x) | inr y ↦ or_right c d (g y) ]
+or_keeps a b c d f g h = grind (arith, f, g, h)
 
 completes-append : (rest more : List ℕ) → completes_reference rest ≡ true →
     completes_reference (rest ++ more) ≡ true
@@ -71,8 +63,7 @@ pub escaped-append : (x y : List ℕ) → is_escaped x ≡ true → is_escaped y
 escaped-append [] y hx hy = hy
 escaped-append (b ∷ x) y hx hy =
     let parts = and_parts (is_escaped_byte b x) (is_escaped x) hx in
-    and_from (is_escaped_byte b (x ++ y)) (is_escaped (x ++ y)) (escaped_byte-append b x y parts.0)
-    (escaped-append x y parts.1 hy)
+    search (and_from, escaped_byte-append b x y parts.0, escaped-append x y parts.1 hy)
 
 -- the rest of an escaped text after its first byte is escaped
 pub escaped-tail : (b : ℕ) (rest : List ℕ) → is_escaped (b ∷ rest) ≡ true → is_escaped rest ≡ true
@@ -82,35 +73,17 @@ escaped-tail b rest h = (and_parts (is_escaped_byte b rest) (is_escaped rest) h)
 begins-without : (b : ℕ) (start text more : List ℕ) → list_all (λ c. not (c == b)) start ≡ true →
     begins_with start (text ++ (b ∷ more)) ≡ true → begins_with start (text ++ more) ≡ true
 begins-without b [] text more out h = refl
-begins-without b (s ∷ start) [] more out h =
-    absurd (both_ways (eqb s b)
-    (not-true (eqb s b) (and_parts (not (eqb s b)) (list_all (λ c. not (c == b)) start) out).0)
-    (and_parts (eqb s b) (begins_with start more) h).0)
+begins-without b (s ∷ start) [] more out h = grind (arith, out, h)
 begins-without b (s ∷ start) (c ∷ text) more out h =
-    let parts = and_parts (eqb s c) (begins_with start (text ++ (b ∷ more))) h in
-    and_from (eqb s c) (begins_with start (text ++ more)) parts.0
-    (begins-without b start text more
-    (and_parts (not (eqb s b)) (list_all (λ c. not (c == b)) start) out).1 parts.1)
-
-all_front : (b : ℕ) (x y : List ℕ) → list_all (λ c. not (c == b)) (x ++ y) ≡ true →
-    (list_all (λ c. not (c == b)) x ≡ true) × (list_all (λ c. not (c == b)) y ≡ true)
-all_front b [] y h = (refl, h)
-all_front b (c ∷ x) y h =
-    let parts = and_parts (not (c == b)) (list_all (λ c. not (c == b)) (x ++ y)) h in
-    let on = all_front b x y parts.1 in
-    (and_from (not (c == b)) (list_all (λ c. not (c == b)) x) parts.0 on.0, on.1)
+    let later = begins-without b start text more in grind (arith, later, out, h)
 
 completes-without : (b : ℕ) (text more : List ℕ) → outside_references b ≡ true →
     completes_reference (text ++ (b ∷ more)) ≡ true → completes_reference (text ++ more) ≡ true
 completes-without b text more out h =
-    let all = (and_parts (not (b == 38)) _ out).1 in
-    let amp = all_front b (codes "amp;") (codes "quot;lt;gt;") all in
-    let quot = all_front b (codes "quot;") (codes "lt;gt;") amp.1 in
-    let lt = all_front b (codes "lt;") (codes "gt;") quot.1 in
-    completes-any (text ++ more)
-    ∙ or_keeps _ _ _ _ (or_keeps _ _ _ _ (or_keeps _ _ _ _ (begins-without b (codes "amp;") text
-    more amp.0) (begins-without b (codes "quot;") text more quot.0))
-    (begins-without b (codes "lt;") text more lt.0)) (begins-without b (codes "gt;") text more lt.1)
+    let on = λ (start : List ℕ). begins-without b start text more in
+    completes-any (text ++ more) ∙ or_keeps _ _ _ _ (or_keeps _ _ _ _ (or_keeps _ _ _ _
+    (on (codes "amp;") (grind (arith, out))) (on (codes "quot;") (grind (arith, out))))
+    (on (codes "lt;") (grind (arith, out)))) (on (codes "gt;") (grind (arith, out)))
     (sym (completes-any (text ++ (b ∷ more))) ∙ h)
 
 escaped_byte-without : (b c : ℕ) (text more : List ℕ) → outside_references b ≡ true →
@@ -129,8 +102,7 @@ pub escaped-without : (b : ℕ) (text more : List ℕ) → outside_references b 
     is_escaped (text ++ (b ∷ more)) ≡ true → is_escaped (text ++ more) ≡ true
 escaped-without b [] more out h = escaped-tail b more h
 escaped-without b (c ∷ text) more out h =
-    let parts =
-    and_parts (is_escaped_byte c (text ++ (b ∷ more))) (is_escaped (text ++ (b ∷ more))) h in
+    let parts = and_parts (is_escaped_byte c (text ++ (b ∷ more))) _ h in
     and_from (is_escaped_byte c (text ++ more)) (is_escaped (text ++ more))
     (escaped_byte-without b c text more out parts.0) (escaped-without b text more out parts.1)
 
@@ -140,6 +112,4 @@ sanitized-escaped x = is_escaped-encoded (normalized_url x)
 
 pub sanitized_with-escaped : (protocols : List (List ℕ)) (x : List ℕ) →
     is_escaped (sanitized_with protocols x) ≡ true
-sanitized_with-escaped protocols x =
-    cond_both (has_permitted_protocol protocols (sanitized x)) (sanitized x) [] (λ v. is_escaped v
-    ≡ true) (λ _. sanitized-escaped x) (λ _. refl)
+sanitized_with-escaped protocols x = grind (arith, cond_both, sanitized-escaped)

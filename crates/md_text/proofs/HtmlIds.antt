@@ -3,9 +3,8 @@
 use Rattle.std.specs.Prelude.{bytes_eq}
 use Rattle.std.specs.List.{list_all, list_any}
 use Rattle.std.proofs.Common.{◌≡◌, ℕ, suc, ◌+◌, ◌≤◌, Bool, true, false, not, ◌&&◌, cond, List}
-use Rattle.std.proofs.Common.{[], ◌∷◌, ◌++◌, refl, sym, ap, ap₂, ◌∙◌, subst, arith, append-nil}
+use Rattle.std.proofs.Common.{[], ◌∷◌, ◌++◌, refl, ap, ap₂, ◌∙◌, subst, arith, append-nil}
 use Rattle.std.proofs.Common.{append_assoc, codes}
-use Rattle.std.proofs.lemmas.Bool.{and_parts, and_from}
 use Rattle.std.proofs.lemmas.Slice.Eq.{bytes_eq-Decides}
 use Rattle.md_text.specs.References.{read_back}
 use Rattle.md_text.specs.Html.{Attribute, Forest, Empty, Text, Void, Element, is_forest, is_tag}
@@ -40,41 +39,19 @@ pub none-attributes : (w : List ℕ) (attributes : List Attribute) →
     occurs w (ids_in attributes) ≡ 0
 none-attributes w [] h = refl
 none-attributes w (a ∷ rest) h =
-    let parts = and_parts (is_without w a) (list_all (is_without w) rest) h in
-    omega (
-      occurs-append w (id_in a) (ids_in rest),
-      none-attribute w a parts.0,
-      none-attributes w rest parts.1,
-      arith,
-    )
+    let later = none-attributes w rest in
+    grind (arith, occurs-append, none-attribute, later, h)
 
 none-forest : (w : List ℕ) (f : Forest) → all_attributes (is_without w) f ≡ true →
     occurs w (ids f) ≡ 0
 none-forest w Empty h = refl
 none-forest w (Text bytes rest) h = none-forest w rest h
 none-forest w (Void name attributes rest) h =
-    let parts =
-    and_parts (list_all (is_without w) attributes) (all_attributes (is_without w) rest) h in
-    omega (
-      occurs-append w (ids_in attributes) (ids rest),
-      none-attributes w attributes parts.0,
-      none-forest w rest parts.1,
-      arith,
-    )
+    let later = none-forest w rest in grind (arith, occurs-append, none-attributes, later, h)
 none-forest w (Element name attributes children rest) h =
-    let parts =
-    and_parts (list_all (is_without w) attributes && all_attributes (is_without w) children)
-    (all_attributes (is_without w) rest) h in
-    let front = and_parts (list_all (is_without w) attributes)
-    (all_attributes (is_without w) children) parts.0 in
-    omega (
-      occurs-append w (ids_in attributes) (ids children ++ ids rest),
-      occurs-append w (ids children) (ids rest),
-      none-attributes w attributes front.0,
-      none-forest w children front.1,
-      none-forest w rest parts.1,
-      arith,
-    )
+    let inside = none-forest w children in
+    let later = none-forest w rest in
+    grind (arith, occurs-append, none-attributes, inside, later, h)
 
 -- a text has a reading in which an id stands at most so often
 pub record Counts (w : List ℕ) (n : ℕ) (x : List ℕ) : Type 0 where
@@ -83,38 +60,24 @@ pub record Counts (w : List ℕ) (n : ℕ) (x : List ℕ) : Type 0 where
   pub few : occurs w (ids forest) ≤ n
 
 pub counts-plain : (w x : List ℕ) → HasReadingWith (is_without w) x → Counts w 0 x
-counts-plain w x h = record {
-  forest = h.forest;
-  reading = h.reading;
-  few = omega (none-forest w h.forest h.passes, arith);
-}
+counts-plain w x h = grind (arith, none-forest)
 
 pub counts-more : (w : List ℕ) (n m : ℕ) (x : List ℕ) → n ≤ m → Counts w n x → Counts w m x
-counts-more w n m x more h =
-    record { forest = h.forest; reading = h.reading; few = omega (h.few, more, arith) }
+counts-more w n m x more h = grind (arith, more, h)
 
 ids-text_before : (bytes : List ℕ) (f : Forest) → ids (text_before bytes f) ≡ ids f
-ids-text_before bytes Empty = refl
-ids-text_before bytes (Text more rest) = refl
-ids-text_before bytes (Void name attributes rest) = refl
-ids-text_before bytes (Element name attributes children rest) = refl
+ids-text_before bytes f = grind arith
 
 -- the ids of one forest after another
 pub ids-joined : (f g : Forest) → ids (joined f g) ≡ ids f ++ ids g
 ids-joined Empty g = refl
 ids-joined (Text bytes rest) g = ids-text_before bytes (joined rest g) ∙ ids-joined rest g
-ids-joined (Void name attributes rest) g =
-    ap (λ x. ids_in attributes ++ x) (ids-joined rest g)
-    ∙ sym (append_assoc (ids_in attributes) (ids rest) (ids g))
-ids-joined (Element name attributes children rest) g =
-    ap (λ x. ids_in attributes ++ (ids children ++ x)) (ids-joined rest g)
-    ∙ ap (λ x. ids_in attributes ++ x) (sym (append_assoc (ids children) (ids rest) (ids g)))
-    ∙ sym (append_assoc (ids_in attributes) (ids children ++ ids rest) (ids g))
+ids-joined (Void name attributes rest) g = simp (ids-joined rest g, append_assoc)
+ids-joined (Element name attributes children rest) g = simp (ids-joined rest g, append_assoc)
 
 few-joined : (w : List ℕ) (n m : ℕ) (f g : Forest) → occurs w (ids f) ≤ n → occurs w (ids g) ≤ m →
     occurs w (ids (joined f g)) ≤ n + m
-few-joined w n m f g a b =
-    omega (ap (occurs w) (ids-joined f g), occurs-append w (ids f) (ids g), a, b, arith)
+few-joined w n m f g a b = grind (arith, ids-joined, occurs-append)
 
 pub counts-join : (w : List ℕ) (n m : ℕ) (x y : List ℕ) → Counts w n x → Counts w m y →
     Counts w (n + m) (x ++ y)
@@ -133,14 +96,7 @@ counts-join w n m x y a b =
 few-element : (w : List ℕ) (n m : ℕ) (name : List ℕ) (attributes : List Attribute) (f : Forest) →
     occurs w (ids_in attributes) ≤ m → occurs w (ids f) ≤ n
     → occurs w (ids (Element name attributes f Empty)) ≤ m + n
-few-element w n m name attributes f a b =
-    omega (
-      occurs-append w (ids_in attributes) (ids f ++ []),
-      ap (occurs w) (append-nil (ids f)),
-      a,
-      b,
-      arith,
-    )
+few-element w n m name attributes f a b = grind (arith, occurs-append, append-nil)
 
 pub counts-element :
     (w : List ℕ) (n m : ℕ) (name : List ℕ) (attributes : List Attribute) (inside : List ℕ) →
@@ -150,11 +106,8 @@ pub counts-element :
 counts-element w n m name attributes inside h few within = record {
   forest = Element name attributes within.forest Empty;
   reading = record {
-    in_grammar =
-        and_from _ true (and_from (is_tag elements name attributes) (is_forest within.forest) h
-        within.reading.in_grammar) refl;
-    written_so = ap (λ x. 60 ∷ (name ++ (written_attributes attributes
-        ++ (62 ∷ (x ++ (60 ∷ 47 ∷ (name ++ (62 ∷ [])))))))) within.reading.written_so;
+    in_grammar = grind (arith, h, within.reading.in_grammar);
+    written_so = rw within.reading.written_so refl;
   };
   few = few-element w n m name attributes within.forest few within.few;
 }
@@ -164,74 +117,48 @@ pub counts-enclosed :
     is_tag elements name attributes ≡ true → occurs w (ids_in attributes) ≤ m → Counts w n inside
     → Counts w (m + n) (opening_tag name attributes ++ inside ++ closing_tag name)
 counts-enclosed w n m name attributes inside h few within =
-    subst (Counts w (m + n))
-    (sym (append_assoc (opening_tag name attributes) inside (closing_tag name)
-    ∙ opening-before name attributes (inside ++ closing_tag name)))
-    (counts-element w n m name attributes inside h few within)
+    grind (arith, append_assoc, opening-before, counts-element)
 
 counts-void : (w : List ℕ) (name : List ℕ) (attributes : List Attribute) →
     is_tag void_tags name attributes ≡ true →
     Counts w (occurs w (ids_in attributes)) (written (Void name attributes Empty))
 counts-void w name attributes h = record {
   forest = Void name attributes Empty;
-  reading = record {
-    in_grammar = and_from (is_tag void_tags name attributes) true h refl;
-    written_so = refl;
-  };
-  few = omega (ap (occurs w) (append-nil (ids_in attributes)), arith);
+  reading = record { in_grammar = grind (arith, h); written_so = refl };
+  few = omega (arith, ap (occurs w) (append-nil (ids_in attributes)));
 }
 
 counts-written : (w : List ℕ) (f : Forest) → is_forest f ≡ true →
     Counts w (occurs w (ids f)) (written f)
-counts-written w f h = record {
-  forest = f;
-  reading = record { in_grammar = h; written_so = refl };
-  few = omega arith;
-}
+counts-written w f h = grind arith
 
 -- a text without an id that is inserted adds none
 counts-made : (w x : List ℕ) → HasReadingWith (is_without w) x →
     IsMade x (λ f y. Counts w (occurs w (ids f)) y)
 counts-made w x hx = record {
   texts = λ bytes rest y escaped later.
-      counts-more w (0 + occurs w (ids rest)) (occurs w (ids rest)) (bytes ++ y) (omega arith)
-      (counts-join w 0 (occurs w (ids rest)) bytes y
-      (counts-plain w bytes (text (is_without w) bytes escaped)) later);
+      counts-more w _ _ _ (omega arith)
+      (counts-join w 0 _ bytes y (counts-plain w bytes (text (is_without w) bytes escaped)) later);
   voids = λ name attributes rest y tag later.
-      counts-more w (occurs w (ids_in attributes) + occurs w (ids rest))
-      (occurs w (ids_in attributes ++ ids rest)) (written (Void name attributes Empty) ++ y)
-      (omega (occurs-append w (ids_in attributes) (ids rest), arith))
-      (counts-join w (occurs w (ids_in attributes)) (occurs w (ids rest))
-      (written (Void name attributes Empty)) y (counts-void w name attributes tag) later);
+      counts-more w _ _ _ (omega (occurs-append w (ids_in attributes) (ids rest), arith))
+      (counts-join w _ _ _ _ (counts-void w name attributes tag) later);
   rests = λ name attributes children rest y tag forest later.
-      counts-more w (occurs w (ids_in attributes) + occurs w (ids children) + occurs w (ids rest))
-      (occurs w (ids_in attributes ++ (ids children ++ ids rest)))
-      ((opening_tag name attributes ++ written children ++ closing_tag name) ++ y)
-      (omega (
+      counts-more w _ _ _ (omega (
         occurs-append w (ids_in attributes) (ids children ++ ids rest),
         occurs-append w (ids children) (ids rest),
         arith,
       ))
-      (counts-join w (occurs w (ids_in attributes) + occurs w (ids children)) (occurs w (ids rest))
-      (opening_tag name attributes ++ written children ++ closing_tag name) y
-      (counts-enclosed w (occurs w (ids children)) (occurs w (ids_in attributes)) name attributes
-      (written children) tag (omega arith) (counts-written w children forest)) later);
+      (counts-join w _ _ _ _ (counts-enclosed w _ (occurs w (ids_in attributes)) name attributes _
+      tag (omega arith) (counts-written w children forest)) later);
   insides = λ name attributes children rest tag forest rests.
-      counts-more w (occurs w (ids_in attributes) + (occurs w (ids children) + 0)
-      + occurs w (ids rest)) (occurs w (ids_in attributes ++ (ids children ++ ids rest)))
-      ((opening_tag name attributes ++ (written children ++ x) ++ closing_tag name) ++ written rest)
-      (omega (
+      counts-more w _ _ _ (omega (
         occurs-append w (ids_in attributes) (ids children ++ ids rest),
         occurs-append w (ids children) (ids rest),
         arith,
       ))
-      (counts-join w (occurs w (ids_in attributes) + (occurs w (ids children) + 0))
-      (occurs w (ids rest))
-      (opening_tag name attributes ++ (written children ++ x) ++ closing_tag name) (written rest)
-      (counts-enclosed w (occurs w (ids children) + 0) (occurs w (ids_in attributes)) name
-      attributes (written children ++ x) tag (omega arith) (counts-join w (occurs w (ids children))
-      0 (written children) x (counts-written w children forest) (counts-plain w x hx)))
-      (counts-written w rest rests));
+      (counts-join w _ _ _ _ (counts-enclosed w _ (occurs w (ids_in attributes)) name attributes _
+      tag (omega arith) (counts-join w _ 0 _ _ (counts-written w children forest)
+      (counts-plain w x hx))) (counts-written w rest rests));
 }
 
 pub counts-takes : (w : List ℕ) (n : ℕ) (before endings inserted : List ℕ) →
@@ -253,11 +180,9 @@ occurs-any x (y ∷ ys) h = let later = occurs-any x ys in grind (arith, h, late
 pub distinct-ids : (xs : List (List ℕ)) → ((w : List ℕ) → occurs w xs ≤ 1) → are_distinct xs ≡ true
 distinct-ids [] h = refl
 distinct-ids (x ∷ xs) h =
-    let itself = (bytes_eq-Decides x x).1 refl in
     let few = h x in
-    and_from (not (list_any (λ y. bytes_eq y x) xs)) (are_distinct xs)
-    (ap not (occurs-any x xs (grind (arith, itself, few))))
-    (distinct-ids xs (λ w. let few = h w in grind (arith, few)))
+    let later = distinct-ids xs (λ w. let few = h w in grind (arith, few)) in
+    grind (arith, bytes_eq-Decides, occurs-any, few, later)
 
 -- where each id stands in a reading of a text at most once, the text has distinct ids
 pub counted-once : (x : List ℕ) → ((w : List ℕ) → Counts w 1 x) → HasDistinctIds x

@@ -2,8 +2,8 @@
 -- and two such texts joined. All printed text is built from these.
 use Rattle.md_base.specs.Identifier.{is_nonempty}
 use Rattle.std.specs.List.{list_all}
-use Rattle.std.proofs.Common.{◌≡◌, ℕ, Bool, true, not, ◌&&◌, List, [], ◌∷◌, ◌++◌, refl, sym, ap}
-use Rattle.std.proofs.Common.{ap₂, ◌∙◌, subst, append-nil, append_assoc}
+use Rattle.std.proofs.Common.{arith, ◌≡◌, ℕ, Bool, true, not, ◌&&◌, List, [], ◌∷◌, ◌++◌, refl}
+use Rattle.std.proofs.Common.{append-nil, append_assoc}
 use Rattle.std.proofs.lemmas.Bool.{and_parts, and_from}
 use Rattle.md_text.specs.References.{is_escaped}
 use Rattle.md_text.specs.Html.{Attribute, Forest, Empty, Text, Void, Element, is_forest, is_tag}
@@ -12,8 +12,7 @@ use Rattle.md_text.specs.Html.{opening_tag, closing_tag, HasReadingWith, all_att
 use Rattle.md_text.proofs.EscapedLemmas.{escaped-append}
 
 filled-append : (x y : List ℕ) → is_nonempty x ≡ true → is_nonempty (x ++ y) ≡ true
-filled-append [] y h = cc
-filled-append (b ∷ x) y h = refl
+filled-append x y h = grind arith
 
 -- a text before a forest, in one with a text that the forest begins with
 abbrev pub text_before : List ℕ → Forest → Forest
@@ -32,55 +31,29 @@ joined (Element name attributes children rest) g = Element name attributes child
 
 written-text_before : (bytes : List ℕ) (g : Forest) →
     written (text_before bytes g) ≡ bytes ++ written g
-written-text_before bytes Empty = refl
-written-text_before bytes (Text more rest) = append_assoc bytes more (written rest)
-written-text_before bytes (Void name attributes rest) = refl
-written-text_before bytes (Element name attributes children rest) = refl
+written-text_before bytes g = grind (arith, append_assoc)
 
 forest-text_before : (bytes : List ℕ) (g : Forest) → is_nonempty bytes ≡ true →
     is_escaped bytes ≡ true →
     is_forest g ≡ true → is_forest (text_before bytes g) ≡ true
-forest-text_before bytes Empty f h hg = and_from _ true (and_from _ true
-    (and_from (is_nonempty bytes) (is_escaped bytes) f h) refl) refl
-forest-text_before bytes (Text more rest) f h hg =
-    let p = and_parts (is_nonempty more && is_escaped more && not (begins_with_text rest))
-    (is_forest rest) hg in
-    let q = and_parts (is_nonempty more && is_escaped more) (not (begins_with_text rest)) p.0 in
-    let r = and_parts (is_nonempty more) (is_escaped more) q.0 in
-    and_from _ (is_forest rest) (and_from _ (not (begins_with_text rest))
-    (and_from (is_nonempty (bytes ++ more)) (is_escaped (bytes ++ more))
-    (filled-append bytes more f) (escaped-append bytes more h r.1)) q.1) p.1
-forest-text_before bytes (Void name attributes rest) f h hg =
-    and_from _ _ (and_from _ true (and_from (is_nonempty bytes) (is_escaped bytes) f h) refl) hg
-forest-text_before bytes (Element name attributes children rest) f h hg =
-    and_from _ _ (and_from _ true (and_from (is_nonempty bytes) (is_escaped bytes) f h) refl) hg
+forest-text_before bytes g f h hg =
+    grind (arith, and_from, and_parts, filled-append, escaped-append)
 
 all-text_before : (p : Attribute → Bool) (bytes : List ℕ) (g : Forest) → all_attributes p g ≡ true →
     all_attributes p (text_before bytes g) ≡ true
-all-text_before p bytes Empty h = h
-all-text_before p bytes (Text more rest) h = h
-all-text_before p bytes (Void name attributes rest) h = h
-all-text_before p bytes (Element name attributes children rest) h = h
+all-text_before p bytes g h = grind arith
 
 -- ---- the closure facts
 
 pub nothing : (p : Attribute → Bool) → HasReadingWith p []
-nothing p = record {
-  forest = Empty;
-  reading = record { in_grammar = refl; written_so = refl };
-  passes = refl;
-}
+nothing p = grind arith
 
 pub text : (p : Attribute → Bool) (bytes : List ℕ) → is_escaped bytes ≡ true →
     HasReadingWith p bytes
 text p [] h = nothing p
 text p (b ∷ bytes) h = record {
   forest = Text (b ∷ bytes) Empty;
-  reading = record {
-    in_grammar = and_from _ true (and_from _ true
-        (and_from true (is_escaped (b ∷ bytes)) refl h) refl) refl;
-    written_so = append-nil (b ∷ bytes);
-  };
+  reading = record { in_grammar = grind (arith, h); written_so = append-nil (b ∷ bytes) };
   passes = refl;
 }
 
@@ -89,11 +62,8 @@ pub void : (p : Attribute → Bool) (name : List ℕ) (attributes : List Attribu
     HasReadingWith p (written (Void name attributes Empty))
 void p name attributes h a = record {
   forest = Void name attributes Empty;
-  reading = record {
-    in_grammar = and_from (is_tag void_tags name attributes) true h refl;
-    written_so = refl;
-  };
-  passes = and_from (list_all p attributes) true a refl;
+  reading = record { in_grammar = grind (arith, h); written_so = refl };
+  passes = grind (arith, a);
 }
 
 pub element :
@@ -104,30 +74,21 @@ pub element :
 element p name attributes inside h a within = record {
   forest = Element name attributes within.forest Empty;
   reading = record {
-    in_grammar = and_from _ true (and_from (is_tag elements name attributes)
-        (is_forest within.forest) h within.reading.in_grammar) refl;
-    written_so = ap (λ x. 60 ∷ (name ++ (written_attributes attributes
-        ++ (62 ∷ (x ++ (60 ∷ 47 ∷ (name ++ (62 ∷ [])))))))) within.reading.written_so;
+    in_grammar = grind (arith, h, within.reading.in_grammar);
+    written_so = rw within.reading.written_so refl;
   };
-  passes = and_from _ true
-      (and_from (list_all p attributes) (all_attributes p within.forest) a within.passes) refl;
+  passes = grind (arith, a, within.passes);
 }
 
 pub opening-before : (name : List ℕ) (attributes : List Attribute) (x : List ℕ) →
     opening_tag name attributes ++ x ≡ 60 ∷ (name ++ (written_attributes attributes ++ (62 ∷ x)))
-opening-before name attributes x =
-    ap (λ x. 60 ∷ x) (append_assoc name (written_attributes attributes ++ (62 ∷ [])) x
-    ∙ ap (λ x. name ++ x) (append_assoc (written_attributes attributes) (62 ∷ []) x))
+opening-before name attributes x = grind (arith, append_assoc)
 
 pub enclosed :
     (p : Attribute → Bool) (name : List ℕ) (attributes : List Attribute) (inside : List ℕ) →
     is_tag elements name attributes ≡ true → list_all p attributes ≡ true → HasReadingWith p inside
     → HasReadingWith p (opening_tag name attributes ++ inside ++ closing_tag name)
-enclosed p name attributes inside h a within =
-    subst (HasReadingWith p)
-    (sym (append_assoc (opening_tag name attributes) inside (closing_tag name)
-    ∙ opening-before name attributes (inside ++ closing_tag name)))
-    (element p name attributes inside h a within)
+enclosed p name attributes inside h a within = grind (arith, append_assoc, opening-before, element)
 
 -- a forest before what has a reading
 pub after_forest : (p : Attribute → Bool) (f g : Forest) → is_forest f ≡ true →
@@ -143,36 +104,20 @@ after_forest p (Text bytes rest) g hf pf hg pg =
     let c = and_parts (is_nonempty bytes) (is_escaped bytes) b.0 in
     let on = after_forest p rest g a.1 pf hg pg in (
       forest-text_before bytes (joined rest g) c.0 c.1 on.0,
-      written-text_before bytes (joined rest g) ∙ ap (λ x. bytes ++ x) on.1
-          ∙ sym (append_assoc bytes (written rest) (written g)),
+      simp (written-text_before, on.1, append_assoc),
       all-text_before p bytes (joined rest g) on.2,
     )
 after_forest p (Void name attributes rest) g hf pf hg pg =
     let a = and_parts (is_tag void_tags name attributes) (is_forest rest) hf in
     let b = and_parts (list_all p attributes) (all_attributes p rest) pf in
-    let on = after_forest p rest g a.1 b.1 hg pg in (
-      and_from (is_tag void_tags name attributes) (is_forest (joined rest g)) a.0 on.0,
-      ap (λ x. 60 ∷ (name ++ (written_attributes attributes ++ (32 ∷ 47 ∷ 62 ∷ x)))) on.1
-          ∙ sym (ap (λ x. 60 ∷ x) (append_assoc name _ (written g)
-          ∙ ap (λ x. name ++ x) (append_assoc (written_attributes attributes) (32 ∷ 47 ∷ 62
-          ∷ written rest) (written g)))),
-      and_from (list_all p attributes) (all_attributes p (joined rest g)) b.0 on.2,
-    )
+    let on = after_forest p rest g a.1 b.1 hg pg in
+    (and_from _ _ a.0 on.0, simp (on.1, append_assoc), and_from _ _ b.0 on.2)
 after_forest p (Element name attributes children rest) g hf pf hg pg =
     let a = and_parts (is_tag elements name attributes && is_forest children) (is_forest rest) hf in
     let b =
     and_parts (list_all p attributes && all_attributes p children) (all_attributes p rest) pf in
-    let on = after_forest p rest g a.1 b.1 hg pg in (
-      and_from _ (is_forest (joined rest g)) a.0 on.0,
-      ap (λ x. 60 ∷ (name ++ (written_attributes attributes
-          ++ (62 ∷ (written children ++ (60 ∷ 47 ∷ (name ++ (62 ∷ x)))))))) on.1
-          ∙ sym (ap (λ x. 60 ∷ x) (append_assoc name _ (written g)
-          ∙ ap (λ x. name ++ x) (append_assoc (written_attributes attributes) _ (written g)
-          ∙ ap (λ x. written_attributes attributes ++ (62 ∷ x)) (append_assoc (written children) _
-          (written g) ∙ ap (λ x. written children ++ (60 ∷ 47 ∷ x))
-          (append_assoc name (62 ∷ written rest) (written g)))))),
-      and_from _ (all_attributes p (joined rest g)) b.0 on.2,
-    )
+    let on = after_forest p rest g a.1 b.1 hg pg in
+    (and_from _ _ a.0 on.0, simp (on.1, append_assoc), and_from _ _ b.0 on.2)
 
 pub join : (p : Attribute → Bool) (x y : List ℕ) → HasReadingWith p x → HasReadingWith p y →
     HasReadingWith p (x ++ y)
@@ -183,8 +128,7 @@ join p x y hx hy =
       forest = joined hx.forest hy.forest;
       reading = record {
         in_grammar = both.0;
-        written_so = both.1
-            ∙ ap₂ (λ x y. x ++ y) hx.reading.written_so hy.reading.written_so;
+        written_so = rw (both.1, hx.reading.written_so, hy.reading.written_so) refl;
       };
       passes = both.2;
     }

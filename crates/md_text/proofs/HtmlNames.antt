@@ -1,12 +1,11 @@
 -- The names of the tables, and where names, values and texts end: so a reading can't go wrong at a
 -- boundary.
-use Rattle.std.specs.Str.{bytes_eq}
 use Rattle.md_base.proofs.Lies.{lie}
-use Rattle.std.proofs.Common.{◌≡◌, ℕ, ◌==◌, Bool, true, not, ◌&&◌, List, [], ◌∷◌, refl, sym}
-use Rattle.std.proofs.Common.{ap, subst, inl, inr, ne_eqb}
-use Rattle.std.specs.List.{list_all, list_any}
+use Rattle.std.proofs.Common.{arith, ◌≡◌, ℕ, ◌==◌, Bool, true, not, ◌&&◌, List, [], ◌∷◌, refl}
+use Rattle.std.proofs.Common.{ne_eqb}
+use Rattle.std.specs.List.{list_all}
 use Rattle.std.specs.Cmp.Lexicographic.{bytes_decides}
-use Rattle.std.proofs.lemmas.Bool.{and_parts, or_cases, and_from, cases_eq}
+use Rattle.std.proofs.lemmas.Bool.{and_parts, and_from, cases_eq}
 use Rattle.md_text.specs.Bytes.{is_one_of}
 use Rattle.md_text.specs.References.{is_escaped, is_escaped_byte}
 use Rattle.md_text.specs.Html.{Attribute, is_tag, are_attributes, elements, void_tags}
@@ -32,23 +31,16 @@ rules_hold_names (rule ∷ rules) =
 
 -- what is escaped has none of these
 escaped_byte-angle : (b : ℕ) (rest : List ℕ) → is_escaped_byte b rest ≡ true → no_angle b ≡ true
-escaped_byte-angle b rest e = elim (cases_eq b 60) [
-  | inl is ↦ lie (subst (λ b. is_escaped_byte b rest ≡ true) is e)
-  | inr ne ↦ ap not (ne_eqb b 60 ne)
-]
+escaped_byte-angle b rest e = grind arith
 
 escaped_byte-quote : (b : ℕ) (rest : List ℕ) → is_escaped_byte b rest ≡ true → no_quote b ≡ true
-escaped_byte-quote b rest e = elim (cases_eq b 34) [
-  | inl is ↦ lie (subst (λ b. is_escaped_byte b rest ≡ true) is e)
-  | inr ne ↦ ap not (ne_eqb b 34 ne)
-]
+escaped_byte-quote b rest e = grind (arith, cases_eq, ne_eqb)
 
 pub escaped-angle : (text : List ℕ) → is_escaped text ≡ true → list_all no_angle text ≡ true
 escaped-angle [] e = refl
 escaped-angle (b ∷ rest) e =
     let parts = and_parts (is_escaped_byte b rest) (is_escaped rest) e in
-    and_from (no_angle b) (list_all no_angle rest) (escaped_byte-angle b rest parts.0)
-    (escaped-angle rest parts.1)
+    grind (arith, escaped_byte-angle b rest parts.0, escaped-angle rest parts.1)
 
 pub escaped-quote : (text : List ℕ) → is_escaped text ≡ true → list_all no_quote text ≡ true
 escaped-quote [] e = refl
@@ -62,26 +54,17 @@ listed-name : (listed : List (List ℕ)) (name : List ℕ) → list_all is_name 
     is_one_of listed name ≡ true → is_name name ≡ true
 listed-name [] name g e = cc
 listed-name (t ∷ ts) name g e =
-    let parts = and_parts (is_name t) (list_all is_name ts) g in
-    elim (or_cases (bytes_eq name t) (is_one_of ts name) e) [
-      | inl same ↦ subst (λ x. is_name x ≡ true) (sym ((bytes_decides name t).0 same)) parts.0
-      | inr later ↦ listed-name ts name parts.1 later
-    ]
+    let same = (bytes_decides name t).0 in
+    let later = listed-name ts name in
+    grind (arith, same, later, g, e)
 
 attributes-tidy : (listed : List (List ℕ)) (attributes : List Attribute) →
     list_all is_name listed ≡ true →
     are_attributes listed attributes ≡ true → are_tidy attributes ≡ true
 attributes-tidy listed [] g e = refl
 attributes-tidy listed (a ∷ rest) g e =
-    let p = and_parts (is_one_of listed a.name && is_escaped a.value
-    && not (list_any (λ later. bytes_eq a.name later.name) rest)) (are_attributes listed rest) e in
-    let q = and_parts (is_one_of listed a.name && is_escaped a.value)
-    (not (list_any (λ later. bytes_eq a.name later.name) rest)) p.0 in
-    let r = and_parts (is_one_of listed a.name) (is_escaped a.value) q.0 in
-    and_from (is_name a.name) _ (listed-name listed a.name g r.0)
-    (and_from (list_all no_quote a.value) _ (escaped-quote a.value r.1)
-    (and_from (list_all no_angle a.value) (are_tidy rest) (escaped-angle a.value r.1)
-    (attributes-tidy listed rest g p.1)))
+    let later = attributes-tidy listed rest g in
+    grind (arith, listed-name, escaped-quote, escaped-angle, later, g, e)
 
 -- a tag of a table of names has a name, and tidy attributes
 tag-tidy : (rules : List (List ℕ × List (List ℕ))) (name : List ℕ) (attributes : List Attribute) →
@@ -89,17 +72,9 @@ tag-tidy : (rules : List (List ℕ × List (List ℕ))) (name : List ℕ) (attri
     (is_name name ≡ true) × (are_tidy attributes ≡ true)
 tag-tidy [] name attributes g e = lie e
 tag-tidy (rule ∷ rules) name attributes g e =
-    let p = and_parts (is_name rule.0) (list_all is_name rule.1 && rules_hold_names rules) g in
-    let q = and_parts (list_all is_name rule.1) (rules_hold_names rules) p.1 in
-    elim (or_cases (bytes_eq rule.0 name && are_attributes rule.1 attributes)
-    (is_tag rules name attributes) e) [
-      | inl this ↦
-          (let r = and_parts (bytes_eq rule.0 name) (are_attributes rule.1 attributes) this in (
-            subst (λ x. is_name x ≡ true) ((bytes_decides rule.0 name).0 r.0) p.0,
-            attributes-tidy rule.1 attributes q.0 r.1,
-          ))
-      | inr later ↦ tag-tidy rules name attributes q.1 later
-    ]
+    let same = (bytes_decides rule.0 name).0 in
+    let later = tag-tidy rules name attributes in
+    grind (arith, same, attributes-tidy, later, g, e)
 
 pub element-tidy : (name : List ℕ) (attributes : List Attribute) →
     is_tag elements name attributes ≡ true →

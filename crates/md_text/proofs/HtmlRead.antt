@@ -3,25 +3,22 @@
 use Rattle.std.specs.Str.{bytes_eq}
 use Rattle.md_base.proofs.Lies.{lie}
 use Rattle.md_base.specs.Identifier.{is_nonempty}
-use Rattle.std.proofs.Common.{◌≡◌, ℕ, ◌+◌, ◌≤◌, ◌==◌, Bool, true, false, ◌&&◌, cond, List, [], ◌∷◌}
-use Rattle.std.proofs.Common.{◌++◌, drop, length, refl, sym, ap, ◌∙◌, subst, inl, inr, append-nil}
+use Rattle.std.proofs.Common.{◌≡◌, ℕ, ◌+◌, ◌≤◌, ◌==◌, Bool, true, false, ◌&&◌, List, [], ◌∷◌}
+use Rattle.std.proofs.Common.{◌++◌, drop, length, refl, sym, ap, ◌∙◌, inl, inr, append-nil}
 use Rattle.std.proofs.Common.{zero, suc, arith, ne_eqb, length-append}
 use Rattle.std.specs.List.{list_all}
 use Rattle.std.proofs.lemmas.Bool.{and_parts, and_from}
 use Rattle.std.specs.Cmp.Lexicographic.{bytes_decides}
 use Rattle.md_text.specs.Html.{Attribute, Forest, Empty, Text, Void, Element, is_forest, written}
-use Rattle.md_text.specs.Html.{written_attributes, IsReading, HasReading, HasReadingWith}
-use Rattle.md_text.specs.Html.{all_attributes}
-use Rattle.md_text.proofs.HtmlNames.{is_name, is_name_byte, no_angle, no_quote, are_tidy}
+use Rattle.md_text.specs.Html.{IsReading, HasReading, HasReadingWith, all_attributes}
+use Rattle.md_text.proofs.HtmlNames.{is_name, is_name_byte, no_angle, are_tidy}
 use Rattle.md_text.proofs.HtmlSplit.{EndsAttributes}
 use Rattle.md_text.proofs.HtmlWriting.{attributes_before, forest_before, written-before}
 use Rattle.md_text.proofs.HtmlReading.{IsEnd, text_parts, element_parts, void_parts, after_text}
 use Rattle.md_text.proofs.HtmlReading.{attributes_stop, all-any}
 use Rattle.md_text.proofs.HtmlReader.{Left, with_left, read_run, past_name, past_space, read_run-at}
-use Rattle.md_text.proofs.HtmlReader.{add_attribute, past_value, at_attribute, read_attributes}
-use Rattle.md_text.proofs.HtmlReader.{past_tag_name, past_angle, past_text, at_node}
-use Rattle.md_text.proofs.HtmlReader.{past_attributes, with_attributes_read, element_from}
-use Rattle.md_text.proofs.HtmlReader.{past_children, void_from, text_from, read_forest}
+use Rattle.md_text.proofs.HtmlReader.{read_attributes, past_tag_name, past_angle, past_text}
+use Rattle.md_text.proofs.HtmlReader.{at_node, past_attributes, read_forest}
 
 -- ---- the reader finds what is written
 pub passes_not : (t : ℕ → Bool) (b n : ℕ) → t n ≡ false → t b ≡ true → (b == n) ≡ false
@@ -29,11 +26,7 @@ passes_not t b n no_n yes_b = ne_eqb b n (λ e. lie (sym no_n ∙ ap t (sym e) �
 
 past_space-name : (go : List ℕ → Left (List Attribute)) (name tail : List ℕ) → is_name name ≡ true →
     past_space go (name ++ tail) ≡ past_name go (read_run is_name_byte (name ++ tail))
-past_space-name go [] tail h = lie h
-past_space-name go (b ∷ name) tail h =
-    ap (λ c. cond c (with_left [] (32 ∷ b ∷ (name ++ tail)))
-    (past_name go (read_run is_name_byte ((b ∷ name) ++ tail)))) (passes_not is_name_byte b 47 refl
-    (and_parts (is_name_byte b) (list_all is_name_byte name) h).0)
+past_space-name go name tail h = grind arith
 
 name_bytes : (name : List ℕ) → is_name name ≡ true → list_all is_name_byte name ≡ true
 name_bytes name h = (and_parts (is_nonempty name) (list_all is_name_byte name) h).1
@@ -43,32 +36,14 @@ read_attributes-at : (n : ℕ) (x : List Attribute) (r : List ℕ) → are_tidy 
     read_attributes n (attributes_before x r) ≡ with_left x r
 read_attributes-at zero [] r h ends l = refl
 read_attributes-at zero (a ∷ x) r h ends l = absurd (omega arith)
-read_attributes-at (suc n) [] r h ends l = elim ends [
-  | inl angle ↦ subst (λ r. at_attribute (read_attributes n) r ≡ with_left [] r) (sym angle.1) refl
-  | inr slash ↦ subst (λ r. at_attribute (read_attributes n) r ≡ with_left [] r) (sym slash.1) refl
-]
+read_attributes-at (suc n) [] r h ends l = grind (arith, ends)
 read_attributes-at (suc n) (a ∷ x) r h ends l =
-    let p = and_parts (is_name a.name) _ h in
-    let q = and_parts (list_all no_quote a.value) _ p.1 in
-    let later = 34 ∷ attributes_before x r in
-    let go = read_attributes n in
-    past_space-name go a.name (61 ∷ 34 ∷ (a.value ++ later)) p.0
-    ∙ ap (past_name go)
-    (read_run-at is_name_byte a.name (61 ∷ 34 ∷ (a.value ++ later)) (name_bytes a.name p.0) refl)
-    ∙ ap (past_value go a.name) (read_run-at no_quote a.value later q.0 refl)
-    ∙ ap (add_attribute a.name a.value)
-    (read_attributes-at n x r (and_parts _ (are_tidy x) q.1).1 ends (omega arith))
+    let later = read_attributes-at n x r in
+    grind (arith, past_space-name, read_run-at, name_bytes, later, h, ends, l)
 
 length-attributes : (x : List Attribute) (r : List ℕ) → length x ≤ length (attributes_before x r)
-length-attributes [] r = omega arith
-length-attributes (a ∷ x) r =
-    let later = 34 ∷ attributes_before x r in
-    omega (
-      arith,
-      length-attributes x r,
-      length-append a.name (61 ∷ 34 ∷ (a.value ++ later)),
-      length-append a.value later,
-    )
+length-attributes [] r = grind (arith, length-append)
+length-attributes (a ∷ x) r = grind (arith, length-append, length-attributes x r)
 
 -- how deep and long a forest is
 abbrev size : Forest → ℕ
@@ -79,20 +54,12 @@ size (Element name attributes children rest) = suc (size children + size rest)
 
 past_angle-name : (go : List ℕ → Left Forest) (name tail : List ℕ) → is_name name ≡ true →
     past_angle go (name ++ tail) ≡ past_tag_name go (read_run is_name_byte (name ++ tail))
-past_angle-name go [] tail h = lie h
-past_angle-name go (b ∷ name) tail h =
-    ap (λ c. cond c (with_left Empty (60 ∷ b ∷ (name ++ tail)))
-    (past_tag_name go (read_run is_name_byte ((b ∷ name) ++ tail)))) (passes_not is_name_byte b 47
-    refl (and_parts (is_name_byte b) (list_all is_name_byte name) h).0)
+past_angle-name go name tail h = grind arith
 
 at_node-text : (go : List ℕ → Left Forest) (bytes tail : List ℕ) → is_nonempty bytes ≡ true →
     list_all no_angle bytes ≡ true →
     at_node go (bytes ++ tail) ≡ past_text go (read_run no_angle (bytes ++ tail))
-at_node-text go [] tail f h = lie f
-at_node-text go (b ∷ bytes) tail f h =
-    ap (λ c. cond c (past_angle go (bytes ++ tail))
-    (past_text go (read_run no_angle ((b ∷ bytes) ++ tail))))
-    (passes_not no_angle b 60 refl (and_parts (no_angle b) (list_all no_angle bytes) h).0)
+at_node-text go bytes tail f h = grind arith
 
 past_name_bytes : (name tail : List ℕ) → drop (length name) (name ++ tail) ≡ tail
 past_name_bytes [] tail = refl
@@ -103,87 +70,63 @@ tag-at : (go : List ℕ → Left Forest) (name : List ℕ) (attributes : List At
     (is_name name ≡ true) × (are_tidy attributes ≡ true) → EndsAttributes r
     → past_angle go (name ++ attributes_before attributes r) ≡ past_attributes go name attributes r
 tag-at go name attributes r tidy ends =
-    let on = attributes_before attributes r in
-    past_angle-name go name on tidy.0
-    ∙ ap (past_tag_name go) (read_run-at is_name_byte name on (name_bytes name tidy.0)
-    (attributes_stop attributes r ends))
-    ∙ ap (with_attributes_read go name) (read_attributes-at (length on) attributes r tidy.1 ends
-    (length-attributes attributes r))
+    grind (
+      arith,
+      past_angle-name,
+      read_run-at,
+      name_bytes,
+      attributes_stop,
+      read_attributes-at,
+      length-attributes,
+    )
 
 read_forest-at : (n : ℕ) (f : Forest) (r : List ℕ) → is_forest f ≡ true → IsEnd r → size f ≤ n →
     read_forest n (forest_before f r) ≡ with_left f r
 read_forest-at zero Empty r h ends l = absurd (omega arith)
-read_forest-at zero (Text bytes rest) r h ends l = absurd (omega arith)
-read_forest-at zero (Void name attributes rest) r h ends l = absurd (omega arith)
-read_forest-at zero (Element name attributes children rest) r h ends l = absurd (omega arith)
+read_forest-at zero _ r h ends l = absurd (omega arith)
 read_forest-at (suc n) Empty r h ends l = elim ends [
-  | inl empty ↦ subst (λ r. at_node (read_forest n) r ≡ with_left Empty r) (sym empty) refl
-  | inr slash ↦ subst (λ r. at_node (read_forest n) r ≡ with_left Empty r) (sym slash.1) refl
+  | inl empty ↦ rw empty refl
+  | inr slash ↦ rw slash.1 refl
 ]
 read_forest-at (suc n) (Text bytes rest) r h ends l =
     let p = text_parts bytes rest h in
-    let go = read_forest n in
-    at_node-text go bytes (forest_before rest r) p.filled p.angles
-    ∙ ap (past_text go)
-    (read_run-at no_angle bytes (forest_before rest r) p.angles (after_text rest r p.alone ends))
-    ∙ ap (text_from bytes) (read_forest-at n rest r p.later ends (omega arith))
+    rw (
+      at_node-text (read_forest n) bytes (forest_before rest r) p.filled p.angles,
+      read_run-at no_angle bytes (forest_before rest r) p.angles (after_text rest r p.alone ends),
+      read_forest-at n rest r p.later ends (omega arith),
+    ) refl
 read_forest-at (suc n) (Void name attributes rest) r h ends l =
     let p = void_parts name attributes rest h in
-    let go = read_forest n in
-    tag-at go name attributes (32 ∷ 47 ∷ 62 ∷ forest_before rest r) p.tidy
-    (inr (62 ∷ forest_before rest r, refl))
-    ∙ ap (void_from name attributes) (read_forest-at n rest r p.later ends (omega arith))
+    let later = forest_before rest r in
+    rw (
+      tag-at (read_forest n) name attributes (32 ∷ 47 ∷ 62 ∷ later) p.tidy
+          (inr (62 ∷ later, refl)),
+      read_forest-at n rest r p.later ends (omega arith),
+    ) refl
 read_forest-at (suc n) (Element name attributes children rest) r h ends l =
     let p = element_parts name attributes children rest h in
-    let go = read_forest n in
     let later = forest_before rest r in
     let close = 60 ∷ 47 ∷ (name ++ (62 ∷ later)) in
-    tag-at go name attributes (62 ∷ forest_before children close) p.tidy
-    (inl (forest_before children close, refl))
-    ∙ ap (past_children go name attributes) (read_forest-at n children close p.inside
-    (inr (name ++ (62 ∷ later), refl)) (omega arith))
-    ∙ ap (λ y. element_from go name attributes (with_left children close) (go (drop 1 y)))
-    (past_name_bytes name (62 ∷ later))
-    ∙ ap (element_from go name attributes (with_left children close))
-    (read_forest-at n rest r p.later ends (omega arith))
+    rw (
+      tag-at (read_forest n) name attributes (62 ∷ forest_before children close) p.tidy
+          (inl (forest_before children close, refl)),
+      read_forest-at n children close p.inside (inr (name ++ (62 ∷ later), refl)) (omega arith),
+      past_name_bytes name (62 ∷ later),
+      read_forest-at n rest r p.later ends (omega arith),
+    ) refl
 
 size-written : (f : Forest) → is_forest f ≡ true → size f ≤ suc (length (written f))
 size-written Empty h = omega arith
 size-written (Text bytes rest) h =
     let p = text_parts bytes rest h in
-    omega (
-      arith,
-      size-written rest p.later,
-      length-append bytes (written rest),
-      filled-length bytes p.filled,
-    )
-  where
-    filled-length : (bytes : List ℕ) → is_nonempty bytes ≡ true → 1 ≤ length bytes
-    filled-length [] f = lie f
-    filled-length (b ∷ bytes) f = omega arith
+    let filled : 1 ≤ length bytes = grind (arith, p.filled) in
+    omega (arith, size-written rest p.later, filled, length-append {A = ℕ})
 size-written (Void name attributes rest) h =
     let p = void_parts name attributes rest h in
-    let tag = written_attributes attributes in
-    omega (
-      arith,
-      size-written rest p.later,
-      length-append name (tag ++ (32 ∷ 47 ∷ 62 ∷ written rest)),
-      length-append tag (32 ∷ 47 ∷ 62 ∷ written rest),
-    )
+    omega (arith, size-written rest p.later, length-append {A = ℕ})
 size-written (Element name attributes children rest) h =
     let p = element_parts name attributes children rest h in
-    let tag = written_attributes attributes in
-    let last = name ++ (62 ∷ written rest) in
-    let inside = written children ++ (60 ∷ 47 ∷ last) in
-    omega (
-      arith,
-      size-written children p.inside,
-      size-written rest p.later,
-      length-append name (tag ++ (62 ∷ inside)),
-      length-append tag (62 ∷ inside),
-      length-append (written children) (60 ∷ 47 ∷ last),
-      length-append name (62 ∷ written rest),
-    )
+    omega (arith, size-written children p.inside, size-written rest p.later, length-append {A = ℕ})
 
 -- ---- which texts have a reading
 abbrev pub guessed : List ℕ → Forest
@@ -198,24 +141,15 @@ guessed_reading text h =
     record { in_grammar = p.0; written_so = (bytes_decides (written (guessed text)) text).0 p.1 }
 
 pub readable : (text : List ℕ) → is_readable text ≡ true → HasReading text
-readable text h = record {
-  forest = guessed text;
-  reading = guessed_reading text h;
-  passes = all-any (guessed text);
-}
+readable text h = grind (arith, guessed_reading, all-any)
 
 guessed-is : (text : List ℕ) (f : Forest) → IsReading text f → guessed text ≡ f
 guessed-is text f reading =
-    let whole : forest_before f [] ≡ text =
-    sym (written-before f []) ∙ append-nil (written f) ∙ reading.written_so in
-    let enough : size f ≤ suc (length text) = omega (
-      arith,
-      size-written f reading.in_grammar,
-      ap length reading.written_so,
-    ) in
-    ap (λ t. (read_forest (suc (length text)) t).found) (sym whole)
-    ∙ ap (λ r. r.found)
-    (read_forest-at (suc (length text)) f [] reading.in_grammar (inl refl) enough)
+    let whole = written-before f [] in
+    let enough : size f ≤ suc (length text) =
+    omega (arith, size-written f reading.in_grammar, ap length reading.written_so) in
+    let read = read_forest-at (suc (length text)) f [] reading.in_grammar (inl refl) enough in
+    grind (arith, whole, append-nil, read, reading)
 
 pub reads : (text : List ℕ) → HasReading text → is_readable text ≡ true
 reads text h =
@@ -230,10 +164,8 @@ unreadable text e h = lie (sym e ∙ reads text h)
 -- a text with a reading whose attributes pass, and one with a reading in which an attribute fails
 pub readable_with : (p : Attribute → Bool) (text : List ℕ) → is_readable text ≡ true →
     all_attributes p (guessed text) ≡ true → HasReadingWith p text
-readable_with p text h passes =
-    record { forest = guessed text; reading = guessed_reading text h; passes = passes }
+readable_with p text h passes = grind (arith, guessed_reading)
 
 pub fails_with : (p : Attribute → Bool) (text : List ℕ) → all_attributes p (guessed text) ≡ false →
     HasReadingWith p text → ⊥
-fails_with p text e h =
-    lie (sym e ∙ ap (all_attributes p) (guessed-is text h.forest h.reading) ∙ h.passes)
+fails_with p text e h = grind (arith, guessed-is)

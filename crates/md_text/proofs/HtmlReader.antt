@@ -1,8 +1,7 @@
 -- A reader of HTML: it guesses a forest, tag after tag and text after text.
-use Rattle.std.proofs.Common.{◌≡◌, ℕ, ◌==◌, Bool, true, cond, if◌then◌else◌, List, [], ◌∷◌, ◌++◌}
-use Rattle.std.proofs.Common.{drop, length, refl, ap, ◌∙◌, zero, suc}
+use Rattle.std.proofs.Common.{arith, ◌≡◌, ℕ, ◌==◌, Bool, true, if◌then◌else◌, List, [], ◌∷◌, ◌++◌}
+use Rattle.std.proofs.Common.{drop, length, refl, zero, suc}
 use Rattle.std.specs.List.{list_all}
-use Rattle.std.proofs.lemmas.Bool.{and_parts, not-true}
 use Rattle.md_text.specs.Html.{Attribute, Forest, Empty, Text, Void, Element}
 use Rattle.md_text.proofs.HtmlNames.{is_name_byte, no_angle, no_quote}
 use Rattle.md_text.proofs.HtmlSplit.{stops}
@@ -26,12 +25,8 @@ read_run t (b ∷ rest) = if t b then more_run b (read_run t rest) else with_lef
 pub read_run-at : (t : ℕ → Bool) (x a : List ℕ) → list_all t x ≡ true → stops t a ≡ true →
     read_run t (x ++ a) ≡ with_left x a
 read_run-at t [] [] h s = refl
-read_run-at t [] (b ∷ a) h s =
-    ap (λ c. cond c (more_run b (read_run t a)) (with_left [] (b ∷ a))) (not-true (t b) s)
-read_run-at t (b ∷ x) a h s =
-    let p = and_parts (t b) (list_all t x) h in
-    ap (λ c. cond c (more_run b (read_run t (x ++ a))) (with_left [] (b ∷ (x ++ a)))) p.0
-    ∙ ap (more_run b) (read_run-at t x a p.1 s)
+read_run-at t [] (b ∷ a) h s = grind (arith, s)
+read_run-at t (b ∷ x) a h s = let later = read_run-at t x a in grind (arith, later, h, s)
 
 -- ---- attributes
 abbrev pub add_attribute : List ℕ → List ℕ → Left (List Attribute) → Left (List Attribute)

@@ -1,70 +1,44 @@
 -- No text has two readings: what is written from a place on says which node comes,
 -- and where it ends.
-use Rattle.md_base.proofs.Lies.{lie}
 use Rattle.md_base.specs.Identifier.{is_nonempty}
-use Rattle.std.proofs.Common.{Bool, ◌≡◌, ◌⊎◌, ℕ, true, not, ◌&&◌, List, [], ◌∷◌, ◌++◌, refl, sym}
-use Rattle.std.proofs.Common.{ap, ◌∙◌, subst, inl, inr, append-nil}
+use Rattle.std.proofs.Common.{arith, Bool, ◌≡◌, ◌⊎◌, ℕ, true, not, List, [], ◌∷◌, ◌++◌, refl, sym}
+use Rattle.std.proofs.Common.{◌∙◌, subst, inl, inr, append-nil}
 use Rattle.std.specs.List.{list_all}
 use Rattle.std.proofs.lemmas.Bool.{and_parts, and_from}
-use Rattle.md_text.specs.References.{is_escaped}
-use Rattle.md_text.specs.Html.{Attribute, Forest, Empty, Text, Void, Element, is_forest, is_tag}
-use Rattle.md_text.specs.Html.{begins_with_text, elements, void_tags, written, IsReading}
+use Rattle.md_text.specs.Html.{Attribute, Forest, Empty, Text, Void, Element, is_forest}
+use Rattle.md_text.specs.Html.{begins_with_text, written, IsReading}
 use Rattle.md_text.specs.Html.{HasReadingWith, HasOneReadingWith, any_attribute, all_attributes}
 use Rattle.md_text.proofs.HtmlNames.{is_name, is_name_byte, no_angle, are_tidy, element-tidy}
 use Rattle.md_text.proofs.HtmlNames.{void-tidy, escaped-angle}
-use Rattle.md_text.proofs.HtmlSplit.{stops, split, EndsAttributes, same_attributes, name-not}
+use Rattle.md_text.proofs.HtmlSplit.{stops, split, EndsAttributes, same_attributes}
 use Rattle.md_text.proofs.HtmlWriting.{attributes_before, forest_before, written-before}
 
 -- where a forest ends: the text ends, or a closing tag begins
 abbrev pub IsEnd : List ℕ → Type 0
 IsEnd r = (r ≡ []) ⊎ ((more : List ℕ) × (r ≡ 60 ∷ 47 ∷ more))
 
-nil_or : (b : ℕ) (x : List ℕ) → [] ≡ b ∷ x → ⊥
-nil_or b x e = cc
-
 pub tail_of : (b c : ℕ) (x y : List ℕ) → b ∷ x ≡ c ∷ y → x ≡ y
 tail_of b c x y e = cc
 
 -- a tag doesn't begin where a forest ends
 tag_not_end : (name tail r : List ℕ) → is_name name ≡ true → IsEnd r → r ≡ 60 ∷ (name ++ tail) → ⊥
-tag_not_end name tail r h ends e = elim ends [
-  | inl empty ↦ nil_or 60 (name ++ tail) (sym empty ∙ e)
-  | inr slash ↦ name-not 47 name tail slash.0 refl h
-      (tail_of 60 60 (name ++ tail) (47 ∷ slash.0) (sym e ∙ slash.1))
-]
+tag_not_end name tail r h ends e = grind arith
 
 -- neither a text nor where a forest ends begins with what the other does
 text_not_tag : (bytes tail more : List ℕ) → is_nonempty bytes ≡ true →
     list_all no_angle bytes ≡ true →
     bytes ++ tail ≡ 60 ∷ more → ⊥
-text_not_tag [] tail more f h e = lie f
-text_not_tag (b ∷ bytes) tail more f h e =
-    let is : b ≡ 60 = cc in
-    lie (ap no_angle (sym is) ∙ (and_parts (no_angle b) (list_all no_angle bytes) h).0)
+text_not_tag bytes tail more f h e = grind arith
 
 text_not_end : (bytes tail r : List ℕ) → is_nonempty bytes ≡ true →
     list_all no_angle bytes ≡ true → IsEnd r →
     r ≡ bytes ++ tail → ⊥
-text_not_end bytes tail r f h ends e = elim ends [
-  | inl empty ↦ filled_nil bytes f (sym e ∙ empty)
-  | inr slash ↦ text_not_tag bytes tail (47 ∷ slash.0) f h (sym e ∙ slash.1)
-]
-  where
-    filled_nil : (bytes : List ℕ) → is_nonempty bytes ≡ true → bytes ++ tail ≡ [] → ⊥
-    filled_nil [] f e = lie f
-    filled_nil (b ∷ bytes) f e = nil_or b (bytes ++ tail) (sym e)
+text_not_end bytes tail r f h ends e = grind (arith, text_not_tag)
 
 -- what comes after a text begins with `<` or is the end
 pub after_text : (f : Forest) (r : List ℕ) → not (begins_with_text f) ≡ true → IsEnd r →
     stops no_angle (forest_before f r) ≡ true
-after_text Empty r h ends = elim ends [
-  | inl empty ↦ subst (λ r. stops no_angle r
-      ≡ true) (sym empty) refl
-  | inr slash ↦ subst (λ r. stops no_angle r ≡ true) (sym slash.1) refl
-]
-after_text (Text bytes rest) r h ends = lie h
-after_text (Void name attributes rest) r h ends = refl
-after_text (Element name attributes children rest) r h ends = refl
+after_text f r h ends = grind arith
 
 -- attributes follow a name, or the tag continues
 pub attributes_stop : (attributes : List Attribute) (r : List ℕ) → EndsAttributes r →
@@ -81,10 +55,8 @@ same_tag : (n m : List ℕ) (x y : List Attribute) (r s : List ℕ) →
     (is_name m ≡ true) × (are_tidy y ≡ true) → EndsAttributes r → EndsAttributes s
     → n ++ attributes_before x r ≡ m ++ attributes_before y s → (n ≡ m) × (x ≡ y) × (r ≡ s)
 same_tag n m x y r s hn hm er es e =
-    let names =
-    split is_name_byte n m _ _ (and_parts (is_nonempty n) (list_all is_name_byte n) hn.0).1
-    (and_parts (is_nonempty m) (list_all is_name_byte m) hm.0).1 (attributes_stop x r er)
-    (attributes_stop y s es) e in
+    let names = split is_name_byte n m _ _ (grind (arith, hn)) (grind (arith, hm))
+    (attributes_stop x r er) (attributes_stop y s es) e in
     let attributes = same_attributes x y r s hn.1 hm.1 er es names.1 in
     (names.0, attributes.0, attributes.1)
 
@@ -97,12 +69,7 @@ pub record IsTextNode (bytes : List ℕ) (rest : Forest) : Type 0 where
 
 pub text_parts : (bytes : List ℕ) (rest : Forest) → is_forest (Text bytes rest) ≡ true →
     IsTextNode bytes rest
-text_parts bytes rest h =
-    let p = and_parts (is_nonempty bytes && is_escaped bytes && not (begins_with_text rest))
-    (is_forest rest) h in
-    let q = and_parts (is_nonempty bytes && is_escaped bytes) (not (begins_with_text rest)) p.0 in
-    let r = and_parts (is_nonempty bytes) (is_escaped bytes) q.0 in
-    record { filled = r.0; angles = escaped-angle bytes r.1; alone = q.1; later = p.1 }
+text_parts bytes rest h = grind (arith, and_parts, escaped-angle)
 
 pub record IsElementNode (name : List ℕ) (attributes : List Attribute)
     (children rest : Forest) : Type 0 where
@@ -113,10 +80,7 @@ pub record IsElementNode (name : List ℕ) (attributes : List Attribute)
 pub element_parts : (name : List ℕ) (attributes : List Attribute) (children rest : Forest) →
     is_forest (Element name attributes children rest) ≡ true →
     IsElementNode name attributes children rest
-element_parts name attributes children rest h =
-    let p = and_parts (is_tag elements name attributes && is_forest children) (is_forest rest) h in
-    let q = and_parts (is_tag elements name attributes) (is_forest children) p.0 in
-    record { tidy = element-tidy name attributes q.0; inside = q.1; later = p.1 }
+element_parts name attributes children rest h = grind (arith, and_parts, element-tidy)
 
 pub record IsVoidNode (name : List ℕ) (attributes : List Attribute) (rest : Forest) : Type 0 where
   pub tidy : (is_name name ≡ true) × (are_tidy attributes ≡ true)
@@ -124,9 +88,7 @@ pub record IsVoidNode (name : List ℕ) (attributes : List Attribute) (rest : Fo
 
 pub void_parts : (name : List ℕ) (attributes : List Attribute) (rest : Forest) →
     is_forest (Void name attributes rest) ≡ true → IsVoidNode name attributes rest
-void_parts name attributes rest h =
-    let p = and_parts (is_tag void_tags name attributes) (is_forest rest) h in
-    record { tidy = void-tidy name attributes p.0; later = p.1 }
+void_parts name attributes rest h = grind (arith, and_parts, void-tidy)
 
 slash_angle : (x y : List ℕ) → 32 ∷ x ≡ 62 ∷ y → ⊥
 slash_angle x y e = cc
@@ -134,16 +96,16 @@ slash_angle x y e = cc
 same : (f g : Forest) (r s : List ℕ) → is_forest f ≡ true → is_forest g ≡ true → IsEnd r → IsEnd s →
     forest_before f r ≡ forest_before g s → (f ≡ g) × (r ≡ s)
 same Empty Empty r s hf hg er es e = (refl, e)
-same Empty (Text bytes rest) r s hf hg er es e = (let p = text_parts bytes rest hg in
-    absurd (text_not_end bytes (forest_before rest s) r p.filled p.angles er e))
+same Empty (Text bytes rest) r s hf hg er es e =
+    let p = text_parts bytes rest hg in
+    absurd (text_not_end bytes (forest_before rest s) r p.filled p.angles er e)
 same Empty (Void name attributes rest) r s hf hg er es e =
-    (let p = void_parts name attributes rest hg in
-    absurd (tag_not_end name _ r p.tidy.0 er e))
+    absurd (tag_not_end name _ r (void_parts name attributes rest hg).tidy.0 er e)
 same Empty (Element name attributes children rest) r s hf hg er es e =
-    (let p = element_parts name attributes children rest hg in
-    absurd (tag_not_end name _ r p.tidy.0 er e))
-same (Text bytes rest) Empty r s hf hg er es e = (let p = text_parts bytes rest hf in
-    absurd (text_not_end bytes (forest_before rest r) s p.filled p.angles es (sym e)))
+    absurd (tag_not_end name _ r (element_parts name attributes children rest hg).tidy.0 er e)
+same (Text bytes rest) Empty r s hf hg er es e =
+    let p = text_parts bytes rest hf in
+    absurd (text_not_end bytes (forest_before rest r) s p.filled p.angles es (sym e))
 same (Text bytes rest) (Text bytes' rest') r s hf hg er es e =
     let p = text_parts bytes rest hf in
     let q = text_parts bytes' rest' hg in
@@ -152,26 +114,23 @@ same (Text bytes rest) (Text bytes' rest') r s hf hg er es e =
     let later = same rest rest' r s p.later q.later er es parts.1 in
     ((λ i. Text (parts.0 i) (later.0 i)), later.1)
 same (Text bytes rest) (Void name attributes rest') r s hf hg er es e =
-    (let p = text_parts bytes rest hf in
-    absurd (text_not_tag bytes (forest_before rest r) _ p.filled p.angles e))
+    let p = text_parts bytes rest hf in
+    absurd (text_not_tag bytes (forest_before rest r) _ p.filled p.angles e)
 same (Text bytes rest) (Element name attributes children rest') r s hf hg er es e =
-    (let p = text_parts bytes rest hf in
-    absurd (text_not_tag bytes (forest_before rest r) _ p.filled p.angles e))
+    let p = text_parts bytes rest hf in
+    absurd (text_not_tag bytes (forest_before rest r) _ p.filled p.angles e)
 same (Void name attributes rest) Empty r s hf hg er es e =
-    (let p = void_parts name attributes rest hf in
-    absurd (tag_not_end name _ s p.tidy.0 es (sym e)))
+    absurd (tag_not_end name _ s (void_parts name attributes rest hf).tidy.0 es (sym e))
 same (Void name attributes rest) (Text bytes rest') r s hf hg er es e =
-    (let p = text_parts bytes rest' hg in
-    absurd (text_not_tag bytes (forest_before rest' s) _ p.filled p.angles (sym e)))
+    let p = text_parts bytes rest' hg in
+    absurd (text_not_tag bytes (forest_before rest' s) _ p.filled p.angles (sym e))
 same (Void name attributes rest) (Void name' attributes' rest') r s hf hg er es e =
     let p = void_parts name attributes rest hf in
     let q = void_parts name' attributes' rest' hg in
     let tag = same_tag name name' attributes attributes' (32 ∷ 47 ∷ 62 ∷ forest_before rest r)
     (32 ∷ 47 ∷ 62 ∷ forest_before rest' s) p.tidy q.tidy
-    (inr (62 ∷ forest_before rest r, refl)) (inr (62 ∷ forest_before rest' s, refl))
-    (tail_of 60 60 _ _ e) in
-    let on : forest_before rest r ≡ forest_before rest' s = cc tag.2 in
-    let later = same rest rest' r s p.later q.later er es on in
+    (inr (62 ∷ forest_before rest r, refl)) (inr (62 ∷ forest_before rest' s, refl)) (cc) in
+    let later = same rest rest' r s p.later q.later er es (cc tag.2) in
     ((λ i. Void (tag.0 i) (tag.1 i) (later.0 i)), later.1)
 same (Void name attributes rest) (Element name' attributes' children rest') r s hf hg er es e =
     let p = void_parts name attributes rest hf in
@@ -182,11 +141,10 @@ same (Void name attributes rest) (Element name' attributes' children rest') r s 
     (inr (62 ∷ forest_before rest r, refl)) (inl (inside, refl)) (tail_of 60 60 _ _ e) in
     absurd (slash_angle _ _ tag.2)
 same (Element name attributes children rest) Empty r s hf hg er es e =
-    (let p = element_parts name attributes children rest hf in
-    absurd (tag_not_end name _ s p.tidy.0 es (sym e)))
+    absurd (tag_not_end name _ s (element_parts name attributes children rest hf).tidy.0 es (sym e))
 same (Element name attributes children rest) (Text bytes rest') r s hf hg er es e =
-    (let p = text_parts bytes rest' hg in
-    absurd (text_not_tag bytes (forest_before rest' s) _ p.filled p.angles (sym e)))
+    let p = text_parts bytes rest' hg in
+    absurd (text_not_tag bytes (forest_before rest' s) _ p.filled p.angles (sym e))
 same (Element name attributes children rest) (Void name' attributes' rest') r s hf hg er es e =
     let p = element_parts name attributes children rest hf in
     let q = void_parts name' attributes' rest' hg in
@@ -203,16 +161,13 @@ same (Element name attributes children rest) (Element name' attributes' children
     let close' = name' ++ (62 ∷ forest_before rest' s) in
     let inside = forest_before children (60 ∷ 47 ∷ close) in
     let inside' = forest_before children' (60 ∷ 47 ∷ close') in
-    let tag = same_tag name name' attributes attributes' (62 ∷ inside) (62
-    ∷ inside') p.tidy q.tidy (inl (inside, refl)) (inl (inside', refl)) (tail_of 60 60 _ _ e) in
-    let within = same children children' (60 ∷ 47 ∷ close) (60 ∷ 47
-    ∷ close') p.inside q.inside (inr (close, refl)) (inr (close', refl))
-    (tail_of 62 62 inside inside' tag.2) in
-    let closes : close ≡ close' = tail_of 47 47 close close' (tail_of 60 60 _ _ within.1) in
-    let ends =
-    split is_name_byte name name' (62 ∷ forest_before rest r) (62 ∷ forest_before rest' s)
-    (and_parts (is_nonempty name) (list_all is_name_byte name) p.tidy.0).1
-    (and_parts (is_nonempty name') (list_all is_name_byte name') q.tidy.0).1 refl refl closes in
+    let tag = same_tag name name' attributes attributes' (62 ∷ inside) (62 ∷ inside') p.tidy q.tidy
+    (inl (inside, refl)) (inl (inside', refl)) (tail_of 60 60 _ _ e) in
+    let within = same children children' (60 ∷ 47 ∷ close) (60 ∷ 47 ∷ close') p.inside q.inside
+    (inr (close, refl)) (inr (close', refl)) (tail_of 62 62 inside inside' tag.2) in
+    let closes : close ≡ close' = cc within.1 in
+    let ends = split is_name_byte name name' _ _ (grind (arith, p.tidy)) (grind (arith, q.tidy))
+    refl refl closes in
     let later = same rest rest' r s p.later q.later er es (tail_of 62 62 _ _ ends.1) in
     ((λ i. Element (tag.0 i) (tag.1 i) (within.0 i) (later.0 i)), later.1)
 
@@ -224,12 +179,7 @@ one_reading text f g x y =
 
 pub only_reading : (p : Attribute → Bool) (text : List ℕ) → HasReadingWith p text →
     HasOneReadingWith p text
-only_reading p text h = record {
-  forest = h.forest;
-  reading = h.reading;
-  passes = h.passes;
-  only = λ other reading. one_reading text other h.forest reading h.reading;
-}
+only_reading p text h = grind (arith, one_reading)
 
 any_all : (attributes : List Attribute) → list_all any_attribute attributes ≡ true
 any_all [] = refl
@@ -237,12 +187,8 @@ any_all (a ∷ rest) = any_all rest
 
 -- any forest passes if there is no condition
 pub all-any : (f : Forest) → all_attributes any_attribute f ≡ true
-all-any Empty = refl
-all-any (Text bytes rest) = all-any rest
-all-any (Void name attributes rest) =
-    and_from (list_all any_attribute attributes) (all_attributes any_attribute rest)
-    (any_all attributes) (all-any rest)
+all-any Empty = grind (arith, and_from, any_all)
+all-any (Text bytes rest) = grind (arith, and_from, any_all, all-any rest)
+all-any (Void name attributes rest) = grind (arith, and_from, any_all, all-any rest)
 all-any (Element name attributes children rest) =
-    and_from (list_all any_attribute attributes && all_attributes any_attribute children)
-    (all_attributes any_attribute rest) (and_from (list_all any_attribute attributes)
-    (all_attributes any_attribute children) (any_all attributes) (all-any children)) (all-any rest)
+    grind (arith, and_from, any_all, all-any children, all-any rest)

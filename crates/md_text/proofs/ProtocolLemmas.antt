@@ -1,25 +1,21 @@
 -- Reading references back changes no protocol that is kept: so a link's protocol is the one that
 -- was checked.
 use Rattle.std.specs.Prelude.{◌||◌}
-use Rattle.std.specs.Str.{bytes_eq}
-use Rattle.std.proofs.Common.{◌≡◌, ◌≢◌, ℕ, ◌==◌, Bool, true, false, not, List, [], ◌∷◌}
-use Rattle.std.proofs.Common.{take, length, Option, Some, None, option_map, refl, sym, ap, ◌∙◌}
-use Rattle.std.proofs.Common.{subst, ne_eqb, eqb-true, inl, inr, codes, zero, suc, ◌<◌, get_or}
-use Rattle.std.proofs.Common.{arith, zero-lt-suc}
+use Rattle.std.proofs.Common.{◌≡◌, ◌≢◌, ℕ, ◌==◌, Bool, true, false, not, List, [], ◌∷◌, take}
+use Rattle.std.proofs.Common.{length, Option, Some, None, option_map, refl, sym, ap, ◌∙◌, subst}
+use Rattle.std.proofs.Common.{eqb-true, inl, inr, codes, zero, suc, ◌<◌, get_or, arith}
 use Rattle.std.specs.List.{list_all, prefix_len}
 use Rattle.std.specs.Option.{option_map_or}
 use Rattle.std.specs.Cmp.Lexicographic.{bytes_decides}
-use Rattle.std.proofs.lemmas.Bool.{cases_eq, cases_Bool, and_parts, or_cases, cond_both, and_from}
-use Rattle.std.proofs.lemmas.Bool.{both_ways}
+use Rattle.std.proofs.lemmas.Bool.{cases_eq, cases_Bool, and_parts, cond_both}
 use Rattle.md_text.specs.Bytes.{lower, lowered, is_one_of}
 use Rattle.md_text.specs.Kept.{goes_on}
 use Rattle.md_text.specs.References.{read_back, read_back_after, referenced, reference_tail}
 use Rattle.md_text.specs.References.{begins_with}
-use Rattle.md_text.specs.Url.{protocol_of, has_permitted_protocol, sanitized, sanitized_with}
+use Rattle.md_text.specs.Url.{protocol_of, has_permitted_protocol, sanitized_with}
 use Rattle.md_text.specs.Url.{link_protocols, image_protocols}
 use Rattle.md_text.specs.Safe.{is_safe_value}
 use Rattle.md_text.proofs.EncodeLaws.{read_back-other}
-use Rattle.md_text.proofs.KeptLemmas.{next}
 use Rattle.md_base.proofs.Lies.{lie}
 
 -- `?`, `#` or `/`, which end the place where a protocol may stand
@@ -45,28 +41,16 @@ both b e f = rw e (rw f refl)
 pub protocol_of-colon_at : (url : List ℕ) → prefix_len goes_on url < length url →
     (get_or url (prefix_len goes_on url) 0 == 58) ≡ true →
     protocol_of url ≡ Some (take (prefix_len goes_on url) url)
-protocol_of-colon_at [] = λ inside colon. absurd (omega (arith, inside))
-protocol_of-colon_at (b ∷ rest) = elim (cases_Bool (goes_on b)) [
-  | inl e ↦ rw e (rw (← next (prefix_len goes_on rest)) (λ inside colon.
-      protocol_of-goes_on b rest e ∙ ap (option_map (λ before. b ∷ before))
-      (protocol_of-colon_at rest (omega (arith, inside)) colon)))
-  | inr e ↦ rw e (λ inside colon. protocol_of-colon b rest colon)
-]
+protocol_of-colon_at [] inside colon = absurd (omega (arith, inside))
+protocol_of-colon_at (b ∷ rest) inside colon =
+    let later = protocol_of-colon_at rest in grind (arith, later, inside, colon)
 
 pub protocol_of-none_at : (url : List ℕ) →
     (prefix_len goes_on url < length url → (get_or url (prefix_len goes_on url) 0 == 58) ≡ false) →
     protocol_of url ≡ None
-protocol_of-none_at [] = λ other. refl
-protocol_of-none_at (b ∷ rest) = elim (cases_Bool (goes_on b)) [
-  | inl e ↦ rw e (rw (← next (prefix_len goes_on rest)) (λ other.
-      protocol_of-goes_on b rest e ∙ ap (option_map (λ before. b ∷ before))
-      (protocol_of-none_at rest (λ inside. other (omega (arith, inside))))))
-  | inr e ↦ rw e (λ other. let plain = other (zero-lt-suc (length rest)) in
-      elim (cases_Bool (ends_protocol b)) [
-        | inl ends ↦ protocol_of-end b rest plain ends
-        | inr goes ↦ absurd (both_ways (goes_on b) e (both b plain goes))
-      ])
-]
+protocol_of-none_at [] other = refl
+protocol_of-none_at (b ∷ rest) other =
+    let later = protocol_of-none_at rest in grind (arith, later, other)
 
 -- the first bytes go on
 abbrev pub front_goes_on : ℕ → List ℕ → Bool
@@ -100,50 +84,36 @@ referenced-goes_on rest =
     cond_both (begins_with (codes "gt;") rest) (Some (codes "gt;", 62)) None P
     (λ _. refl) (λ _. refl))))
 
-pub some_none : (q : List ℕ) → Some q ≡ None → ⊥
-some_none q e = cc
-
 pub none_some : (q : List ℕ) → None ≡ Some q → ⊥
 none_some q e = cc
 
 pub map_none : (b : ℕ) (o : Option (List ℕ)) → option_map (λ before. b ∷ before) o ≡ None → o ≡ None
-map_none b None e = refl
-map_none b (Some q) e = cc
+map_none b o e = grind (arith, e)
 
 pub map_some : (b : ℕ) (o : Option (List ℕ)) (q : List ℕ) →
     option_map (λ before. b ∷ before) o ≡ Some q →
     (p : List ℕ) × (o ≡ Some p) × (q ≡ b ∷ p)
-map_some b None q e = absurd (none_some q e)
-map_some b (Some p) q e = (p, refl, sym (some_part (b ∷ p) q e))
-  where
-    some_part : (x y : List ℕ) → Some x ≡ Some y → x ≡ y
-    some_part x y e = cc
+map_some b o q e = grind (arith, e)
 
 -- no protocol, also once references are read back
 none_stays : (n : ℕ) (v : List ℕ) → front_goes_on n v ≡ true → protocol_of v ≡ None →
     protocol_of (read_back_after n v) ≡ None
 none_stays n [] f e = refl
 none_stays zero (b ∷ rest) f e = elim (cases_eq b 38) [
-  | inl is ↦ (let tail =
-      map_none 38 (protocol_of rest) (subst (λ b. protocol_of (b ∷ rest) ≡ None) is e) in
-      subst (λ b. protocol_of (read_back_after 0 (b ∷ rest)) ≡ None) (sym is)
-      (protocol_of-goes_on (referenced rest) (read_back_after (reference_tail rest) rest)
-      (referenced-goes_on rest) ∙ ap (option_map (λ before. referenced rest ∷ before))
-      (none_stays (reference_tail rest) rest (reference-goes_on rest) tail)))
-  | inr ne ↦ ap protocol_of (read_back-other b rest ne) ∙ (elim (cases_Bool (b == 58)) [
-    | inl colon ↦ absurd (some_none [] (sym (protocol_of-colon b rest colon) ∙ e))
-    | inr on ↦ elim (cases_Bool (ends_protocol b)) [
-      | inl ends ↦ protocol_of-end b (read_back rest) on ends
-      | inr goes ↦ protocol_of-goes_on b (read_back rest) (both b on goes)
-          ∙ ap (option_map (λ before. b ∷ before)) (none_stays 0 rest refl
-          (map_none b (protocol_of rest) (sym (protocol_of-goes_on b rest (both b on goes)) ∙ e)))
-    ]
+  | inl is ↦ (let tail = map_none 38 (protocol_of rest) (rw is at e) in
+      let later = none_stays (reference_tail rest) rest (reference-goes_on rest) tail in
+      let first = referenced-goes_on rest in
+      rw is (rw (protocol_of-goes_on (referenced rest) _ first) (rw later refl)))
+  | inr ne ↦ rw (read_back-other b rest ne) (elim (cases_Bool (goes_on b)) [
+    | inl on ↦ (let tail = map_none b (protocol_of rest) (rw (protocol_of-goes_on b rest on) at e) in
+        rw (protocol_of-goes_on b (read_back rest) on) (rw (none_stays 0 rest refl tail) refl))
+    | inr off ↦ grind (arith, off, e)
   ])
 ]
 none_stays (suc n) (b ∷ rest) f e =
     let parts = and_parts (goes_on b) (front_goes_on n rest) f in
-    none_stays n rest parts.1
-    (map_none b (protocol_of rest) (sym (protocol_of-goes_on b rest parts.0) ∙ e))
+    none_stays n rest parts.1 (map_none b (protocol_of rest)
+    (rw (protocol_of-goes_on b rest parts.0) at e))
 
 -- a byte that isn't `&`
 abbrev pub no_and : ℕ → Bool
@@ -177,35 +147,26 @@ listed-no_and : (texts : List (List ℕ)) (name : List ℕ) → list_all (list_a
     is_one_of texts name ≡ true → list_all no_and name ≡ true
 listed-no_and [] name g e = cc
 listed-no_and (t ∷ ts) name g e =
-    let parts = and_parts (list_all no_and t) (list_all (list_all no_and) ts) g in
-    elim (or_cases (bytes_eq name t) (is_one_of ts name) e) [
-      | inl same ↦
-          subst (λ x. list_all no_and x ≡ true) (sym ((bytes_decides name t).0 same)) parts.0
-      | inr later ↦ listed-no_and ts name parts.1 later
-    ]
+    let same = (bytes_decides name t).0 in
+    let later = listed-no_and ts name in
+    grind (arith, same, later, g, e)
 
 lower-no_and : (b : ℕ) → no_and (lower b) ≡ true → no_and b ≡ true
-lower-no_and b e = elim (cases_eq b 38) [
-  | inl is ↦ absurd (no_and-ne (lower b) e (ap lower is))
-  | inr ne ↦ ap not (ne_eqb b 38 ne)
-]
+lower-no_and b e = grind arith
 
 lowered-no_and : (q : List ℕ) → list_all no_and (lowered q) ≡ true → list_all no_and q ≡ true
 lowered-no_and [] e = refl
 lowered-no_and (b ∷ q) e =
-    let parts = and_parts (no_and (lower b)) (list_all no_and (lowered q)) e in
-    and_from (no_and b) (list_all no_and q) (lower-no_and b parts.0) (lowered-no_and q parts.1)
+    let later = lowered-no_and q in grind (arith, lower-no_and, later, e)
 
 -- a permitted protocol, also once references are read back
 permitted_by : (protocols : List (List ℕ)) (v : List ℕ) (o : Option (List ℕ)) →
     list_all (list_all no_and) protocols ≡ true → protocol_of v ≡ o →
     option_map_or (λ q. is_one_of protocols (lowered q)) o true ≡ true →
     has_permitted_protocol protocols (read_back v) ≡ true
-permitted_by protocols v None g e h =
-    ap (λ o. option_map_or (λ q. is_one_of protocols (lowered q)) o true) (none_stays 0 v refl e)
+permitted_by protocols v None g e h = rw (none_stays 0 v refl e) refl
 permitted_by protocols v (Some q) g e h =
-    ap (λ o. option_map_or (λ q. is_one_of protocols (lowered q)) o true)
-    (some_stays v q (lowered-no_and q (listed-no_and protocols (lowered q) g h)) e) ∙ h
+    rw (some_stays v q (lowered-no_and q (listed-no_and protocols (lowered q) g h)) e) h
 
 pub permitted-read_back : (protocols : List (List ℕ)) (v : List ℕ) →
     list_all (list_all no_and) protocols ≡ true →
@@ -215,10 +176,7 @@ permitted-read_back protocols v g h = permitted_by protocols v (protocol_of v) g
 
 kept : (protocols : List (List ℕ)) → list_all (list_all no_and) protocols ≡ true → (x : List ℕ) →
     is_safe_value protocols (sanitized_with protocols x) ≡ true
-kept protocols g x =
-    cond_both (has_permitted_protocol protocols (sanitized x)) (sanitized x) []
-    (λ v. is_safe_value protocols v
-    ≡ true) (permitted-read_back protocols (sanitized x) g) (λ _. refl)
+kept protocols g x = grind (arith, cond_both, permitted-read_back)
 
 pub kept-link : (x : List ℕ) → is_safe_value link_protocols (sanitized_with link_protocols x) ≡ true
 kept-link = kept link_protocols refl

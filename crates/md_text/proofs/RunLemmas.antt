@@ -2,7 +2,7 @@
 -- that fails.
 use Rattle.std.proofs.Common.{◌≡◌, ℕ, ◌+◌, ◌%◌, ◌^◌, ◌<◌, ◌≤◌, eqb, Bool, true, not, cond}
 use Rattle.std.proofs.Common.{List, [], ◌∷◌, map, length, get_or, take, drop, min, Fits, w8, refl}
-use Rattle.std.proofs.Common.{ap, ap₂, ◌∙◌, arith, zero, suc}
+use Rattle.std.proofs.Common.{arith, zero, suc}
 use Rattle.std.proofs.lemmas.Bool.{agree_below, agree_below_at}
 use Rattle.std.proofs.lemmas.Simd.{map-map, mask_l-mod, length-chunk, chunk-fits, first_set_mask_l}
 use Rattle.std.proofs.lemmas.List.{length-map}
@@ -14,11 +14,9 @@ use lib.Lanes.{Each1, chunk, mask_l, top}
 -- if some pass, the others are in the rest
 pub prefix_len-drop : (q : ℕ → Bool) (i : ℕ) (xs : List ℕ) → i ≤ prefix_len q xs →
     prefix_len q xs ≡ i + prefix_len q (drop i xs)
-prefix_len-drop q zero xs le = omega arith
-prefix_len-drop q (suc i) [] le = omega arith
-prefix_len-drop q (suc i) (x ∷ xs) le =
-    let rest = prefix_len-drop q i xs in
-    grind (arith, le, rest)
+prefix_len-drop q zero xs le = grind arith
+prefix_len-drop q (suc i) [] le = grind arith
+prefix_len-drop q (suc i) (x ∷ xs) le = grind (arith, prefix_len-drop q i xs)
 
 -- of the first n
 prefix_len-take : (q : ℕ → Bool) (n : ℕ) (xs : List ℕ) →
@@ -33,8 +31,7 @@ prefix_len-agree : (p q : ℕ → Bool) → agree_below p q 256 ≡ true → (xs
     prefix_len p xs ≡ prefix_len q xs
 prefix_len-agree p q all [] fits = refl
 prefix_len-agree p q all (x ∷ xs) fits =
-    ap₂ (λ b n. cond b (1 + n) 0) (agree_below_at p q 256 x all fits.0.fits)
-    (prefix_len-agree p q all xs fits.1)
+    rw (agree_below_at p q 256 x all fits.0.fits, prefix_len-agree p q all xs fits.1) refl
 
 -- a load of n bytes and a lane-wise function f of it, whose top bit is set exactly where q fails
 pub run_is : (q : ℕ → Bool) (d : List ℕ) (i n r : ℕ) (z : List ℕ) → i + n ≤ length d → n ≤ 64 →
@@ -47,13 +44,15 @@ run_is q d i n r z room few fits found f lanes all =
     let v = chunk i n d in
     let p = λ (x : ℕ). top 7 (f x) in
     let long = length-chunk i n d room in
-    let mask = ap (λ l. mask_l l % 2 ^ 64) (ap (map (top 7)) lanes ∙ map-map (top 7) f v)
-    ∙ mask_l-mod (map p v) 64 (omega (arith, length-map v p, long)) in
-    found
-    ∙ ap (λ m. cond (eqb m 0) n (count_trailing_zeros 64 m)) mask
-    ∙ first_set_mask_l p v n long few
-    ∙ prefix_len-agree (λ x. not (p x)) q all v (chunk-fits w8 i n d fits)
-    ∙ prefix_len-take q n (drop i d)
+    let mask = mask_l-mod (map p v) 64 (omega (arith, length-map v p, long)) in
+    rw (
+      found,
+      lanes,
+      map-map,
+      mask,
+      first_set_mask_l p v n long few,
+      prefix_len-agree (λ x. not (p x)) q all v (chunk-fits w8 i n d fits),
+    ) (prefix_len-take q n (drop i d))
 
 -- a load from a place up to which all pass: it finds where the run ends, or all of it pass
 pub run_ends : (q : ℕ → Bool) (d : List ℕ) (i n r : ℕ) → i ≤ prefix_len q d →
@@ -68,5 +67,4 @@ run_goes_on q d i n r seen is whole = omega (arith, prefix_len-drop q i d seen)
 -- one that reaches to the end
 pub run_at_end : (q : ℕ → Bool) (d : List ℕ) (i n r : ℕ) → i ≤ prefix_len q d → length d ≤ i + n →
     r ≡ min n (prefix_len q (drop i d)) → i + r ≡ prefix_len q d
-run_at_end q d i n r seen reaches is =
-    omega (arith, prefix_len-drop q i d seen, prefix_len-le-length q d)
+run_at_end q d i n r seen reaches is = grind (arith, prefix_len-drop, prefix_len-le-length)

@@ -1,13 +1,13 @@
 -- A sanitized URL is ASCII, and a second time nothing changes where no `&` stands in it: the law
 -- `sanitize_is_ascii`.
-use Rattle.std.proofs.Common.{◌≡◌, ℕ, ◌==◌, ◌<◌, ◌/◌, ◌%◌, Bool, true, false, ◌&&◌, ◌||◌, cond, eqb}
-use Rattle.std.proofs.Common.{List, [], ◌∷◌, All, refl, sym, subst, arith, inl, inr, codes, lit<}
+use Rattle.std.proofs.Common.{◌≡◌, ℕ, ◌==◌, ◌<◌, ◌/◌, ◌%◌, Bool, true, false, ◌||◌, eqb}
+use Rattle.std.proofs.Common.{List, [], ◌∷◌, All, refl, arith, inl, inr, codes}
 use Rattle.std.proofs.lemmas.Bool.{cases_eq, cases_Bool, agree_below_at, or_cases, and_parts}
-use Rattle.std.proofs.lemmas.Bool.{or_left, or_right, and_from}
+use Rattle.std.proofs.lemmas.Bool.{or_left, or_right}
 use Rattle.std.proofs.lemmas.List.Elements.{All-nil, All-cons, All-head, All-tail, All-append}
 use Rattle.std.proofs.lemmas.List.Elements.{All-from_recursion}
 use Rattle.md_text.specs.Encode.{encoded, encoded_byte}
-use Rattle.md_text.specs.Url.{is_triple_byte, stays, stays_anywhere, completes_triple}
+use Rattle.md_text.specs.Url.{is_triple_byte, stays, stays_anywhere}
 use Rattle.md_text.specs.Url.{normalized_byte, normalized_url, percent, hex_digit, sanitized}
 use Rattle.md_text.specs.Laws.{AreBytes, AreAscii}
 use Rattle.md_text.proofs.UrlLemmas.{stays-ascii, encoded_byte-stays}
@@ -36,11 +36,7 @@ pub low_digit : (b : ℕ) → b % 16 < 16
 low_digit b = omega arith
 
 stays-url : (b : ℕ) (rest : List ℕ) → stays b rest ≡ true → is_url_byte b ≡ true
-stays-url b rest s = elim (or_cases (stays_anywhere b) ((b == 37) && completes_triple rest) s) [
-  | inl anywhere ↦ or_left (stays_anywhere b) (b == 37) anywhere
-  | inr triple ↦
-      or_right (stays_anywhere b) (b == 37) (and_parts (b == 37) (completes_triple rest) triple).0
-]
+stays-url b rest s = grind (arith, or_cases, or_left, or_right, and_parts)
 
 abbrev pub IsUrl : ℕ → Type 0
 IsUrl b = is_url_byte b ≡ true
@@ -50,16 +46,9 @@ IsByte b = b < 256
 
 normalized_byte-url : (b : ℕ) (rest : List ℕ) → b < 256 → AreUrlBytes (normalized_byte b rest)
 normalized_byte-url b rest l = elim (cases_Bool (stays b rest)) [
-  | inl s ↦ subst (λ t. AreUrlBytes (cond t (b ∷ []) (percent b))) (sym s)
-      (All-cons IsUrl b [] (stays-url b rest s) (All-nil IsUrl))
-  | inr gone ↦ subst (λ t. AreUrlBytes (cond t (b ∷ []) (percent b))) (sym gone)
-      (All-from_recursion IsUrl (percent b) (
-        refl,
-        (
-          or_left _ (hex_digit (b / 16) == 37) (hex_digit-stays (b / 16) (high_digit b l)),
-          (or_left _ (hex_digit (b % 16) == 37) (hex_digit-stays (b % 16) (low_digit b)), tt),
-        ),
-      ))
+  | inl s ↦ rw s (All-cons IsUrl b [] (stays-url b rest s) (All-nil IsUrl))
+  | inr gone ↦ rw gone (All-from_recursion IsUrl (percent b)
+      (search (or_left, hex_digit-stays, high_digit b l, low_digit b)))
 ]
 
 pub normalized-url : (x : List ℕ) → AreBytes x → AreUrlBytes (normalized_url x)
@@ -71,26 +60,18 @@ normalized-url (b ∷ rest) h =
 
 -- such a byte stays before two digits, so it is one that stays
 pub url_stays : (b : ℕ) → is_url_byte b ≡ true → stays b (48 ∷ 48 ∷ []) ≡ true
-url_stays b u = elim (or_cases (stays_anywhere b) (b == 37) u) [
-  | inl anywhere ↦ or_left (stays_anywhere b) ((b == 37) && true) anywhere
-  | inr percent ↦
-      or_right (stays_anywhere b) ((b == 37) && true) (and_from (b == 37) true percent refl)
-]
+url_stays b u = grind arith
 
 abbrev pub IsAsciiByte : ℕ → Type 0
 IsAsciiByte b = b < 128
 
 encoded_byte-ascii : (b : ℕ) → is_url_byte b ≡ true → AreAscii (encoded_byte true b)
 encoded_byte-ascii b u = elim (cases_eq b 38) [
-  | inl e ↦ subst (λ b. AreAscii (encoded_byte true b)) (sym e) amp-ascii
-  | inr ne ↦ subst AreAscii (sym (encoded_byte-stays b (48 ∷ 48 ∷ []) (url_stays b u) ne))
+  | inl e ↦ rw e (All-from_recursion IsAsciiByte (codes "&amp;") (omega arith))
+  | inr ne ↦ rw (encoded_byte-stays b (48 ∷ 48 ∷ []) (url_stays b u) ne)
       (All-cons IsAsciiByte b [] (stays-ascii b (48 ∷ 48 ∷ []) (url_stays b u))
       (All-nil IsAsciiByte))
 ]
-  where
-    amp-ascii : AreAscii (codes "&amp;")
-    amp-ascii = All-from_recursion IsAsciiByte (codes "&amp;")
-        (lit< tt, (lit< tt, (lit< tt, (lit< tt, (lit< tt, tt)))))
 
 encoded-ascii : (y : List ℕ) → AreUrlBytes y → AreAscii (encoded true y)
 encoded-ascii [] h = All-nil IsAsciiByte

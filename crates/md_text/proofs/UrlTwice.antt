@@ -1,15 +1,14 @@
 -- A normalized URL stays as it is, and one with no `&` is its own escaped text: so to sanitize
 -- twice is to do it once.
-use Rattle.std.proofs.Common.{◌≡◌, ◌≢◌, ℕ, ◌==◌, ◌<◌, ◌/◌, ◌%◌, true, false, not, ◌&&◌, ◌||◌, cond}
-use Rattle.std.proofs.Common.{eqb, List, [], ◌∷◌, ◌++◌, All, refl, sym, ap, ap₂, ◌∙◌, subst, inl}
-use Rattle.std.proofs.Common.{inr}
-use Rattle.std.proofs.lemmas.Bool.{cases_Bool, agree_below_at, or_cases, and_parts, or_left}
+use Rattle.std.proofs.Common.{arith, ◌≡◌, ◌≢◌, ℕ, ◌==◌, ◌<◌, true, false, not, ◌&&◌, ◌||◌, cond}
+use Rattle.std.proofs.Common.{eqb, List, [], ◌∷◌, ◌++◌, All, refl, sym, ap, ap₂, ◌∙◌, inl, inr}
+use Rattle.std.proofs.lemmas.Bool.{cases_Bool, or_cases, and_parts, or_left}
 use Rattle.std.proofs.lemmas.Bool.{or_right, and_from, both_ways}
 use Rattle.std.proofs.lemmas.List.Elements.{All-nil, All-cons, All-head, All-tail, All-append}
 use Rattle.std.proofs.lemmas.List.Elements.{All-from_recursion}
 use Rattle.md_text.specs.Encode.{encoded}
 use Rattle.md_text.specs.Url.{is_triple_byte, stays, stays_anywhere, completes_triple}
-use Rattle.md_text.specs.Url.{normalized_byte, normalized_url, percent, hex_digit, sanitized}
+use Rattle.md_text.specs.Url.{normalized_byte, normalized_url, percent, sanitized}
 use Rattle.md_text.specs.Laws.{AreBytes}
 use Rattle.md_text.proofs.UrlLemmas.{encoded_byte-stays}
 use Rattle.md_text.proofs.UrlLaws.{IsUrl, IsByte, AreUrlBytes, normalized-url, url_stays}
@@ -30,8 +29,7 @@ stays-anywhere b rest e = or_left (stays_anywhere b) ((b == 37) && completes_tri
 
 -- such a byte stays anywhere
 plain_or_not : (b : ℕ) → b < 256 → (not (is_triple_byte b) || stays_anywhere b) ≡ true
-plain_or_not b l =
-    agree_below_at (λ b. not (is_triple_byte b) || stays_anywhere b) (λ b. true) 256 b refl l
+plain_or_not b l = grind arith
 
 plain-stays : (b : ℕ) → b < 256 → is_triple_byte b ≡ true → stays_anywhere b ≡ true
 plain-stays b l e = ap (λ t. not t || stays_anywhere b) (sym e) ∙ plain_or_not b l
@@ -42,51 +40,43 @@ pub completes-normalized : (rest : List ℕ) → AreBytes rest → completes_tri
 completes-normalized [] h e = cc
 completes-normalized (a ∷ []) h e = cc
 completes-normalized (a ∷ b ∷ rest) h e =
-    let plain = and_parts (is_triple_byte a) (is_triple_byte b) e in
-    let a_stays =
-    stays-anywhere a (b ∷ rest) (plain-stays a (All-head IsByte a (b ∷ rest) h) plain.0) in
-    let b_stays = stays-anywhere b rest
-    (plain-stays b (All-head IsByte b rest (All-tail IsByte a (b ∷ rest) h)) plain.1) in
-    ap completes_triple
-    (normalized-stays a (b ∷ rest) a_stays ∙ ap (λ x. a ∷ x) (normalized-stays b rest b_stays)) ∙ e
+    let first = plain-stays a (All-head IsByte a (b ∷ rest) h) (grind (arith, e)) in
+    let second = plain-stays b (All-head IsByte b rest (All-tail IsByte a (b ∷ rest) h))
+    (grind (arith, e)) in
+    rw (
+      normalized-stays a (b ∷ rest) (stays-anywhere a (b ∷ rest) first),
+      normalized-stays b rest (stays-anywhere b rest second),
+    ) e
 
 stays-normalized : (b : ℕ) (rest : List ℕ) → AreBytes rest → stays b rest ≡ true →
     stays b (normalized_url rest) ≡ true
 stays-normalized b rest h s =
-    elim (or_cases (stays_anywhere b) ((b == 37) && completes_triple rest) s) [
-      | inl anywhere ↦ stays-anywhere b (normalized_url rest) anywhere
-      | inr triple ↦ (let parts = and_parts (b == 37) (completes_triple rest) triple in
-          or_right (stays_anywhere b) ((b == 37) && completes_triple (normalized_url rest))
-          (and_from (b == 37) (completes_triple (normalized_url rest)) parts.0
-          (completes-normalized rest h parts.1)))
-    ]
+    grind (arith, or_cases, stays-anywhere, and_parts, or_right, and_from, completes-normalized)
 
 normalized-percent : (h1 h2 : ℕ) (rest : List ℕ) → stays_anywhere h1 ≡ true →
     stays_anywhere h2 ≡ true →
     is_triple_byte h1 ≡ true → is_triple_byte h2 ≡ true →
     normalized_url (37 ∷ h1 ∷ h2 ∷ rest) ≡ 37 ∷ h1 ∷ h2 ∷ normalized_url rest
-normalized-percent h1 h2 rest s1 s2 p1 p2 =
-    normalized-stays 37 (h1 ∷ h2 ∷ rest) (and_from (is_triple_byte h1) (is_triple_byte h2) p1 p2)
-    ∙ ap (λ x. 37 ∷ x) (normalized-stays h1 (h2 ∷ rest) (stays-anywhere h1 (h2 ∷ rest) s1)
-    ∙ ap (λ x. h1 ∷ x) (normalized-stays h2 rest (stays-anywhere h2 rest s2)))
+normalized-percent h1 h2 rest s1 s2 p1 p2 = grind arith
 
 pub normalized-twice : (x : List ℕ) → AreBytes x →
     normalized_url (normalized_url x) ≡ normalized_url x
 normalized-twice [] h = refl
-normalized-twice (b ∷ rest) h = elim (cases_Bool (stays b rest)) [
-  | inl s ↦ ap normalized_url (normalized-stays b rest s) ∙ normalized-stays b
-      (normalized_url rest) (stays-normalized b rest (All-tail IsByte b rest h) s)
-      ∙ ap (λ x. b ∷ x) (normalized-twice rest (All-tail IsByte b rest h))
-      ∙ sym (normalized-stays b rest s)
-  | inr gone ↦ (let written = ap (λ t. cond t (b ∷ []) (percent b) ++ normalized_url rest) gone in
-      let high = high_digit b (All-head IsByte b rest h) in
-      ap normalized_url written
-      ∙ normalized-percent (hex_digit (b / 16)) (hex_digit (b % 16)) (normalized_url rest)
-      (hex_digit-stays (b / 16) high) (hex_digit-stays (b % 16) (low_digit b))
-      (hex_digit-plain (b / 16) high) (hex_digit-plain (b % 16) (low_digit b))
-      ∙ ap (λ x. percent b ++ x) (normalized-twice rest (All-tail IsByte b rest h))
-      ∙ sym written)
-]
+normalized-twice (b ∷ rest) h =
+    let later = normalized-twice rest (All-tail IsByte b rest h) in
+    let stay = stays-normalized b rest (All-tail IsByte b rest h) in
+    let high = high_digit b (All-head IsByte b rest h) in
+    elim (cases_Bool (stays b rest)) [
+      | inl s ↦ simp (normalized-stays, s, stay s, later)
+      | inr gone ↦ rw gone (simp (
+        normalized-percent,
+        hex_digit-stays,
+        hex_digit-plain,
+        high,
+        low_digit,
+        later,
+      ))
+    ]
 
 -- no `&` comes from bytes that are none
 abbrev NoAnd : ℕ → Type 0
@@ -98,16 +88,15 @@ no_and b e is = both_ways (eqb b 38) e (ap (λ b. eqb b 38) is)
 normalized_byte-no_and : (b : ℕ) (rest : List ℕ) → b < 256 → b ≢ 38 →
     All NoAnd (normalized_byte b rest)
 normalized_byte-no_and b rest l ne = elim (cases_Bool (stays b rest)) [
-  | inl s ↦ subst (λ t. All NoAnd (cond t (b ∷ []) (percent b))) (sym s)
-      (All-cons NoAnd b [] ne (All-nil NoAnd))
-  | inr gone ↦ subst (λ t. All NoAnd (cond t (b ∷ []) (percent b))) (sym gone)
-      (All-from_recursion NoAnd (percent b) (
-        no_and 37 refl,
-        (
-          no_and (hex_digit (b / 16)) (hex_digit-no_and (b / 16) (high_digit b l)),
-          (no_and (hex_digit (b % 16)) (hex_digit-no_and (b % 16) (low_digit b)), tt),
-        ),
-      ))
+  | inl s ↦ rw s (All-cons NoAnd b [] ne (All-nil NoAnd))
+  | inr gone ↦ rw gone (All-from_recursion NoAnd (percent b) (
+    no_and 37 refl,
+    (
+      no_and _
+          (hex_digit-no_and _ (high_digit b l)),
+      (no_and _ (hex_digit-no_and _ (low_digit b)), tt),
+    ),
+  ))
 ]
 
 normalized-no_and : (x : List ℕ) → AreBytes x → All NoAnd x → All NoAnd (normalized_url x)

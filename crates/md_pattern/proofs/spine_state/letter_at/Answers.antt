@@ -1,15 +1,12 @@
 -- The letter of the table at this row and symbol encodes the next place; past the rows there is
 -- none.
-use Rattle.std.proofs.Common.{rules, [], ◌≡◌, ◌<◌, ◌≤◌, length, get_or, ap, ◌∙◌, subst}
+use Rattle.std.proofs.Common.{arith, rules, [], ◌≡◌, ◌<◌, length, get_or, ap, ◌∙◌}
 use Rattle.md_pattern.proofs.PlaceLemmas.{letter-decoded, letter-led, moved-outside, rows-count}
 use Rattle.md_pattern.specs.Places.{decoded, encodes_row}
 use Rattle.md_pattern.proofs.spine_state.letter_at.Goals as goal
 
 pub returns-in_err-get-clause-lacking : goal.returns-in_err-get-clause-lacking
-returns-in_err-get-clause-lacking c = λ none.
-    let past : length c.rows.result.now ≤ c.args.row = search rules in
-    moved-outside c.args.row c.args.symbol
-    (subst (λ n. n ≤ c.args.row) (rows-count c.rows.result.now c.rows.ensures) past)
+returns-in_err-get-clause-lacking c = grind (arith, moved-outside, rows-count)
 
 pub returns-clause-decoded : goal.returns-clause-decoded
 returns-clause-decoded c =
@@ -29,6 +26,4 @@ returns-clause-encodes_row c =
     ∙ letter-led rows c.args.row c.column.result c.rows.ensures inside c.column.ensures.few
 
 pub returns-clause-within : goal.returns-clause-within
-returns-clause-within c =
-    let inside : c.args.row < length c.rows.result.now = search rules in
-    subst (λ n. c.args.row < n) (rows-count c.rows.result.now c.rows.ensures) inside
+returns-clause-within c = grind (arith, rows-count)

@@ -1,5 +1,5 @@
 -- After an ASCII byte a text may be cut, and a byte that doesn't stay is one.
-use Rattle.std.proofs.Common.{◌≡◌, ◌+◌, ◌-◌, ◌<◌, ℕ, Bool, true, false, List, ◌++◌, OnOk, length}
+use Rattle.std.proofs.Common.{◌≡◌, ◌+◌, ◌-◌, ◌<◌, ℕ, Bool, true, false, List, ◌++◌, length}
 use Rattle.std.proofs.Common.{slice_range, get_or, take, drop, string_bytes, [], ◌∷◌, ap₂, refl}
 use Rattle.std.proofs.Common.{sym, ap, subst, ◌∙◌, append_assoc, arith}
 use Rattle.std.proofs.lemmas.Grind.{common_steps}
@@ -29,9 +29,7 @@ goes_on (b ∷ before) (x ∷ now) more e =
 changes : (html : _) (rest : List ℕ) (index : ℕ) → index ≡ prefix_len (is_kept html) rest →
     index < length rest →
     is_kept html (get_or rest index 0) ≡ false
-changes html rest index place inside =
-    subst (λ n. is_kept html (get_or rest n 0) ≡ false) (sym place)
-    (prefix_len_stops (is_kept html) rest 0 (omega (arith, place)))
+changes html rest index place inside = rw place (prefix_len_stops (is_kept html) rest 0 (omega (arith, place)))
 
 pub range-requires-clause-end_boundary : goal.range-requires-clause-end_boundary
 range-requires-clause-end_boundary c =
@@ -46,11 +44,8 @@ range-requires-clause-end_boundary c =
 
 pub push_replacement-requires : goal.push_replacement-requires
 push_replacement-requires c =
-    let html = c.args.encode_html in
-    ap (λ bytes. is_kept html (get_or bytes c.loop-index.index 0))
-    c.as_bytes-in-loop-index.ensures.value
-    ∙ changes html c.loop-index.rest.now c.loop-index.index c.loop-index.invariant.2
-    c.loop-index-test.true
+    rw c.as_bytes-in-loop-index.ensures.value (changes c.args.encode_html c.loop-index.rest.now
+    c.loop-index.index c.loop-index.invariant.2 c.loop-index-test.true)
 
 pub range_from-rest-requires : goal.range_from-rest-requires
 range_from-rest-requires c =
@@ -103,10 +98,6 @@ loop-index-preserved c =
 
 pub returns-clause-added : goal.returns-clause-added
 returns-clause-added c =
-    let html = c.args.encode_html in
-    let rest : List ℕ = c.loop-index.rest.now in
-    let all =
-    encoded-all_kept html rest (omega (arith, c.loop-index.invariant.2, c.loop-index-test.false)) in
-    subst (λ text. OnOk c.push_str-2.result (string_bytes c.push_str-2.new.self ≡ text))
-    (ap (λ text. string_bytes c.loop-index.out ++ text) (sym all) ∙ c.loop-index.invariant.0)
-    (grind (arith, common_steps))
+    let all = encoded-all_kept c.args.encode_html c.loop-index.rest.now
+    (omega (arith, c.loop-index.invariant.2, c.loop-index-test.false)) in
+    grind (arith, common_steps, all)

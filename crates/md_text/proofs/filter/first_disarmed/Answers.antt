@@ -1,5 +1,6 @@
 -- A `<` that opens no tag to disarm stays, and what comes before the next one.
-use Rattle.std.proofs.Common.{◌≡◌, ◌+◌, ◌-◌, ◌<◌, ◌≤◌, ℕ, List, length, take, drop, sym, ap, ◌∙◌}
+use Rattle.std.proofs.lemmas.Grind.{common_steps}
+use Rattle.std.proofs.Common.{false, ◌≡◌, ◌+◌, ◌-◌, ◌<◌, ◌≤◌, ℕ, List, length, take, drop, ◌∙◌}
 use Rattle.std.proofs.Common.{arith, refl}
 use Rattle.std.proofs.lemmas.List.{length-drop, take_rest}
 use Rattle.std.proofs.lemmas.List.Sums.{prefix_len-le-length}
@@ -24,15 +25,7 @@ reaches : (bytes : List ℕ) (at run : ℕ) → at < length bytes →
     run ≡ prefix_len opens_no_tag (take (length bytes - (at + 1)) (drop (at + 1) bytes)) →
     (at + 1 + run ≤ length bytes) × (run ≡ prefix_len opens_no_tag (drop (at + 1) bytes))
 reaches bytes at run inside is =
-    let same = is ∙ ap (prefix_len opens_no_tag) (take_rest bytes (at + 1)) in (
-      omega (
-        arith,
-        same,
-        prefix_len-le-length opens_no_tag (drop (at + 1) bytes),
-        length-drop (at + 1) bytes,
-      ),
-      same,
-    )
+    grind (arith, is, take_rest, prefix_len-le-length, length-drop)
 
 pub overflow_add-at-in-loop-at : goal.overflow_add-at-in-loop-at
 overflow_add-at-in-loop-at c =
@@ -44,16 +37,13 @@ pub loop-at-preserved : goal.loop-at-preserved
 loop-at-preserved c =
     let bytes = c.args.bytes.now in
     let at = c.loop-at.at in
-    let run = c.run_length.result in
     let inside = c.loop-at-test.true in
-    let next = reaches bytes at run inside c.run_length.ensures in
-    let other =
-    ap (λ after. begins_disarmed_name (past_slash after)) (sym (take_rest bytes (at + 1)))
-    ∙ ap begins_disarmed_name (sym c.past_slash.ensures) ∙ sym c.begins_disarmed_name.ensures
-    ∙ c.if-begins_disarmed_name.false in (
+    let next = reaches bytes at c.run_length.result inside c.run_length.ensures in
+    let other : begins_disarmed_name (past_slash (drop (at + 1) bytes)) ≡ false =
+    rw (← take_rest bytes (at + 1)) (grind (arith, common_steps)) in (
       next.0,
-      filtered-run bytes (at + 1) run (at + 1 + run) refl (omega (arith, next.1))
+      filtered-run bytes (at + 1) _ _ refl (omega (arith, next.1))
           ∙ filtered-angle bytes at inside (c.loop-at.invariant.2 inside) other
           ∙ c.loop-at.invariant.1,
-      λ within. angle-at bytes (at + 1) run (at + 1 + run) refl next.1 within,
+      λ within. angle-at bytes (at + 1) _ _ refl next.1 within,
     )

@@ -1,6 +1,5 @@
 -- What was added begins where the text ended, and is ASCII.
-use Rattle.std.proofs.Common.{rules, ◌≡◌, ◌<◌, ◌++◌, List, ℕ, length, get_or, sym, ap, subst, arith}
-use Rattle.std.proofs.Common.{string_bytes}
+use Rattle.std.proofs.Common.{rules, ◌≡◌, ◌<◌, ◌++◌, List, ℕ, length, ap, arith, string_bytes}
 use Rattle.std.proofs.lemmas.Grind.{common_steps}
 use Rattle.std.proofs.lemmas.List.{length-append}
 use Rattle.std.proofs.lemmas.List.Elements.{All-from_get_or}
@@ -17,15 +16,10 @@ truncate-requires c =
     let start : c.len-start.result ≡ length before = search rules in
     let added : after ≡ before ++ sanitized value = c.in_ok-push_sanitized.ensures in
     let bytes = All-from_get_or (λ b. b < 256) value 0 (λ k _. (c.type_inv.value k).fits) in
-    let ascii = sanitized-ascii value bytes in
+    let first = first-added before (sanitized value) (sanitized-ascii value bytes) in
     λ _. (
       omega (arith, start, ap (λ t. length t) added, length-append before (sanitized value)),
-      λ _ inside high.
-          let low : get_or after c.len-start.result 0 < 128 =
-          subst (λ n. get_or after n 0 < 128) (sym start)
-          (subst (λ t. length before < length t → get_or t (length before) 0 < 128) (sym added)
-          (first-added before (sanitized value) ascii) (omega (arith, start, inside))) in
-          absurd (omega (arith, low, high)),
+      λ _ inside high. absurd (grind (arith, start, added, first, inside, high)),
     )
 
 pub returns-then-not-has_permitted_protocol : goal.returns-then-not-has_permitted_protocol

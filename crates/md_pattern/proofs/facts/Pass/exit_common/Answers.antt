@@ -8,8 +8,7 @@ use Rattle.md_pattern.specs.contracts.facts.Pass.{the_view}
 use Rattle.md_pattern.specs.Facts.{opens, fact_of, partner_alone}
 use Rattle.md_pattern.specs.Columns.{Collected}
 use Rattle.md_pattern.proofs.CommonNames.{common-columns, common-definitions}
-use Rattle.md_pattern.proofs.Opens.{opens-set, opens-last, opens-alone}
-use Rattle.md_pattern.proofs.Opens.{passed_exit-by}
+use Rattle.md_pattern.proofs.Opens.{opens-set, opens-last, opens-alone, passed_exit-by}
 use Rattle.md_pattern.proofs.facts.Pass.exit_common.Goals as goal
 
 pub returns-in-Some : goal.returns-in-Some

@@ -7,8 +7,7 @@ use Rattle.std.specs.Prelude.{set}
 use Rattle.md_pattern.specs.contracts.facts.Pass.{the_view}
 use Rattle.md_pattern.specs.Facts.{opens, fact_of, partner_alone}
 use Rattle.md_pattern.specs.Columns.{Collected}
-use Rattle.md_pattern.proofs.Opens.{on_answer, opens-set, opens-last, opens-alone}
-use Rattle.md_pattern.proofs.Opens.{passed_exit-by}
+use Rattle.md_pattern.proofs.Opens.{on_answer, opens-set, opens-last, opens-alone, passed_exit-by}
 use Rattle.md_pattern.proofs.facts.Pass.exit_rare.Goals as goal
 
 pub returns-in-Some : goal.returns-in-Some

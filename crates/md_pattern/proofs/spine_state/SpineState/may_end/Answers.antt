@@ -1,5 +1,6 @@
 -- The letter at a row decides it; past the rows a spine has no symbols.
-use Rattle.std.proofs.Common.{rules, None, ◌≡◌, ◌<◌, ◌≤◌, length, get_or, subst}
+use Rattle.std.proofs.lemmas.Grind.{common_steps}
+use Rattle.std.proofs.Common.{arith, rules, None, ◌≡◌, ◌<◌, length, get_or}
 use Rattle.md_pattern.proofs.PlaceLemmas.{ends-at, ends-outside, ends-count}
 use Rattle.md_pattern.proofs.spine_state.SpineState.may_end.Goals as goal
 
@@ -10,7 +11,4 @@ returns-in-Some c =
     ends-at c.ends.result.now c.args.self.number c.in-Some.letter.now None c.ends.ensures inside is
 
 pub returns-in-None : goal.returns-in-None
-returns-in-None c =
-    let past : length c.ends.result.now ≤ c.args.self.number = search rules in
-    ends-outside c.args.self.number None
-    (subst (λ n. n ≤ c.args.self.number) (ends-count c.ends.result.now c.ends.ensures) past)
+returns-in-None c = grind (arith, common_steps, ends-outside, ends-count)

@@ -11,8 +11,7 @@ use Rattle.md_text.proofs.url.kept.kept_length.Goals as goal
 few-is : (bytes after : List ℕ) (n : ℕ) → 1 ≤ length bytes → is_plain (get_or bytes 0 0) ≡ true →
     n ≡ min 3 (prefix_len is_plain after) → after ≡ drop 1 bytes →
     1 + n ≡ min 4 (prefix_len is_plain bytes)
-few-is bytes after n long plain is rest =
-    first-plain bytes n long plain (is ∙ ap (λ after. min 3 (prefix_len is_plain after)) rest)
+few-is bytes after n long plain is rest = first-plain bytes n long plain (rw rest at is)
 
 pub kept_from-requires : goal.kept_from-requires
 kept_from-requires c =
