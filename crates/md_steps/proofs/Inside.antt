@@ -44,4 +44,15 @@ pub children_know : (context : Context) (c : Content) (waits : Bool) (around : S
     (inside context.options (is_loose children) name around) (before_children name children before)
     (entered context (facts_of context.bytes last children start end) name state)
 children_know context c waits around before last name start end children state knows =
-    grind (arith, scope_inside-seen, any_ended, told, begin-lines)
+    let t = told name in
+    record {
+      sees = grind (arith, scope_inside-seen);
+      slurps = knows.slurps;
+      ended = grind (arith, any_ended);
+      marker = grind arith;
+      lines = grind (arith, begin-lines);
+      heading = grind arith;
+      cells = grind arith;
+      resource = grind arith;
+      calls = knows.calls;
+    }

@@ -1,5 +1,5 @@
 -- A content that nothing changes, and tests that it passes.
-use Rattle.std.proofs.Common.{arith, ◌≡◌, Bool, refl, ◌∙◌}
+use Rattle.std.proofs.Common.{arith, ◌≡◌, Bool, refl, ap, ◌∙◌}
 use Rattle.std.specs.Prelude.{if◌then◌else◌}
 use Rattle.md_base.specs.declared.event.Name.{Name}
 use Rattle.md_base.proofs.Lies.{lie}
@@ -15,7 +15,8 @@ pub stays : (content : Content) (forest : Forest) → content_past content ≡ c
     content_after content forest ≡ content
 stays content Empty h = refl
 stays content (Node name start end children rest) h =
-    grind (arith, stays content children, stays content rest)
+    ap (λ c. content_after c rest) (one_or_other (is_transparent name) (stays content children h) h)
+    ∙ stays content rest h
 
 pub node-stays : (content : Content) (name : Name) (children : Forest) →
     content_past content ≡ content →
