@@ -1,13 +1,11 @@
 -- Which definition the check says, and which the meaning looks up.
-use Rattle.std.proofs.Common.{arith, ◌≡◌, ℕ, suc, Option, Some, None, List, [], ◌∷◌}
-use Rattle.std.proofs.Common.{refl, sym, ap, ◌∙◌, subst}
-use Rattle.std.specs.Prelude.{map, unwrap_or, option_map, find, bytes_eq, if◌then◌else◌}
+use Rattle.std.proofs.Common.{arith, ◌≡◌, ℕ, Option, Some, List, [], ◌∷◌, refl, sym, ap, ◌∙◌, subst}
+use Rattle.std.specs.Prelude.{map, unwrap_or, find, bytes_eq}
 use Rattle.md_base.specs.declared.event.Name.{Name}
 use Rattle.md_base.specs.declared.event.Point.{Point}
 use Rattle.md_base.specs.declared.event.Position.{Position}
 use Rattle.md_pattern.specs.declared.kinds.Symbol.{Symbol}
 use Rattle.md_pattern.specs.declared.kinds.Role.{Role}
-use Rattle.md_pattern.specs.declared.kinds.Role.TheVariants as role
 use Rattle.md_base.specs.Tree.{Forest, Empty, Node}
 use Rattle.md_tree.specs.declared.mention.Referral.TheVariants.{Missing, Label}
 use Rattle.md_tree.specs.declared.mention.Mention.TheVariants.{Reference}
@@ -20,28 +18,19 @@ use Rattle.md_tree.proofs.Labels.{HasIdentifier, target-there, mentions-there, d
 use Rattle.md_tree.proofs.Labels.{footnoted-texts}
 use Rattle.md_meaning.specs.Meaning.At.{Defined, identifier_of}
 use Rattle.md_content.specs.References.{Everywhere, ResolvesAlike, defined_in, footnotes_defined_in}
-use Rattle.md_content.specs.References.{first_of}
-use Rattle.md_content.specs.References.{found_at}
+use Rattle.md_content.specs.References.{first_of, found_at}
 use Rattle.md_content.proofs.Identifiers.{identifiers-known, known}
 
 which_first : (identifiers : List (List ℕ)) (wanted : List ℕ) →
     which (map Some identifiers) (Some wanted) ≡ first_of identifiers wanted
 which_first [] wanted = refl
-which_first (identifier ∷ identifiers) wanted =
-    ap (λ o. if bytes_eq identifier wanted then Some 0 else option_map (λ place. suc place) o)
-    (which_first identifiers wanted)
+which_first (identifier ∷ identifiers) wanted = grind (arith, which_first identifiers)
 
 -- the first with an identifier is found where its place is
 pub find-first : {A : Type 0} (of : A → List ℕ) (found : List A) (wanted : List ℕ) →
     find (λ one. bytes_eq (of one) wanted) found ≡ found_at found (first_of (map of found) wanted)
 find-first of [] wanted = refl
-find-first of (one ∷ found) wanted =
-    grind (arith, find-first of found wanted, later (first_of (map of found) wanted))
-  where
-    later : (o : Option ℕ) →
-        found_at found o ≡ found_at (one ∷ found) (option_map (λ place. suc place) o)
-    later None = refl
-    later (Some place) = refl
+find-first of (one ∷ found) wanted = grind (arith, find-first of found)
 
 named : (bytes : List ℕ) (children : Forest) (label : Position) (text : List ℕ) →
     target_of children Missing ≡ Label label → label_identifier bytes label ≡ Some text →
@@ -53,8 +42,7 @@ looked_up : (found : List (Option (List ℕ))) (identifiers : List (List ℕ))
     found ≡ map Some (map (λ identifier. unwrap_or identifier []) found) →
     map known found ≡ identifiers → wanted ≡ Some text →
     which found wanted ≡ first_of identifiers text
-looked_up found identifiers wanted text texts known_are is =
-    rw (is, texts, known_are) (which_first identifiers text)
+looked_up found identifiers wanted text texts known_are is = grind (arith, which_first)
 
 each : (bytes : List ℕ) (names : List (List ℕ × List ℕ)) (document : Forest) →
     IsGrammatical bytes names document →
@@ -83,8 +71,7 @@ each bytes names document is (Node name start end children rest) around before m
 
 pub leads-alike : (bytes : List ℕ) (names : List (List ℕ × List ℕ)) (document : Forest) →
     IsGrammatical bytes names document → Everywhere (ResolvesAlike bytes document) document
-leads-alike bytes names document is =
-    each bytes names document is document role.Flow None (IsGrammatical.rules is)
+leads-alike bytes names document is = grind (arith, each)
 
 -- where these definitions have the identifiers of the document's, the first one is found
 -- where the check says
@@ -113,5 +100,4 @@ pub found-by-place : (bytes : List ℕ) (names : List (List ℕ × List ℕ)) (d
     (definitions : List Defined) → IsGrammatical bytes names document →
     map (λ (d : Defined). d.identifier) definitions ≡ defined_in bytes document →
     Everywhere (IsFoundByPlace bytes document definitions) document
-found-by-place bytes names document definitions is are =
-    found_by_place bytes document definitions are document (leads-alike bytes names document is)
+found-by-place bytes names document definitions is are = grind (arith, found_by_place, leads-alike)

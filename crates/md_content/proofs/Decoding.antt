@@ -1,31 +1,24 @@
 -- Each reference of a document of the grammar decodes, by the mark that stands before its value.
-use Rattle.std.proofs.Common.{◌≡◌, ℕ, zero, suc, Bool, true, false, ◌&&◌, Option, Some}
-use Rattle.std.proofs.Common.{None, List, [], ◌∷◌, ◌++◌, refl, sym, ap, ◌∙◌, subst, append_assoc}
+use Rattle.std.proofs.Common.{arith, ◌≡◌, ℕ, zero, suc, Bool, true, false, ◌&&◌, Option, Some, None}
+use Rattle.std.proofs.Common.{List, [], ◌∷◌, ◌++◌, refl, sym, ap, ◌∙◌, subst, append_assoc}
 use Rattle.std.proofs.Common.{append-nil}
-use Rattle.std.specs.Prelude.{if◌then◌else◌, is_some, replicate, unwrap_or}
-use Rattle.std.specs.Option.{option_map_or}
+use Rattle.std.specs.Prelude.{if◌then◌else◌, replicate}
 use Rattle.std.specs.List.{list_all}
 use Rattle.std.proofs.lemmas.Bool.{and_parts, and_from}
-use Rattle.md_base.proofs.Lies.{lie}
 use Rattle.md_base.specs.declared.event.Name.{Name}
-use Rattle.md_base.specs.declared.event.Name.TheVariants as name
 use Rattle.md_base.specs.declared.event.Point.{Point}
-use Rattle.md_base.specs.Place.{text_between}
-use Rattle.md_base.specs.Reference.{decoded}
 use Rattle.md_pattern.specs.declared.kinds.Symbol.{Symbol}
 use Rattle.md_pattern.specs.declared.kinds.Symbol.TheVariants as symbol
 use Rattle.md_pattern.specs.declared.kinds.Role.{Role}
 use Rattle.md_pattern.specs.declared.kinds.Role.TheVariants as role
 use Rattle.md_pattern.specs.declared.kinds.Standing.{Standing}
 use Rattle.md_pattern.specs.declared.kinds.Standing.TheVariants.{Through, Space, Solid, Mdx}
-use Rattle.md_tree.specs.declared.rule.Rule.TheVariants as rule
 use Rattle.md_base.specs.Tree.{Forest, Empty, Node}
 use Rattle.md_pattern.specs.Standing.{standing_of}
-use Rattle.md_pattern.specs.Pattern.{pattern_of}
 use Rattle.md_pattern.specs.Spine.{spine, shown, IsTail, IsGrouped, Matches}
 use Rattle.md_pattern.specs.Shape.{IsStanding, AreShaped, role_for, last_symbol, inner_role}
 use Rattle.md_pattern.specs.Shape.{inner_before}
-use Rattle.md_tree.specs.Rules.{broken_by, unless, is_decodable, marker_after}
+use Rattle.md_tree.specs.Rules.{marker_after}
 use Rattle.md_tree.specs.Laws.{symbols_of}
 use Rattle.md_tree.specs.Grammar.{IsGrammatical}
 use Rattle.md_base.specs.NameTests.{is_transparent}
@@ -38,9 +31,8 @@ use Rattle.md_content.proofs.SymbolNames.{symbol_in, is_through, transparent}
 use Rattle.md_content.proofs.Tails.{each-tail}
 use Rattle.md_content.proofs.FineNodes.{IsFine, AreFine, fine, shaped}
 use Rattle.md_content.proofs.RanksAndNumbers.{unless-holds}
-use Rattle.md_content.proofs.Letters.{letters, fits-all}
-use Rattle.md_content.proofs.LastNames.{symbol_of, is_solid, last-got, last-symbols}
-use Rattle.md_content.proofs.LastNames.{solid-names}
+use Rattle.md_content.proofs.Letters.{fits-all}
+use Rattle.md_content.proofs.LastNames.{symbol_of, is_solid, last-got, last-symbols, solid-names}
 
 -- ---- values stand after marks
 abbrev is_mark : Option Symbol → Bool
@@ -62,11 +54,6 @@ abbrev is_no_value : Symbol → Bool
 is_no_value symbol.ReferenceValue = false
 is_no_value _ = true
 
-well-first : (before : Option Symbol) (seen : Symbol) → is_no_value seen ≡ true →
-    stands_well before seen ≡ true
-well-first before symbol.ReferenceValue h = lie h
-well-first before _ h = refl
-
 well-endings : (n : ℕ) (before : Option Symbol) (rest : List Symbol) →
     ((b : Option Symbol) → are_well b rest ≡ true) →
     are_well before (replicate n symbol.LineEnding ++ rest) ≡ true
@@ -76,63 +63,29 @@ well-endings (suc n) before rest later = well-endings n (Some symbol.LineEnding)
 well-tail : (rest : List Symbol) → ((b : Option Symbol) → are_well b rest ≡ true) →
     (first : Symbol) (tail : List Symbol) → IsTail first tail →
     are_well (Some first) (tail ++ rest) ≡ true
-well-tail rest later =
-    each-tail (λ first tail. are_well (Some first) (tail ++ rest) ≡ true)
-    (later (Some symbol.ReferenceValue)) (later (Some symbol.ReferenceValue))
-    (later (Some symbol.ReferenceValue))
-    (λ endings. ap (are_well (Some symbol.SetextText))
-    (append_assoc (replicate endings symbol.LineEnding) (symbol.SetextUnderline ∷ []) rest)
-    ∙ well-endings endings (Some symbol.SetextText) (symbol.SetextUnderline ∷ rest)
-    (λ b. later (Some symbol.SetextUnderline)))
-    (λ first lone. later (Some first))
+well-tail rest later = grind (arith, each-tail, append_assoc, well-endings)
 
 well-grouped : (firsts spine : List Symbol) → list_all is_no_value firsts ≡ true →
     IsGrouped firsts spine →
     (before : Option Symbol) → are_well before spine ≡ true
 well-grouped [] spine h is before = ap (are_well before) is
 well-grouped (first ∷ firsts) spine h is before =
-    let parts = and_parts _ _ h in
-    ap (are_well before) is.2
-    ∙ and_from _ _ (well-first before first parts.0)
-    (well-tail is.1 (well-grouped firsts is.1 parts.1 is.4) first is.0 is.3)
-
-pattern-no_value : (around : Role) → letters is_no_value (pattern_of around) ≡ true
-pattern-no_value role.Flow = refl
-pattern-no_value _ = refl
+    grind (arith, and_parts, and_from, well-tail, well-grouped firsts)
 
 well-spine : (around : Role) (spine : List Symbol) → Matches around spine →
     are_well None spine ≡ true
-well-spine around spine match = well-grouped match.0 spine (fits-all is_no_value (pattern_of around)
-    match.0 match.2 (pattern-no_value around)) match.1 None
+well-spine around spine match = grind (arith, well-grouped, fits-all)
 
 well-split : (before : Option Symbol) (symbols others : List Symbol) →
     are_well before (symbols ++ others) ≡ true →
     (are_well before symbols ≡ true) × (are_well (last_symbol before symbols) others ≡ true)
 well-split before [] others h = (refl, h)
-well-split before (seen ∷ symbols) others h =
-    let parts = and_parts _ _ h in
-    let rest = well-split (Some seen) symbols others parts.1 in
-    (and_from _ _ parts.0 rest.0, rest.1)
+well-split before (seen ∷ symbols) others h = grind (arith, well-split (Some seen) symbols)
 
 -- ---- references
 mark-name : (n : Name) → (if is_mark (symbol_in (standing_of n))
     then marker_after (symbol_in (standing_of n)) else Some (marker n)) ≡ Some (marker n)
-mark-name name.Data = refl
-mark-name _ = refl
-
-value-decodes : (names : List (List ℕ × List ℕ)) (before : Option Symbol) (text : Option (List ℕ))
-    (last : Option Name) → is_mark before ≡ true → before ≡ symbol_of last →
-    broken_by text (λ t. unless (is_decodable names before t) rule.CharacterReference) ≡ None →
-    is_some (decoded names (option_map_or marker last 38) (unwrap_or text [])) ≡ true
-value-decodes names before text None h e rules = lie (ap is_mark (sym e) ∙ h)
-value-decodes names before None (Some n) h e rules = cc
-value-decodes names before (Some text) (Some n) h e rules =
-    let symbol = symbol_in (standing_of n) in
-    let after : marker_after before ≡ Some (marker n) =
-    ap marker_after e ∙ sym (ap (λ b. if b then marker_after symbol else Some (marker n))
-    (ap is_mark (sym e) ∙ h)) ∙ mark-name n in
-    ap (λ o. option_map_or (λ k. is_some (decoded names k text)) o true) (sym after)
-    ∙ unless-holds (is_decodable names before text) rule.CharacterReference rules
+mark-name n = grind arith
 
 node-decodes : (bytes : List ℕ) (names : List (List ℕ × List ℕ)) (earlier : List Name) (n : Name)
     (start end : Point) (children : Forest) (around : Role) (before : Option Symbol) →
@@ -140,13 +93,8 @@ node-decodes : (bytes : List ℕ) (names : List (List ℕ × List ℕ)) (earlier
     are_well before (shown (standing_of n) (spine children)) ≡ true →
     before ≡ symbol_of (last_of earlier) →
     Decodes bytes names earlier n start end children
-node-decodes bytes names earlier name.CharacterReferenceValue start end children around
-    before here well e =
-    subst (λ last. is_some (decoded names (option_map_or marker last 38)
-    (unwrap_or (text_between bytes start end) [])) ≡ true) (last-got earlier)
-    (value-decodes names before (text_between bytes start end) (last_of earlier)
-    (and_parts _ _ well).0 e here.1)
-node-decodes bytes names earlier _ start end children around before here well e = tt
+node-decodes bytes names earlier n start end children around before here well e =
+    grind (arith, last-got, mark-name, unless-holds)
 
 -- what holds of children by themselves holds of them where they stand
 inner-decodes :
@@ -163,8 +111,7 @@ inner-decodes :
     EverywhereAfter (Decodes bytes names) (if is_through standing then earlier else []) children
 inner-decodes bytes names earlier Through children around before is all well e again =
     again around before earlier all well e
-inner-decodes bytes names earlier Space children around before is all well e again =
-    subst (EverywhereAfter (Decodes bytes names) earlier) (sym is) tt
+inner-decodes bytes names earlier Space children around before is all well e again = grind arith
 inner-decodes bytes names earlier (Solid seen usual reading) children around before is all well e
     again =
     again (role_for around before usual) None [] all

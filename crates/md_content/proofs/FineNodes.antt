@@ -1,5 +1,5 @@
 -- A node that has its shape and meets the rules.
-use Rattle.std.proofs.Common.{ℕ, Option, List}
+use Rattle.std.proofs.Common.{arith, ℕ, Option, List}
 use Rattle.md_pattern.specs.declared.kinds.Symbol.{Symbol}
 use Rattle.md_pattern.specs.declared.kinds.Role.{Role}
 use Rattle.md_base.specs.Tree.{Forest, Empty, Node}
@@ -20,11 +20,8 @@ pub fine : (bytes : List ℕ) (names : List (List ℕ × List ℕ)) (forest : Fo
     MeetRules bytes names forest around before →
     AreFine bytes names forest around before
 fine bytes names Empty around before shaped rules = tt
-fine bytes names (Node name start end children rest) around before shaped rules = (
-  (shaped.0, rules.0),
-  fine bytes names children _ _ shaped.1 rules.1,
-  fine bytes names rest _ _ shaped.2 rules.2,
-)
+fine bytes names (Node name start end children rest) around before shaped rules =
+    grind (arith, fine bytes names children, fine bytes names rest)
 
 pub shaped : (bytes : List ℕ) (names : List (List ℕ × List ℕ)) (forest : Forest) (around : Role)
     (before : Option Symbol) → AreFine bytes names forest around before →

@@ -1,9 +1,8 @@
 -- The other conditions on a node, such as a heading's rank or a list's number, hold for each node
 -- that has its shape and fulfils the rules.
 use Rattle.std.specs.Str.{bytes_eq}
-use Rattle.std.proofs.Common.{◌≡◌, ℕ, Bool, true, false, cond}
-use Rattle.std.proofs.Common.{Option, Some, None, is_some, List, [], ◌∷◌, refl}
-use Rattle.std.proofs.Common.{subst}
+use Rattle.std.proofs.Common.{◌≡◌, ℕ, Bool, true, false, cond, Option, Some, None, is_some, List}
+use Rattle.std.proofs.Common.{[], ◌∷◌, refl, subst}
 use Rattle.std.specs.List.{list_any}
 use Rattle.md_pattern.specs.declared.kinds.Item.{Item}
 use Rattle.std.specs.Cmp.Lexicographic.{bytes_decides}
@@ -29,8 +28,7 @@ use Rattle.md_content.proofs.FineNodes.{IsFine, AreFine, shaped}
 use Rattle.md_content.proofs.SymbolNames.{name_of}
 use Rattle.md_content.proofs.Stands.{stands, names-stand}
 use Rattle.md_content.proofs.Heads.{Head, head}
-use Rattle.md_content.proofs.RanksAndNumbers.{text_fits, heading_fits}
-use Rattle.md_content.proofs.RanksAndNumbers.{list_fits}
+use Rattle.md_content.proofs.RanksAndNumbers.{text_fits, heading_fits, list_fits}
 
 -- the text of a line ending has only line ends
 ending-ends : (text : List ℕ) → is_line_ending text ≡ true → is_line_ends text ≡ true

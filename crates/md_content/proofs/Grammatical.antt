@@ -1,13 +1,12 @@
 -- Each document of the grammar is built of what may stand where it is: what the
 -- theorem begins with.
-use Rattle.std.proofs.Common.{◌≡◌, ℕ, true, Option, None, is_some, List}
+use Rattle.std.proofs.Common.{◌≡◌, ℕ, true, Option, None, is_some, List, refl}
 use Rattle.md_pattern.specs.declared.kinds.Symbol.{Symbol}
 use Rattle.md_pattern.specs.declared.kinds.Role.{Role}
 use Rattle.md_pattern.specs.declared.kinds.Role.TheVariants as role
 use Rattle.md_base.specs.Tree.{Forest, Empty, Node}
 use Rattle.md_pattern.specs.Standing.{standing_of}
 use Rattle.md_pattern.specs.Spine.{spine}
-use Rattle.std.proofs.Common.{refl}
 use Rattle.md_tree.specs.Grammar.{IsGrammatical}
 use Rattle.md_content.specs.Built.{Content, Blocks, content_inside, content_after_node, IsBuilt}
 use Rattle.md_content.proofs.Symbols.{admits, behaves}

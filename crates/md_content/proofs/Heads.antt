@@ -1,7 +1,7 @@
 -- The first node on a spine whose pattern begins with a symbol that occurs once: so a heading's
 -- mark, a fence and a label are found where the meaning looks for them.
-use Rattle.std.proofs.Common.{◌≡◌, Bool, true, false, Option, Some, None, List, [], ◌∷◌}
-use Rattle.std.proofs.Common.{if◌then◌else◌, sym, ap, ◌∙◌, subst}
+use Rattle.std.proofs.Common.{arith, ◌≡◌, Bool, true, false, Option, Some, None, List, [], ◌∷◌}
+use Rattle.std.proofs.Common.{if◌then◌else◌, ap, ◌∙◌, subst}
 use Rattle.md_base.specs.declared.event.Name.{Name}
 use Rattle.md_base.specs.declared.event.Point.{Point}
 use Rattle.md_pattern.specs.declared.kinds.Symbol.{Symbol}
@@ -9,15 +9,13 @@ use Rattle.md_pattern.specs.declared.kinds.Class.TheVariants.{Only}
 use Rattle.md_pattern.specs.declared.kinds.Item.{Item}
 use Rattle.md_pattern.specs.declared.kinds.Item.TheVariants as item
 use Rattle.md_pattern.specs.declared.kinds.Role.{Role}
-use Rattle.md_pattern.specs.declared.kinds.Standing.{Standing}
-use Rattle.md_pattern.specs.declared.kinds.Standing.TheVariants.{Solid}
 use Rattle.md_base.specs.Tree.{Forest}
 use Rattle.md_base.specs.Children.{first_on_spine}
 use Rattle.md_pattern.specs.Standing.{standing_of}
 use Rattle.md_pattern.specs.Pattern.{pattern_of, Fits}
 use Rattle.md_pattern.specs.Spine.{spine, IsGrouped, Matches}
 use Rattle.md_pattern.specs.Shape.{Claim, EachNode, AreShaped, inner_role, inner_before}
-use Rattle.md_content.proofs.SymbolNames.{name_of, is_shared, symbol_in, known_name}
+use Rattle.md_content.proofs.SymbolNames.{name_of, is_shared}
 use Rattle.md_content.proofs.Stands.{Stand, stand, stands, seen_of, spine-stands, Stood, EachStood}
 use Rattle.md_content.proofs.Stands.{each-stood, IsSolid, first_seen, first-stands}
 use Rattle.md_content.proofs.LoneSymbols.{once-is, follows}
@@ -27,16 +25,7 @@ use Rattle.md_content.proofs.Tails.{is_lone}
 pub named : (holds : Claim) (around : Role) (before : Option Symbol) (node : Stand) (one : Symbol) →
     Stood holds around before node → node.seen ≡ one → is_shared one ≡ false →
     node.name ≡ name_of one
-named holds around before node one stood e alone =
-    sym stood.known ∙ by (standing_of node.name) (stood.shows ∙ ap (λ seen. Some seen) e)
-  where
-    by : (standing : Standing) → symbol_in standing ≡ Some one →
-        known_name standing node.name ≡ name_of one
-    by (Solid seen usual reading) shows =
-        let same : seen ≡ one = cc in
-        ap (λ s. if is_shared s then node.name else name_of s) same
-        ∙ ap (λ b. if b then node.name else name_of one) alone
-    by _ shows = cc
+named holds around before node one stood e alone = grind arith
 
 -- the first node, and the others
 pub record Head (holds : Claim) (one : Symbol) (items : List Item) (around : Role)
@@ -95,10 +84,7 @@ pub head : (holds : Claim) (one : Symbol) (items : List Item) (around : Role) (c
     pattern_of around ≡ item.Once (Only one) ∷ items → EachNode holds children around None →
     Matches around (spine children) → Head holds one items around (stands children)
 head holds one items around children alone lone pattern all match =
-    head_of holds one items around (stands children) match.0 alone lone
-    (each-stood holds children around None all)
-    (subst (IsGrouped match.0) (spine-stands children) match.1)
-    (subst (λ is. Fits is match.0) pattern match.2)
+    grind (arith, head_of, each-stood, spine-stands)
 
 -- the node that is found by its name
 pub head-found : {A : Type 0} {holds : Claim} {one : Symbol} {items : List Item} (around : Role)

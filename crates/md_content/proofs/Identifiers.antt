@@ -1,19 +1,15 @@
 -- Grammar and meaning have the same identifiers of definitions and of footnote definitions.
-use Rattle.std.proofs.Common.{◌≡◌, ℕ, Bool, Option, List, [], ◌∷◌, ◌++◌, refl, ap, ◌∙◌}
+use Rattle.std.proofs.Common.{arith, ◌≡◌, ℕ, Bool, Option, List, [], ◌∷◌, ◌++◌, refl, ap, ◌∙◌}
 use Rattle.std.specs.Prelude.{map, unwrap_or}
 use Rattle.std.proofs.lemmas.List.{map-append}
 use Rattle.md_base.specs.declared.event.Name.{Name}
-use Rattle.md_base.specs.declared.event.Name.TheVariants.{Definition}
-use Rattle.md_base.specs.declared.event.Name.TheVariants.{GfmFootnoteDefinition}
+use Rattle.md_base.specs.declared.event.Name.TheVariants.{Definition, GfmFootnoteDefinition}
 use Rattle.md_base.specs.declared.event.Point.{Point}
 use Rattle.md_pattern.specs.declared.kinds.Symbol.{Symbol}
 use Rattle.md_pattern.specs.declared.kinds.Role.{Role}
-use Rattle.md_pattern.specs.declared.kinds.Reading.{Reading}
-use Rattle.md_pattern.specs.declared.kinds.Reading.TheVariants as reading
 use Rattle.md_tree.specs.declared.mention.Referral.{Referral}
 use Rattle.md_tree.specs.declared.mention.Referral.TheVariants.{Missing, Label}
 use Rattle.md_tree.specs.declared.mention.Mention.{Mention}
-use Rattle.md_tree.specs.declared.mention.Mention.TheVariants as mention
 use Rattle.md_base.specs.Tree.{Forest, Empty, Node}
 use Rattle.md_pattern.specs.Standing.{standing_of}
 use Rattle.md_pattern.specs.Shape.{IsShapedNode, AreShaped, inner_role, inner_before}
@@ -35,34 +31,11 @@ known identifier = unwrap_or identifier []
 abbrev pub named : List ℕ → Referral → List ℕ
 named bytes target = elim target [ Label there ↦ known (label_identifier bytes there) | _ ↦ [] ]
 
-by-append : (bytes : List ℕ) (m : Mention) (xs ys : List (Option (List ℕ))) →
-    (defined_by bytes m (xs ++ ys) ≡ defined_by bytes m xs ++ ys)
-    × (footnoted_by bytes m (xs ++ ys) ≡ footnoted_by bytes m xs ++ ys)
-by-append bytes (mention.Definition label) xs ys = (refl, refl)
-by-append bytes _ xs ys = (refl, refl)
-
 known-append : (bytes : List ℕ) (ms others : List Mention) →
     (defined bytes (ms ++ others) ≡ defined bytes ms ++ defined bytes others)
     × (footnoted bytes (ms ++ others) ≡ footnoted bytes ms ++ footnoted bytes others)
 known-append bytes [] others = (refl, refl)
-known-append bytes (m ∷ ms) others =
-    let more = known-append bytes ms others in (
-      ap (defined_by bytes m) more.0
-          ∙ (by-append bytes m (defined bytes ms) (defined bytes others)).0,
-      ap (footnoted_by bytes m) more.1
-          ∙ (by-append bytes m (footnoted bytes ms) (footnoted bytes others)).1,
-    )
-
--- only a definition adds to the identifiers, and only a footnote definition to those of footnotes
-by-others : (bytes : List ℕ) (read : Reading) (target : Referral) (ds fs : List (Option (List ℕ))) →
-    (elim read [ reading.Definition ↦ ds | other ↦ defined_by bytes (mention_of other target) ds ]
-    ≡ ds) × (elim read [
-      | reading.FootnoteDefinition ↦ fs
-      | other ↦ footnoted_by bytes (mention_of other target) fs
-    ] ≡ fs)
-by-others bytes reading.Text (Label label) ds fs = (refl, refl)
-by-others bytes _ (Label label) ds fs = (refl, refl)
-by-others bytes _ _ ds fs = (refl, refl)
+known-append bytes (m ∷ ms) others = grind (arith, known-append bytes ms)
 
 abbrev adds : Bool → List ℕ → List (List ℕ)
 adds test identifier = when test (identifier ∷ [])
@@ -79,18 +52,8 @@ node-adds :
     ≡ adds (is Definition name) (identifier_of bytes children) ++ map known ds)
     × (map known (footnoted_by bytes own fs)
     ≡ adds (is GfmFootnoteDefinition name) (identifier_of bytes children) ++ map known fs)
-node-adds bytes Definition children around before start end is inner ds fs = (
-  rw ((definition-label children inner is.1).2, identifier_of) refl,
-  ap (map known) (by-others bytes reading.Definition (target_of children Missing) ds fs).1,
-)
-node-adds bytes GfmFootnoteDefinition children around before start end is inner ds fs = (
-  ap (map known)
-      (by-others bytes reading.FootnoteDefinition (target_of children Missing) ds fs).0,
-  rw ((footnote-label children inner is.1).2, identifier_of) refl,
-)
 node-adds bytes name children around before start end is inner ds fs =
-    let others = by-others bytes (reading_of (standing_of name)) (target_of children Missing) ds fs
-    in (ap (map known) others.0, ap (map known) others.1)
+    grind (arith, definition-label, footnote-label)
 
 -- the identifiers of two parts, by those of each
 in_parts : (all inner later : List (Option (List ℕ))) (xs ys : List (List ℕ)) →

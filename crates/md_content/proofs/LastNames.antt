@@ -4,12 +4,10 @@ use Rattle.std.proofs.Common.{◌∷◌, ◌++◌, refl, sym, ap, ◌∙◌, app
 use Rattle.std.specs.Prelude.{map, is_some, unwrap_or, length, slice_get, ◌-◌}
 use Rattle.std.specs.List.{list_all}
 use Rattle.std.proofs.lemmas.Bool.{and_parts, and_from}
-use Rattle.md_base.proofs.Lies.{lie}
 use Rattle.md_base.specs.declared.event.Name.{Name}
 use Rattle.md_pattern.specs.declared.kinds.Symbol.{Symbol}
 use Rattle.md_pattern.specs.declared.kinds.Role.{Role}
 use Rattle.md_pattern.specs.declared.kinds.Standing.{Standing}
-use Rattle.md_pattern.specs.declared.kinds.Standing.TheVariants.{Solid}
 use Rattle.md_base.specs.Tree.{Forest}
 use Rattle.md_pattern.specs.Standing.{standing_of}
 use Rattle.md_pattern.specs.Spine.{shown}
@@ -18,7 +16,7 @@ use Rattle.md_tree.specs.Laws.{symbols_of}
 use Rattle.md_base.specs.Children.{spine_names}
 use Rattle.md_meaning.specs.Surroundings.{last_of}
 use Rattle.md_content.proofs.SymbolNames.{symbol_in}
-use Rattle.md_content.proofs.Stands.{Stand, stands, Stood, EachStood, each-stood, names-stand}
+use Rattle.md_content.proofs.Stands.{Stand, Stood, EachStood, each-stood, names-stand}
 
 abbrev pub symbol_of : Option Name → Option Symbol
 symbol_of None = None
@@ -34,15 +32,13 @@ last-push (other ∷ names) n = ap (λ o. Some (unwrap_or o other)) (last-push n
 solid-shown : (standing : Standing) (before : Option Symbol) (symbols : List Symbol) →
     is_some (symbol_in standing) ≡ true →
     last_symbol before (shown standing [] ++ symbols) ≡ last_symbol (symbol_in standing) symbols
-solid-shown (Solid seen usual reading) before symbols h = refl
-solid-shown _ before symbols h = lie h
+solid-shown standing before symbols h = grind arith
 
 -- names that stand on a spine follow others
 pub last-symbols : (names earlier : List Name) (before : Option Symbol) →
     list_all is_solid names ≡ true → before ≡ symbol_of (last_of earlier) →
     last_symbol before (symbols_of names) ≡ symbol_of (last_of (earlier ++ names))
-last-symbols [] earlier before h e =
-    e ∙ ap (λ ns. symbol_of (last_of ns)) (sym (append-nil earlier))
+last-symbols [] earlier before h e = grind (arith, append-nil)
 last-symbols (n ∷ names) earlier before h e =
     let parts = and_parts _ _ h in
     solid-shown (standing_of n) before (symbols_of names) parts.0
@@ -60,9 +56,7 @@ solid-stood around before (node ∷ nodes) stood = and_from _ _ (ap is_some (Sto
 pub solid-names : (forest : Forest) (around : Role) (before : Option Symbol) →
     AreShaped forest around before → list_all is_solid (spine_names forest) ≡ true
 solid-names forest around before shaped =
-    ap (list_all is_solid) (names-stand forest around before shaped)
-    ∙ solid-stood around before (stands forest)
-    (each-stood IsShapedNode forest around before shaped)
+    grind (arith, names-stand, solid-stood, each-stood)
 
 pub last-got : (names : List Name) → last_of names ≡ slice_get names (length names - 1)
 last-got [] = refl

@@ -1,7 +1,7 @@
 -- What definitions are referred to by is the same in the grammar and in the meaning, and a call's
 -- label has a text.
-use Rattle.std.proofs.Common.{◌≡◌, Bool, true, false, ◌||◌, Option, Some, None, List, [], ◌∷◌, ◌++◌}
-use Rattle.std.proofs.Common.{refl, ap, ◌∙◌, subst}
+use Rattle.std.proofs.Common.{arith, ◌≡◌, Bool, true, false, ◌||◌, Option, Some, None, List, []}
+use Rattle.std.proofs.Common.{◌∷◌, ◌++◌, refl, ap, ◌∙◌, subst}
 use Rattle.std.specs.Prelude.{if◌then◌else◌, unwrap_or}
 use Rattle.std.specs.List.{list_any}
 use Rattle.std.proofs.lemmas.Bool.{or_right}
@@ -70,8 +70,7 @@ text-grouped : (firsts spine : List Symbol) → list_any is_text firsts ≡ true
 text-grouped [] spine h is = lie h
 text-grouped (symbol.LabelText ∷ firsts) spine h is = ap (list_any is_text) is.2
 text-grouped (first ∷ firsts) spine h is =
-    ap (list_any is_text) is.2 ∙ list_any-append is_text is.0 is.1
-    ∙ or_right _ _ (text-grouped firsts is.1 h is.4)
+    grind (arith, list_any-append, text-grouped firsts)
 
 text-there : (around : Role) (before : Option Symbol) (nodes : List Stand) →
     EachStood IsShapedNode around before nodes → list_any is_text (seen_of nodes) ≡ true →

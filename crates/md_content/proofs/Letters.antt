@@ -3,7 +3,7 @@
 -- spine.
 use Rattle.md_content.proofs.Tails.{each-tail}
 use Rattle.std.proofs.Common.{arith, ◌≡◌, ℕ, zero, suc, Bool, true, List, [], ◌∷◌, ◌++◌}
-use Rattle.std.proofs.Common.{refl, sym, subst, ◌∙◌}
+use Rattle.std.proofs.Common.{refl, sym, subst}
 use Rattle.std.specs.Prelude.{replicate}
 use Rattle.std.specs.List.{list_all}
 use Rattle.std.proofs.lemmas.Bool.{and_parts, and_from}
@@ -24,9 +24,7 @@ pub own-all : (test : Symbol → Bool) (class : Class) (own : List Symbol) →
     list_all test (members class) ≡ true → list_all test own ≡ true
 own-all test class [] took h = refl
 own-all test class (s ∷ own) took h =
-    let parts = and_parts _ _ took in
-    and_from _ _ (taken test (members class) s parts.0 h)
-    (own-all test class own parts.1 h)
+    grind (arith, and_parts, and_from, taken, own-all test class own)
 
 -- all letters of some items pass a test
 abbrev pub letters : (Symbol → Bool) → List Item → Bool
@@ -38,10 +36,7 @@ pub fits-all : (test : Symbol → Bool) (items : List Item) (firsts : List Symbo
     letters test items ≡ true → list_all test firsts ≡ true
 fits-all test [] firsts fit h = subst (λ s. list_all test s ≡ true) (sym fit) refl
 fits-all test (item ∷ items) firsts fit h =
-    let parts = and_parts _ _ h in
-    subst (λ s. list_all test s ≡ true) (sym fit.2)
-    (list_all-append test fit.0 fit.1 ∙ and_from _ _
-    (own-all test (class_of item) fit.0 fit.3 parts.0) (fits-all test items fit.1 fit.5 parts.1))
+    grind (arith, and_parts, list_all-append, and_from, own-all, fits-all test items)
 
 -- what a group has after its first symbol
 abbrev pub followers : List Symbol
@@ -57,9 +52,7 @@ endings-all test (suc endings) h = grind (arith, endings-all test endings h)
 pub tail-all : (test : Symbol → Bool) (first : Symbol) (tail : List Symbol) →
     list_all test followers ≡ true →
     IsTail first tail → list_all test tail ≡ true
-tail-all test first tail h is = each-tail (λ first tail. list_all test tail ≡ true) (grind arith)
-    (grind arith) (grind arith) (λ endings. endings-all test endings h) (λ first lone. refl)
-    first tail is
+tail-all test first tail h is = grind (arith, each-tail, endings-all)
 
 -- what holds of all first symbols, and with them of what follows in their groups,
 -- holds of the spine
@@ -70,11 +63,7 @@ pub grouped-all : (test : Symbol → Bool) →
     list_all test spine ≡ true
 grouped-all test tails [] spine g h = subst (λ s. list_all test s ≡ true) (sym g) refl
 grouped-all test tails (first ∷ firsts) spine g h =
-    let parts = and_parts _ _ h in
-    subst (λ s. list_all test s ≡ true) (sym g.2)
-    (and_from _ _ parts.0 (list_all-append test g.0 g.1
-    ∙ and_from _ _ (tails first g.0 parts.0 g.3)
-    (grouped-all test tails firsts g.1 g.4 parts.1)))
+    grind (arith, list_all-append, grouped-all test tails firsts)
 
 -- and what holds for anything that may follow in a group
 pub followed-all : (test : Symbol → Bool) → list_all test followers ≡ true →

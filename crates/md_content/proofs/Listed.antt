@@ -1,7 +1,6 @@
 -- The definitions and footnotes of the meaning are those of the document, in the order of their
 -- exits: the targets of references.
-use Rattle.std.proofs.Common.{arith, ◌≡◌, ℕ, Bool, List, [], ◌∷◌, ◌++◌, refl}
-use Rattle.std.proofs.Common.{append_assoc}
+use Rattle.std.proofs.Common.{arith, ◌≡◌, ℕ, Bool, List, [], ◌∷◌, ◌++◌, refl, append_assoc}
 use Rattle.std.specs.Prelude.{map, if◌then◌else◌, ◌&&◌}
 use Rattle.std.proofs.lemmas.List.{map-append}
 use Rattle.md_base.specs.Tree.{Forest, Empty, Node}
@@ -36,9 +35,7 @@ node_at around before children start end last inner = record {
 in_a_row : {A : Type 0} (of : A → List ℕ) (inner own later : List A) (xs ys zs : List (List ℕ)) →
     map of inner ≡ xs → map of own ≡ ys → map of later ≡ zs →
     map of ((inner ++ own) ++ later) ≡ xs ++ (ys ++ zs)
-in_a_row of inner own later xs ys zs a b c =
-    rw (map-append of (inner ++ own) later, map-append of inner own, a, b, c)
-    (append_assoc xs ys zs)
+in_a_row of inner own later xs ys zs a b c = grind (arith, map-append, append_assoc)
 
 -- the one of a node, if it is one
 own-one : {A : Type 0} (of : A → List ℕ) (test : Bool) (own : A) →

@@ -1,18 +1,14 @@
 -- In nodes that meet the rules a heading's mark has a rank, and a list's number has only digits.
-use Rattle.std.proofs.Common.{◌≡◌, ℕ, ◌≤◌, Bool, true, false}
-use Rattle.std.proofs.Common.{if◌then◌else◌, Option, Some, None, List, [], ◌∷◌, ◌++◌, length, refl}
-use Rattle.std.proofs.Common.{sym, subst, arith}
+use Rattle.std.proofs.Common.{◌≡◌, ℕ, ◌≤◌, Bool, true, if◌then◌else◌, Option, Some, None}
+use Rattle.std.proofs.Common.{List, [], ◌∷◌, ◌++◌, length, refl, sym, subst, arith}
 use Rattle.std.specs.Prelude.{nat_lt, unwrap_or}
 use Rattle.std.specs.Char.{digit_value}
 use Rattle.std.specs.Option.{option_map_or}
 use Rattle.std.specs.List.{list_all}
-use Rattle.std.proofs.lemmas.Bool.{and_parts, and_from, ltb-true, leb-true, le-leb}
-use Rattle.std.proofs.lemmas.Str.Parse.{digit_from_value}
 use Rattle.md_base.specs.declared.event.Name.TheVariants as name_variants
 use name_variants.{HeadingAtxSequence, ListItem, ListItemPrefix, ListItemValue}
 use Rattle.md_base.specs.declared.event.Position.{Position}
-use Rattle.md_base.specs.Place.{fits, text_between}
-use Rattle.md_base.specs.Reference.{is_number}
+use Rattle.md_base.specs.Place.{fits}
 use Rattle.md_pattern.specs.declared.kinds.Symbol.{Symbol}
 use Rattle.md_pattern.specs.declared.kinds.Symbol.TheVariants as symbol
 use Rattle.md_pattern.specs.declared.kinds.Role.TheVariants as role
@@ -37,25 +33,19 @@ use Rattle.md_content.proofs.Heads.{Head, head_of, head, head-found}
 -- a rule that isn't broken holds
 pub unless-holds : (condition : Bool) (broken : Rule) →
     unless condition broken ≡ None → condition ≡ true
-unless-holds true broken e = refl
-unless-holds false broken e = cc
+unless-holds condition broken e = grind arith
 
 -- what holds of a text that breaks nothing holds of the text that is read
 pub text_fits : (test : List ℕ → Bool) (broken : Rule) (Holds : List ℕ → Type 0) →
     ((text : List ℕ) → test text ≡ true → Holds text) → (text : Option (List ℕ)) →
     broken_by text (λ t. unless (test t) broken) ≡ None → Holds (unwrap_or text [])
-text_fits test broken Holds each None e = cc
-text_fits test broken Holds each (Some text) e = each text (unless-holds (test text) broken e)
+text_fits test broken Holds each h e = grind arith
 
 -- a rank of a heading's first mark
 mark_fits : (lies : Bool) (length : ℕ) →
     (if lies then unless (is_rank role.Heading None length) rule.HeadingMark
     else Some rule.Place) ≡ None → (1 ≤ length) × (length ≤ 6) × (lies ≡ true)
-mark_fits true length e =
-    let parts = and_parts _ _ (unless-holds (is_rank role.Heading None length) rule.HeadingMark e)
-    in
-    (leb-true 1 length parts.0, leb-true length 6 parts.1, refl)
-mark_fits false length e = cc
+mark_fits lies length e = grind arith
 
 -- how long a mark that was found is
 abbrev long : Option Position → ℕ
@@ -80,17 +70,7 @@ heading_fits bytes names children all match =
 digits_fit : (digits : List ℕ) → list_all (λ digit. nat_lt (digit_value digit) 10) digits ≡ true →
     list_all is_digit digits ≡ true
 digits_fit [] h = refl
-digits_fit (digit ∷ digits) h =
-    let parts = and_parts _ _ h in
-    let range = digit_from_value digit (ltb-true (digit_value digit) 10 parts.0) in
-    and_from _ _ (and_from _ _ (le-leb 48 digit range.0)
-    (le-leb digit 57 range.1))
-    (digits_fit digits parts.1)
-
-number_digits : (text : List ℕ) → is_number 10 text ≡ true → list_all is_digit text ≡ true
-number_digits text h =
-    let tests = list_all (λ d. nat_lt (digit_value d) 10) text in
-    digits_fit text (and_parts _ _ (and_parts _ _ h).0).1
+digits_fit (digit ∷ digits) h = grind (arith, digits_fit digits)
 
 -- the number at a place has only digits
 abbrev pub MayHaveDigits : List ℕ → Option Position → Type 0
@@ -104,20 +84,13 @@ number_among nodes = first_seen (is ListItemValue) (λ start end inner. place st
 no_number : (bytes : List ℕ) (names : List (List ℕ × List ℕ)) (nodes : List Stand) →
     Head (IsFine bytes names) symbol.ListItemMarker [] role.FirstOrderedPrefix nodes →
     MayHaveDigits bytes (number_among nodes)
-no_number bytes names nodes marker =
-    let none : marker.rest ≡ [] = none_left marker.rest
-    (subst (λ f. IsGrouped f (seen_of marker.rest)) marker.fit marker.grouped) in
-    subst (λ ns. MayHaveDigits bytes (number_among ns)) (sym marker.are)
-    (subst (λ ns. MayHaveDigits bytes (number_among ns)) (sym none) refl)
+no_number bytes names nodes marker = grind (arith, none_left)
 
 one_number : (bytes : List ℕ) (names : List (List ℕ × List ℕ)) {items : List Item}
     (nodes : List Stand) →
     Head (IsFine bytes names) symbol.ListItemValue items role.FirstOrderedPrefix nodes →
     MayHaveDigits bytes (number_among nodes)
-one_number bytes names nodes value =
-    subst (λ ns. MayHaveDigits bytes (number_among ns)) (sym value.are)
-    (text_fits (is_number 10) rule.ListNumber (λ text. list_all is_digit text ≡ true) number_digits
-    (text_between bytes value.start value.end) value.here.1)
+one_number bytes names nodes value = grind (arith, text_fits, digits_fit)
 
 number_first : (bytes : List ℕ) (names : List (List ℕ × List ℕ)) (nodes : List Stand)
     (own others firsts : List Symbol) →

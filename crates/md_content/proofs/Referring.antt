@@ -17,15 +17,15 @@ use Rattle.md_base.specs.Tree.{Forest}
 use Rattle.md_pattern.specs.Pattern.{takes}
 use Rattle.md_pattern.specs.Spine.{spine, IsGrouped, Matches}
 use Rattle.md_pattern.specs.Shape.{IsShapedNode, AreShaped}
-use Rattle.md_tree.specs.Rules.{place, target_of}
+use Rattle.md_tree.specs.Rules.{target_of}
 use Rattle.md_base.specs.NameTests.{is_label, is_reference}
 use Rattle.md_base.specs.Children.{first_on_spine}
 use Rattle.md_meaning.specs.Places.{position, text_in_label}
 use Rattle.md_content.specs.Labels.{label_in_node, referring_in}
 use Rattle.md_content.specs.References.{label_target}
-use Rattle.md_content.proofs.Stands.{Stand, stands, seen_of, target_by, sought, target-stands}
+use Rattle.md_content.proofs.Stands.{Stand, stands, seen_of, sought, target-stands}
 use Rattle.md_content.proofs.Stands.{EachStood, first_seen, first-stands}
-use Rattle.md_content.proofs.Heads.{Head, head, head-found, named}
+use Rattle.md_content.proofs.Heads.{Head, head, head-found}
 use Rattle.md_content.proofs.LabelTexts.{head-leaves, label-leaves}
 
 -- the label's text is found by the meaning as well
@@ -54,10 +54,8 @@ rest-of-media : (own spine : List Symbol) → length own ≤ 1 →
     IsGrouped own spine →
     (spine ≡ []) ⊎ ((spine ≡ symbol.Resource ∷ []) ⊎ (spine ≡ symbol.ReferenceString ∷ []))
 rest-of-media [] spine count own_taken is = inl is
-rest-of-media (symbol.Resource ∷ []) spine count own_taken is =
-    inr (inl (rw (is.3, is.4) at is.2))
-rest-of-media (symbol.ReferenceString ∷ []) spine count own_taken is =
-    inr (inr (rw (is.3, is.4) at is.2))
+rest-of-media (symbol.Resource ∷ []) spine count own_taken is = grind arith
+rest-of-media (symbol.ReferenceString ∷ []) spine count own_taken is = grind arith
 rest-of-media (_ ∷ []) spine count own_taken is = lie own_taken
 rest-of-media (_ ∷ _ ∷ own) spine count own_taken is = absurd (omega arith)
 
@@ -73,16 +71,8 @@ after-label : (rest : List Stand) (label : Option Position) →
     ≡ label_target (chosen label (first_seen is_reference position rest)))
 after-label [] label stood which = inr refl
 after-label (node ∷ nodes) label stood (inl e) = absurd (cc e)
-after-label (node ∷ []) label stood (inr (inl e)) =
-    let is : node.seen ≡ symbol.Resource = cc in
-    inl (ap (λ seen. target_by seen (label_target label) (target_of node.children Missing)
-    (place node.start node.end)) is)
-after-label (node ∷ []) label stood (inr (inr e)) =
-    let is : node.seen ≡ symbol.ReferenceString = cc in
-    inr (ap (λ seen. target_by seen (label_target label) (target_of node.children Missing)
-    (place node.start node.end)) is ∙ ap (λ n. label_target (chosen label
-    (if is_reference n then Some (position node.start node.end node.children) else None)))
-    (sym (named IsShapedNode role.Media _ node symbol.ReferenceString stood.0 is refl)))
+after-label (node ∷ []) label stood (inr (inl e)) = grind arith
+after-label (node ∷ []) label stood (inr (inr e)) = grind arith
 after-label (node ∷ other ∷ nodes) label stood (inr (inl e)) = absurd (cc e)
 after-label (node ∷ other ∷ nodes) label stood (inr (inr e)) = absurd (cc e)
 

@@ -1,13 +1,12 @@
 -- What the meaning reads of a document of the grammar exists, and each reference finds its
 -- definition.
-use Rattle.std.proofs.Common.{◌≡◌, ◌⊎◌, inl, inr, ℕ, ◌<◌, Option, Some, None, List, [], ◌∷◌, ◌++◌}
-use Rattle.std.proofs.Common.{sym, ap, ◌∙◌, subst}
+use Rattle.std.proofs.Common.{arith, ◌≡◌, ◌⊎◌, inl, inr, ℕ, Option, Some, None, List, [], ◌∷◌, ◌++◌}
+use Rattle.std.proofs.Common.{ap, ◌∙◌, subst}
 use Rattle.std.specs.Prelude.{map, All, Contains}
 use Rattle.std.proofs.lemmas.List.{length-map, get_or-map}
 use Rattle.std.proofs.lemmas.List.Elements.{All-nil, All-cons, All-head, All-tail}
 use Rattle.md_base.specs.declared.event.Name.{Name}
-use Rattle.md_base.specs.declared.event.Name.TheVariants.{Link, Image, Definition, GfmFootnoteCall}
-use Rattle.md_base.specs.declared.event.Name.TheVariants.{GfmFootnoteDefinition}
+use Rattle.md_base.specs.declared.event.Name.TheVariants.{Link, Image, GfmFootnoteCall}
 use Rattle.md_base.specs.declared.event.Point.{Point}
 use Rattle.md_base.specs.declared.event.Position.{Position}
 use Rattle.md_pattern.specs.declared.kinds.Symbol.{Symbol}
@@ -18,10 +17,9 @@ use Rattle.md_tree.specs.declared.mention.Referral.{Referral}
 use Rattle.md_tree.specs.declared.mention.Referral.TheVariants.{Missing, Label, Resource}
 use Rattle.md_tree.specs.declared.mention.Mention.{Mention}
 use Rattle.md_tree.specs.declared.mention.Mention.TheVariants as mention
-use Rattle.md_tree.specs.declared.rule.Rule.TheVariants as rule
 use Rattle.md_base.specs.Tree.{Forest, Empty, Node}
 use Rattle.md_pattern.specs.Standing.{standing_of}
-use Rattle.md_pattern.specs.Shape.{IsShapedNode, AreShaped, inner_role, inner_before}
+use Rattle.md_pattern.specs.Shape.{AreShaped, inner_role, inner_before}
 use Rattle.md_tree.specs.Rules.{broken_by_target, reading_of, target_of}
 use Rattle.md_tree.specs.Mentions.{mention_of, mentions_of, defined, footnoted, IsResolved}
 use Rattle.md_tree.specs.Mentions.{identifier_at as label_identifier}
@@ -37,29 +35,19 @@ use Rattle.md_content.proofs.TextsThere.{everywhere}
 use Rattle.md_content.proofs.Identifiers.{known, named, identifiers-known}
 
 -- ---- what is referred by
-shaped-node : (name : Name) (start end : Point) (children : Forest) (around : Role)
-    (before : Option Symbol) →
-    IsShapedNode around before name start end children →
-    AreShaped children (inner_role (standing_of name) around before)
-    (inner_before (standing_of name) before) →
-    RefersAlike name start end children
-shaped-node Link start end children around before is inner = media-refers children inner is.1
-shaped-node Image start end children around before is inner = media-refers children inner is.1
-shaped-node GfmFootnoteCall start end children around before is inner =
-    call-refers children inner is.1
-shaped-node Definition start end children around before is inner =
-    let found = definition-label children inner is.1 in found.2 ∙ ap label_target (sym found.1)
-shaped-node GfmFootnoteDefinition start end children around before is inner =
-    let found = footnote-label children inner is.1 in found.2 ∙ ap label_target (sym found.1)
-shaped-node _ start end children around before is inner = tt
-
 pub labels-alike : (bytes : List ℕ) (names : List (List ℕ × List ℕ)) (document : Forest) →
     IsGrammatical bytes names document → Everywhere RefersAlike document
 labels-alike bytes names document grammatical =
-    everywhere bytes names RefersAlike
-    (λ around before name start end children here inner. shaped-node name start end children around
-    before here.0 (shaped bytes names children _ _ inner)) document role.Flow None
-    (fine bytes names document role.Flow None grammatical.shape.0 grammatical.rules)
+    grind (
+      arith,
+      everywhere,
+      shaped,
+      fine,
+      media-refers,
+      call-refers,
+      definition-label,
+      footnote-label,
+    )
 
 -- ---- each reference finds its definition
 all-left : {A : Type 0} (P : A → Type 0) (xs ys : List A) → All P (xs ++ ys) → All P xs
@@ -71,22 +59,11 @@ all-right : {A : Type 0} (P : A → Type 0) (xs ys : List A) → All P (xs ++ ys
 all-right P [] ys a = a
 all-right P (x ∷ xs) ys a = all-right P xs ys (All-tail P x (xs ++ ys) a)
 
-contains-map : {A B : Type 0} (f : A → B) (xs : List A) (x : A) → Contains xs x →
-    Contains (map f xs) (f x)
-contains-map f xs x there = (
-  there.0,
-  subst (λ n. there.0 < n) (sym (length-map xs f)) there.1,
-  get_or-map f xs there.0 x (f x) there.1
-      ∙ ap f there.2,
-)
-
 contains-known : (bytes : List ℕ) (found : List (Option (List ℕ))) (identifiers : List (List ℕ))
     (target : Referral) (there : Position) → map known found ≡ identifiers → target ≡ Label there →
     Contains found (label_identifier bytes there) → Contains identifiers (named bytes target)
 contains-known bytes found identifiers target there e is contained =
-    subst (λ t. Contains identifiers (named bytes t)) (sym is)
-    (subst (λ xs. Contains xs (known (label_identifier bytes there))) e
-    (contains-map known found (label_identifier bytes there) contained))
+    grind (arith, length-map, get_or-map)
 
 -- a link or an image
 media-leads :
@@ -98,9 +75,7 @@ media-leads :
     (target ≡ Resource) ⊎ Contains identifiers (named bytes target)
 media-leads bytes mentions identifiers target referring e rules resolved (inl resource) =
     inl resource
-media-leads bytes mentions identifiers target None e rules resolved (inr alike) =
-    let lost : Some rule.Target ≡ None = ap broken_by_target (sym alike) ∙ rules in
-    absurd (cc lost)
+media-leads bytes mentions identifiers target None e rules resolved (inr alike) = grind arith
 media-leads bytes mentions identifiers target (Some there) e rules resolved (inr alike) =
     inr (contains-known bytes (defined bytes mentions) identifiers target there e alike
     (subst (λ t. IsResolved bytes mentions (mention_of reading.Media t)) alike resolved))
@@ -182,18 +157,6 @@ HasTarget Link start end children = broken_by_target (target_of children Missing
 HasTarget Image start end children = broken_by_target (target_of children Missing) ≡ None
 HasTarget _ start end children = Unit {0}
 
-node-targets : (bytes : List ℕ) (names : List (List ℕ × List ℕ)) (around : Role)
-    (before : Option Symbol) (name : Name) (start end : Point) (children : Forest) →
-    IsFine bytes names around before name start end children →
-    HasTarget name start end children
-node-targets bytes names around before Link start end children here = here.1
-node-targets bytes names around before Image start end children here = here.1
-node-targets bytes names around before _ start end children here = tt
-
 pub targets-there : (bytes : List ℕ) (names : List (List ℕ × List ℕ)) (document : Forest) →
     IsGrammatical bytes names document → Everywhere HasTarget document
-targets-there bytes names document grammatical =
-    everywhere bytes names HasTarget
-    (λ around before name start end children here inner. node-targets bytes names around before name
-    start end children here) document role.Flow None
-    (fine bytes names document role.Flow None grammatical.shape.0 grammatical.rules)
+targets-there bytes names document grammatical = grind (arith, everywhere, fine)

@@ -1,8 +1,7 @@
 -- A node, its content and what follows it: what is allowed there, from the spine that it belongs
 -- to.
-use Rattle.std.proofs.Common.{arith, ◌≡◌, Bool, true, false, ◌&&◌, ◌||◌, cond, Option, Some, None}
-use Rattle.std.proofs.Common.{is_some}
-use Rattle.std.proofs.Common.{List, [], ◌∷◌, ◌++◌, refl, ap, ◌∙◌}
+use Rattle.std.proofs.Common.{arith, ◌≡◌, Bool, true, false, ◌||◌, cond, Option, Some}
+use Rattle.std.proofs.Common.{is_some, List, [], ◌∷◌, ◌++◌, refl, ap, ◌∙◌}
 use Rattle.std.specs.List.{list_all}
 use Rattle.std.proofs.lemmas.Bool.{and_parts}
 use Rattle.md_base.specs.declared.event.Name.{Name}
@@ -15,12 +14,11 @@ use Rattle.md_base.specs.Tree.{Forest, Empty, Node}
 use Rattle.md_pattern.specs.Standing.{standing_of}
 use Rattle.md_pattern.specs.Pattern.{pattern_of}
 use Rattle.md_pattern.specs.Spine.{spine, shown}
-use Rattle.md_pattern.specs.Shape.{AreShaped, IsStanding, role_for, item_in, prefix_in, label_in}
-use Rattle.md_pattern.specs.Shape.{inner_before, last_symbol}
+use Rattle.md_pattern.specs.Shape.{AreShaped, IsStanding, role_for, inner_before, last_symbol}
 use Rattle.md_base.specs.NameTests.{is_transparent}
-use Rattle.md_content.specs.Built.{Content, may_stand, content_of, content_inside, content_past}
+use Rattle.md_content.specs.Built.{Content, may_stand, content_of, content_inside}
 use Rattle.md_content.specs.Built.{content_after, content_after_node}
-use Rattle.md_content.proofs.SymbolNames.{is_through, name_for}
+use Rattle.md_content.proofs.SymbolNames.{is_through}
 use Rattle.md_content.proofs.Symbols.{may_show, past, admits, pattern_admits, roles_for, implies}
 use Rattle.md_content.proofs.Symbols.{Behaves, behaves}
 use Rattle.md_content.proofs.Admitted.{shown_earlier, matches_admitted}
@@ -41,28 +39,14 @@ admits-split : (before : Option Symbol) (content : Content) (symbols others : Li
     × (admits (is_some (last_symbol before symbols)) (run content symbols) others ≡ true)
 admits-split before content [] others h = (refl, h)
 admits-split before content (symbol ∷ symbols) others h =
-    let parts = and_parts _ _ h in
-    let rest = admits-split (Some symbol) (past content symbol) symbols others parts.1 in
-    (ap (λ t. t && admits true (past content symbol) symbols) parts.0 ∙ rest.0, rest.1)
+    grind (arith, and_parts, admits-split (Some symbol) (past content symbol) symbols)
 
 node_after :
     (standing : Standing) (name : Name) (children : Forest) (around : Role) (before : Option Symbol)
     (content : Content) → Behaves standing name → IsStanding standing around before children →
     content_after content children ≡ run content (spine children) →
     content_after_node content name children ≡ run content (shown standing (spine children))
-node_after standing name children around before content says stands again =
-    ap (λ t. cond t (content_after content children) (content_past content name)) says.through
-    ∙ by standing (says.past content) stands
-  where
-    by : (standing : Standing) →
-        content_past content name ≡ content_past content (name_for standing name) →
-        IsStanding standing around before children →
-        cond (is_through standing) (content_after content children) (content_past content name)
-        ≡ run content (shown standing (spine children))
-    by Through past stands = again
-    by Space past stands = ap (content_after content) stands
-    by (Solid symbol usual reading) past stands = past
-    by Mdx past stands = absurd stands
+node_after standing name children around before content says stands again = grind arith
 
 -- what may stand after nodes is what may stand after their spine
 pub after_spine : (forest : Forest) (around : Role) (before : Option Symbol) (content : Content) →
@@ -80,29 +64,7 @@ after_spine (Node name start end children rest) around before content shaped =
 pub role_listed : (test : Role → Bool) (around : Role) (before : Option Symbol) (usual : Role) →
     list_all test (roles_for (is_some before) usual) ≡ true →
     test (role_for around before usual) ≡ true
-role_listed test around before role.Item h = by around before
-  where
-    by : (around : Role) (before : Option Symbol) → test (item_in around before) ≡ true
-    by role.OrderedList None = grind (arith, h)
-    by role.OrderedList (Some _) = grind (arith, h)
-    by _ before = grind (arith, h)
-role_listed test around before role.Prefix h = by around
-  where
-    by : (around : Role) → test (prefix_in around) ≡ true
-    by role.FirstOrderedItem = grind (arith, h)
-    by role.OrderedItem = grind (arith, h)
-    by _ = grind (arith, h)
-role_listed test around before role.Label h = by around
-  where
-    by : (around : Role) → test (label_in around) ≡ true
-    by role.FootnoteCall = grind (arith, h)
-    by _ = grind (arith, h)
-role_listed test around None role.CodeFence h = grind arith
-role_listed test around (Some symbol) role.CodeFence h = grind arith
-role_listed test around None role.MathFence h = grind arith
-role_listed test around (Some symbol) role.MathFence h = grind arith
-role_listed test around None usual h = grind arith
-role_listed test around (Some symbol) usual h = grind arith
+role_listed test around before usual h = grind arith
 
 -- a node may stand there, its children in it, and others after it
 pub record Spot (standing : Standing) (name : Name) (children : Forest) (before : Option Symbol)
@@ -126,8 +88,7 @@ spot_here :
     (cond (is_through standing) content (content_of name content)) (spine children) ≡ true)
 spot_here Through name children around before content others says stands h =
     (refl, (admits-split before content (spine children) others h).0)
-spot_here Space name children around before content others says stands h =
-    (refl, ap (λ c. admits false content (spine c)) stands)
+spot_here Space name children around before content others says stands h = grind arith
 spot_here (Solid symbol usual reading) name children around before content others says stands h =
     let may = (and_parts _ _ h).0 in (
       says.may content ∙ shown_earlier (is_some before) content symbol may,

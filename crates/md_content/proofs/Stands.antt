@@ -1,19 +1,18 @@
 -- The nodes on a spine as a list: facts about a spine are stated for this list, which is easier to
 -- iterate over than the tree.
-use Rattle.std.proofs.Common.{arith, ◌≡◌, ℕ, Bool, false, cond, Option, Some, None, List, []}
-use Rattle.std.proofs.Common.{◌∷◌, ◌++◌}
-use Rattle.std.proofs.Common.{refl, sym, ap, ◌∙◌, subst}
+use Rattle.std.proofs.Common.{arith, ◌≡◌, ℕ, Bool, false, Option, Some, None, List, [], ◌∷◌}
+use Rattle.std.proofs.Common.{◌++◌, refl}
 use Rattle.std.specs.Prelude.{map, if◌then◌else◌}
 use Rattle.std.proofs.lemmas.List.{map-append}
 use Rattle.md_base.specs.declared.event.Name.{Name}
-use Rattle.md_base.specs.declared.event.Name.TheVariants.{Data, BlockQuotePrefix, SpaceOrTab, Other}
+use Rattle.md_base.specs.declared.event.Name.TheVariants.{BlockQuotePrefix, SpaceOrTab, Other}
 use Rattle.md_base.specs.declared.event.Point.{Point}
 use Rattle.md_base.specs.declared.event.Position.{Position}
 use Rattle.md_pattern.specs.declared.kinds.Symbol.{Symbol}
 use Rattle.md_pattern.specs.declared.kinds.Symbol.TheVariants as symbol
 use Rattle.md_pattern.specs.declared.kinds.Role.{Role}
 use Rattle.md_pattern.specs.declared.kinds.Standing.{Standing}
-use Rattle.md_pattern.specs.declared.kinds.Standing.TheVariants.{Through, Space, Solid, Mdx}
+use Rattle.md_pattern.specs.declared.kinds.Standing.TheVariants.{Through, Solid}
 use Rattle.md_tree.specs.declared.mention.Referral.{Referral}
 use Rattle.md_tree.specs.declared.mention.Referral.TheVariants.{Missing, Label, Resource}
 use Rattle.md_base.specs.Tree.{Forest, Empty, Node}
@@ -61,17 +60,12 @@ symbols_here : (standing : Standing) (name : Name) (start end : Point) (children
     spine children ≡ seen_of (stands children) →
     shown standing (spine children)
     ≡ seen_of (stand_here standing name start end children (stands children))
-symbols_here Through name start end children inner = inner
-symbols_here _ name start end children inner = refl
+symbols_here standing name start end children inner = grind arith
 
 pub spine-stands : (forest : Forest) → spine forest ≡ seen_of (stands forest)
 spine-stands Empty = refl
 spine-stands (Node name start end children rest) =
-    rw (
-      symbols_here (standing_of name) name start end children (spine-stands children),
-      spine-stands rest,
-      map-append,
-    ) refl
+    grind (arith, symbols_here, map-append, spine-stands children, spine-stands rest)
 
 -- ---- a claim that holds for each node
 pub record Stood (holds : Claim) (around : Role) (before : Option Symbol) (node : Stand) : Type 0
@@ -96,39 +90,19 @@ stood-append holds around before [] others a b = b
 stood-append holds around before (node ∷ nodes) others a b =
     (a.0, stood-append holds around (Some node.seen) nodes others a.1 b)
 
-stood-here : (holds : Claim) (standing : Standing) (name : Name) (start end : Point)
-    (children : Forest) (around : Role) (before : Option Symbol) → standing_of name ≡ standing →
-    holds around before name start end children →
-    EachNode holds children (inner_role standing around before) (inner_before standing before) →
-    (EachNode holds children around before → EachStood holds around before (stands children)) →
-    EachStood holds around before
-    (stand_here standing name start end children (stands children))
-stood-here holds Through name start end children around before e here inside again = again inside
-stood-here holds (Solid seen usual reading) name start end children around before e
-    here inside again = (
-      record {
-        here = here;
-        inside =
-            subst (λ s. EachNode holds children (inner_role s around before)
-            (inner_before s before)) (sym e) inside;
-        known = name-known name;
-        shows = ap symbol_in e;
-      },
-      tt,
-    )
-stood-here holds _ name start end children around before e here inside again = tt
-
 pub each-stood : (holds : Claim) (forest : Forest) (around : Role) (before : Option Symbol) →
     EachNode holds forest around before → EachStood holds around before (stands forest)
 each-stood holds Empty around before all = tt
 each-stood holds (Node name start end children rest) around before all =
-    stood-append holds around before
-    (stand_here (standing_of name) name start end children (stands children)) (stands rest)
-    (stood-here holds (standing_of name) name start end children around before refl all.0 all.1
-    (each-stood holds children around before))
-    (subst (λ symbols. EachStood holds around (last_symbol before symbols) (stands rest))
-    (symbols_here (standing_of name) name start end children (spine-stands children))
-    (each-stood holds rest around _ all.2))
+    grind (
+      arith,
+      stood-append,
+      symbols_here,
+      spine-stands,
+      name-known,
+      each-stood holds children,
+      each-stood holds rest,
+    )
 
 -- ---- the target that nodes leave
 -- what a node leaves as the target of the node around it, by its symbol
@@ -150,8 +124,7 @@ leaves_by _ found inner there = found
 leaves : (name : Name) (found : Referral) (inner : Referral → Referral) (there : Position) →
     target_after (standing_of name) found inner there
     ≡ leaves_by (standing_of name) found inner there
-leaves Data found inner there = refl
-leaves _ found inner there = refl
+leaves name found inner there = grind arith
 
 -- the target after nodes, in sequence
 abbrev pub sought : List Stand → Referral → Referral
@@ -163,49 +136,20 @@ sought (node ∷ nodes) found =
 sought-append : (nodes others : List Stand) (found : Referral) →
     sought (nodes ++ others) found ≡ sought others (sought nodes found)
 sought-append [] others found = refl
-sought-append (node ∷ nodes) others found = sought-append nodes others
-    (target_by node.seen found (target_of node.children Missing) (place node.start node.end))
-
-target_here : (standing : Standing) (name : Name) (start end : Point) (children : Forest)
-    (found : Referral) → target_of children found ≡ sought (stands children) found →
-    leaves_by standing found (target_of children) (place start end)
-    ≡ sought (stand_here standing name start end children (stands children)) found
-target_here Through name start end children found inner = inner
-target_here _ name start end children found inner = refl
+sought-append (node ∷ nodes) others found = grind (arith, sought-append nodes)
 
 pub target-stands : (forest : Forest) (found : Referral) →
     target_of forest found ≡ sought (stands forest) found
 target-stands Empty found = refl
 target-stands (Node name start end children rest) found =
-    rw (
-      leaves name found (target_of children) (place start end),
-      target_here (standing_of name) name start end children found (target-stands children found),
-      target-stands rest _,
-      sought-append,
-    ) refl
+    grind (arith, leaves, sought-append, target-stands children, target-stands rest)
 
 -- ---- their names
-names_here : (standing : Standing) (name : Name) (start end : Point) (children : Forest)
-    (around : Role) (before : Option Symbol) → IsStanding standing around before children →
-    spine_names children ≡ map (λ node. node.name) (stands children) →
-    cond (is_through standing) (spine_names children) (name ∷ [])
-    ≡ map (λ node. node.name) (stand_here standing name start end children (stands children))
-names_here Through name start end children around before is inner = inner
-names_here Space name start end children around before is inner = ap spine_names is
-names_here (Solid seen usual reading) name start end children around before is inner = refl
-names_here Mdx name start end children around before is inner = absurd is
-
 pub names-stand : (forest : Forest) (around : Role) (before : Option Symbol) →
     AreShaped forest around before → spine_names forest ≡ map (λ node. node.name) (stands forest)
 names-stand Empty around before shaped = refl
 names-stand (Node name start end children rest) around before shaped =
-    rw (
-      transparent name,
-      names_here (standing_of name) name start end children around before
-          shaped.0.1 (names-stand children _ _ shaped.1),
-      names-stand rest _ _ shaped.2,
-      map-append,
-    ) refl
+    grind (arith, transparent, map-append, names-stand children, names-stand rest)
 
 -- ---- the first whose name passes a test, which no transparent one does
 abbrev pub IsSolid : (Name → Bool) → Type 0
@@ -224,13 +168,6 @@ module _ {A : Type 0} (test : Name → Bool) (tell : Point → Point → Forest 
   first_seen-append [] others = refl
   first_seen-append (node ∷ nodes) others = grind (arith, first_seen-append nodes others)
 
-  passes_not : (name : Name) → IsSolid test →
-      (if is_through (standing_of name) then test name else false) ≡ false
-  passes_not BlockQuotePrefix solid = solid.0
-  passes_not SpaceOrTab solid = solid.1
-  passes_not (Other number) solid = solid.2 number
-  passes_not _ solid = refl
-
   first_here :
       (standing : Standing) (name : Name) (start end : Point) (children : Forest) (around : Role)
       (before : Option Symbol) → (if is_through standing then test name else false) ≡ false →
@@ -239,24 +176,18 @@ module _ {A : Type 0} (test : Name → Bool) (tell : Point → Point → Forest 
       (if test name then Some (tell start end children)
       else (if is_through standing then first_on_spine test tell children else None))
       ≡ first_seen (stand_here standing name start end children (stands children))
-  first_here Through name start end children around before solid is inner =
-      ap (λ t. if t then Some (tell start end children) else first_on_spine test tell children)
-      solid ∙ inner
-  first_here Space name start end children around before solid is inner =
-      ap (λ t. if t then Some (tell start end children) else first_on_spine test tell children)
-      solid ∙ ap (first_on_spine test tell) is
-  first_here (Solid seen usual reading) name start end children around before solid is inner = refl
-  first_here Mdx name start end children around before solid is inner = absurd is
+  first_here standing name start end children around before solid is inner = grind arith
 
   pub first-stands : IsSolid test → (forest : Forest) (around : Role) (before : Option Symbol) →
       AreShaped forest around before →
       first_on_spine test tell forest ≡ first_seen (stands forest)
   first-stands solid Empty around before shaped = refl
   first-stands solid (Node name start end children rest) around before shaped =
-      rw (
-        transparent name,
-        first_here (standing_of name) name start end children around before
-            (passes_not name solid) shaped.0.1 (first-stands solid children _ _ shaped.1),
-        first-stands solid rest _ _ shaped.2,
+      grind (
+        arith,
+        transparent,
+        first_here,
         first_seen-append,
-      ) refl
+        first-stands solid children,
+        first-stands solid rest,
+      )

@@ -1,9 +1,8 @@
 -- What may stand where, by the symbols of the grammar instead of by names, and that both say the
 -- same.
-use Rattle.std.proofs.Common.{◌≡◌, Bool, true, false, ◌&&◌, List, [], ◌∷◌, refl}
+use Rattle.std.proofs.Common.{arith, ◌≡◌, Bool, true, false, ◌&&◌, List, [], ◌∷◌}
 use Rattle.std.specs.List.{list_all}
 use Rattle.md_base.specs.declared.event.Name.{Name}
-use Rattle.md_base.specs.declared.event.Name.TheVariants.{Data}
 use Rattle.md_pattern.specs.declared.kinds.Symbol.{Symbol}
 use Rattle.md_pattern.specs.declared.kinds.Role.{Role}
 use Rattle.md_pattern.specs.declared.kinds.Role.TheVariants as role
@@ -13,24 +12,10 @@ use Rattle.md_pattern.specs.declared.kinds.Standing.{Standing}
 use Rattle.md_pattern.specs.declared.kinds.Standing.TheVariants.{Solid}
 use Rattle.md_pattern.specs.Standing.{standing_of}
 use Rattle.md_pattern.specs.Pattern.{members, pattern_of}
-use Rattle.md_content.specs.Built.{Content, Blocks, FirstFence, FirstMathFence}
-use Rattle.md_content.specs.Built.{Chunks, InfoAndMeta, MetaAlone, Done}
-use Rattle.md_content.specs.Built.{may_stand, content_of, content_past}
+use Rattle.md_content.specs.Built.{Content, FirstFence, FirstMathFence, Chunks, InfoAndMeta}
+use Rattle.md_content.specs.Built.{MetaAlone, Done, may_stand, content_of, content_past}
 use Rattle.md_base.specs.NameTests.{is_transparent}
 use Rattle.md_content.proofs.SymbolNames.{name_of, name_for, is_through, transparent}
-
--- what is allowed of a name is allowed of the name that stands for its symbol
-pub stand-same : (content : Content) (name : Name) →
-    may_stand content name ≡ may_stand content (name_for (standing_of name) name)
-stand-same Blocks Data = refl
-stand-same _ Data = refl
-stand-same _ _ = refl
-
-pub past-same : (content : Content) (name : Name) →
-    content_past content name ≡ content_past content (name_for (standing_of name) name)
-past-same Blocks Data = refl
-past-same _ Data = refl
-past-same _ _ = refl
 
 -- a symbol may stand there, after others or at the beginning: lines begin with no fence
 abbrev pub may_show : Bool → Content → Symbol → Bool
@@ -96,13 +81,6 @@ holds_patterns earlier content (Solid symbol usual reading) name =
     (content_of name content)) (roles_for earlier usual))
 holds_patterns earlier content _ name = true
 
-pub patterns-hold : (earlier : Bool) (content : Content) (name : Name) →
-    holds_patterns earlier content (standing_of name) name ≡ true
-patterns-hold true Blocks Data = refl
-patterns-hold _ Blocks Data = refl
-patterns-hold _ _ Data = refl
-patterns-hold _ _ _ = refl
-
 -- what a name says, by how it stands
 pub record Behaves (standing : Standing) (name : Name) : Type 0 where
   pub through : is_transparent name ≡ is_through standing
@@ -114,9 +92,4 @@ pub record Behaves (standing : Standing) (name : Name) : Type 0 where
       holds_patterns earlier content standing name ≡ true
 
 pub behaves : (name : Name) → Behaves (standing_of name) name
-behaves name = record {
-  through = transparent name;
-  may = λ content. stand-same content name;
-  past = λ content. past-same content name;
-  patterns = λ earlier content. patterns-hold earlier content name;
-}
+behaves name = grind (arith, transparent)

@@ -1,6 +1,5 @@
 -- What may follow the first symbol of a group: a claim about each tail, by its first symbol.
-use Rattle.std.proofs.Common.{◌≡◌, inl, inr, ℕ, Bool, true, false, List, [], ◌∷◌, ◌++◌, replicate}
-use Rattle.std.proofs.Common.{refl, sym, subst}
+use Rattle.std.proofs.Common.{arith, ◌≡◌, ℕ, Bool, true, false, List, [], ◌∷◌, ◌++◌, replicate}
 use Rattle.md_pattern.specs.declared.kinds.Symbol.{Symbol}
 use Rattle.md_pattern.specs.declared.kinds.Symbol.TheVariants as symbol_variants
 use symbol_variants.{ReferenceMarker, ReferenceNumeric, ReferenceHexadecimal, ReferenceValue}
@@ -20,12 +19,4 @@ pub each-tail : (Holds : Symbol → List Symbol → Type 0) →
     ((endings : ℕ) → Holds SetextText (replicate endings LineEnding ++ SetextUnderline ∷ [])) →
     ((first : Symbol) → is_lone first ≡ true → Holds first []) →
     (first : Symbol) (tail : List Symbol) → IsTail first tail → Holds first tail
-each-tail Holds one two three heading lone ReferenceMarker tail is = elim is [
-  | inl e ↦ subst (Holds ReferenceMarker) (sym e) one
-  | inr (inl e) ↦ subst (Holds ReferenceMarker) (sym e) two
-  | inr (inr e) ↦ subst (Holds ReferenceMarker) (sym e) three
-]
-each-tail Holds one two three heading lone SetextText tail is =
-    subst (Holds SetextText) (sym is.1) (heading is.0)
-each-tail Holds one two three heading lone first tail is =
-    subst (Holds first) (sym is) (lone first refl)
+each-tail Holds one two three heading lone first tail is = grind arith

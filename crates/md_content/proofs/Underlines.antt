@@ -2,13 +2,9 @@
 -- printed at its underline is printed once.
 use Rattle.std.proofs.Common.{arith, ◌≡◌, ℕ, zero, suc, Bool, true, false, ◌&&◌, cond, List, []}
 use Rattle.std.proofs.Common.{◌∷◌, ◌++◌, refl, sym, ap, subst, ◌∙◌, Option, None}
-use Rattle.std.specs.Prelude.{replicate, map}
+use Rattle.std.specs.Prelude.{replicate}
 use Rattle.std.specs.List.{list_all}
-use Rattle.std.proofs.lemmas.Bool.{and_parts, and_from}
-use Rattle.md_base.proofs.Lies.{lie}
 use Rattle.md_base.specs.declared.event.Name.{Name}
-use Rattle.md_base.specs.declared.event.Name.TheVariants as name_variants
-use name_variants.{HeadingSetextUnderlineSequence, SpaceOrTab}
 use Rattle.md_base.specs.Tree.{Forest, Empty, Node}
 use Rattle.md_base.specs.NameTests.{is_transparent}
 use Rattle.md_base.specs.Children.{spine_names}
@@ -18,17 +14,16 @@ use Rattle.md_pattern.specs.declared.kinds.Symbol.TheVariants.{SetextUnderline, 
 use Rattle.md_pattern.specs.declared.kinds.Role.{Role}
 use Rattle.md_pattern.specs.declared.kinds.Role.TheVariants as role
 use Rattle.md_pattern.specs.Standing.{standing_of}
-use Rattle.md_pattern.specs.Pattern.{Fits, pattern_of}
 use Rattle.md_pattern.specs.Spine.{spine, shown, IsTail, IsGrouped, Matches}
 use Rattle.md_pattern.specs.Shape.{AreShaped, IsStanding, inner_role}
 use Rattle.md_tree.specs.Grammar.{IsGrammatical}
 use Rattle.md_content.specs.Underlined.{is_underline, waits_past, waits_after, IsUnderlined}
 use Rattle.md_content.proofs.SymbolNames.{is_through, transparent}
-use Rattle.md_content.proofs.Tails.{is_lone, each-tail}
-use Rattle.md_content.proofs.Stands.{Stand, stands, spine-stands, names-stand, none_left}
+use Rattle.md_content.proofs.Tails.{each-tail}
+use Rattle.md_content.proofs.Stands.{spine-stands, names-stand, none_left}
 use Rattle.md_pattern.specs.declared.kinds.Standing.{Standing}
 use Rattle.md_pattern.specs.declared.kinds.Standing.TheVariants.{Through, Space, Solid, Mdx}
-use Rattle.md_content.proofs.Letters.{letters, fits-all}
+use Rattle.md_content.proofs.Letters.{fits-all}
 
 -- a heading waits for its underline, after a symbol
 abbrev pub next_waits : Bool → Symbol → Bool
@@ -52,10 +47,7 @@ waits_after_symbols waits (s ∷ symbols) = waits_after_symbols (next_waits wait
 pub underlined-split : (waits : Bool) (xs ys : List Symbol) → underlined waits (xs ++ ys) ≡ true →
     (underlined waits xs ≡ true) × (underlined (waits_after_symbols waits xs) ys ≡ true)
 underlined-split waits [] ys h = (refl, h)
-underlined-split waits (x ∷ xs) ys h =
-    let parts = and_parts _ _ h in
-    let later = underlined-split (next_waits waits x) xs ys parts.1 in
-    (and_from _ _ parts.0 later.0, later.1)
+underlined-split waits (x ∷ xs) ys h = grind (arith, underlined-split (next_waits waits x) xs)
 
 pub waits-append : (waits : Bool) (xs ys : List Symbol) →
     waits_after_symbols waits (xs ++ ys) ≡ waits_after_symbols (waits_after_symbols waits xs) ys
@@ -74,37 +66,19 @@ no_underline _ = true
 tail-underlined : (others : List Symbol) → ((waits : Bool) → underlined waits others ≡ true) →
     (first : Symbol) (tail : List Symbol) → IsTail first tail → no_underline first ≡ true →
     (waits : Bool) → underlined waits (first ∷ tail ++ others) ≡ true
-tail-underlined others h =
-    each-tail (λ first tail. no_underline first ≡ true → (waits : Bool) →
-    underlined waits (first ∷ tail ++ others) ≡ true)
-    (λ may waits. h false) (λ may waits. h false) (λ may waits. h false)
-    (λ endings may waits. endings-underlined endings others (h false)) alone
-  where
-    alone : (first : Symbol) → is_lone first ≡ true → no_underline first ≡ true → (waits : Bool) →
-        underlined waits (first ∷ others) ≡ true
-    alone SetextText lone may waits = lie lone
-    alone SetextUnderline lone may waits = lie may
-    alone LineEnding lone may waits = h waits
-    alone _ lone may waits = h false
+tail-underlined others h = grind (arith, each-tail, endings-underlined)
 
 grouped-underlined : (firsts spine : List Symbol) → IsGrouped firsts spine →
     list_all no_underline firsts ≡ true →
     (waits : Bool) → underlined waits spine ≡ true
 grouped-underlined [] spine g h waits = subst (λ s. underlined waits s ≡ true) (sym g) refl
 grouped-underlined (first ∷ firsts) spine g h waits =
-    let parts = and_parts _ _ h in
-    subst (λ s. underlined waits s ≡ true) (sym g.2)
-    (tail-underlined g.1 (grouped-underlined firsts g.1 g.4 parts.1) first g.0 g.3 parts.0 waits)
-
-role-no_underline : (r : Role) → letters no_underline (pattern_of r) ≡ true
-role-no_underline role.Flow = refl
-role-no_underline _ = refl
+    grind (arith, tail-underlined, grouped-underlined firsts)
 
 -- on each spine of the grammar underlines stand after their headings
 pub matches-underlined : (r : Role) (spine : List Symbol) → Matches r spine → (waits : Bool) →
     underlined waits spine ≡ true
-matches-underlined r spine m waits = grouped-underlined m.0 spine m.1
-    (fits-all no_underline (pattern_of r) m.0 m.2 (role-no_underline r)) waits
+matches-underlined r spine m waits = grind (arith, grouped-underlined, fits-all)
 
 -- a heading waits after a node as after what it shows
 node-waits :
@@ -113,8 +87,7 @@ node-waits :
     waits_after waits children ≡ waits_after_symbols waits (spine children)
     → cond (is_transparent name) (waits_after waits children) (waits_past waits name)
     ≡ waits_after_symbols waits (shown (standing_of name) (spine children))
-node-waits SpaceOrTab children around before waits is same = ap (λ f. waits_after waits f) is
-node-waits _ children around before waits is same = grind arith
+node-waits name children around before waits is same = grind arith
 
 -- and after some nodes as after their spine
 same-waits : (forest : Forest) (around : Role) (before : Option Symbol) (waits : Bool) →
@@ -128,33 +101,13 @@ same-waits (Node name start end children rest) around before waits all =
       waits-append,
     ) refl
 
--- on an empty spine there are no names
-no-names : (forest : Forest) (around : Role) (before : Option Symbol) →
-    AreShaped forest around before → spine forest ≡ [] → spine_names forest ≡ []
-no-names forest around before all h = names-stand forest around before all
-    ∙ ap (map (λ (node : Stand). node.name))
-    (none_left (stands forest) (sym (spine-stands forest) ∙ h))
-
--- nothing stands in an underline
-empty-spine : (spine : List Symbol) → Matches role.Empty spine → spine ≡ []
-empty-spine spine m = by m.0 m.2 m.1
-  where
-    by : (firsts : List Symbol) → Fits (pattern_of role.Empty) firsts →
-        IsGrouped firsts spine → spine ≡ []
-    by [] fit is = is
-    by (first ∷ firsts) fit is = absurd (cc fit)
-
 awaited : (name : Name) (children : Forest) (around inner : Role)
     (before first : Option Symbol) (waits : Bool) →
     IsStanding (standing_of name) around before children → AreShaped children inner first →
     underlined waits (shown (standing_of name) (spine children)) ≡ true → is_underline name ≡ true
     → (waits ≡ true) × (spine_names children ≡ [])
-awaited HeadingSetextUnderlineSequence children around inner before first waits
-    is all h underline = (
-      (and_parts _ _ h).0,
-      no-names children inner first all (empty-spine (spine children) is),
-    )
-awaited _ children around inner before first waits is all h underline = lie underline
+awaited name children around inner before first waits is all h underline =
+    grind (arith, names-stand, none_left, spine-stands)
 
 -- the spine below a node
 below-underlined :

@@ -1,11 +1,9 @@
 -- If strings are read alike, nodes that consist only of strings have the same meaning.
-use Rattle.std.proofs.Common.{◌≡◌, ℕ, Bool, true, ◌&&◌, ◌||◌, List, [], ◌∷◌, ◌++◌}
-use Rattle.std.proofs.Common.{Option, refl, ap, sym, ◌∙◌}
+use Rattle.std.proofs.Common.{◌≡◌, Bool, true, ◌&&◌, ◌||◌, List, [], ◌∷◌, ◌++◌, Option, refl, ap}
+use Rattle.std.proofs.Common.{◌∙◌, arith}
 use Rattle.std.specs.Prelude.{if◌then◌else◌}
 use Rattle.md_base.specs.declared.event.Name.{Name}
-use Rattle.md_base.specs.declared.event.Name.TheVariants.{Data}
 use Rattle.md_base.specs.declared.event.Position.{Position}
-use Rattle.std.proofs.lemmas.Bool.{and_from}
 use Rattle.md_base.specs.Tree.{Forest, Empty, Node}
 use Rattle.md_base.specs.Children.{is_empty, spine_names}
 use Rattle.md_base.specs.NameTests.{is_transparent}
@@ -18,11 +16,10 @@ use Rattle.md_meaning.specs.Meaning.At.{Context, At, Before, Found}
 use Rattle.md_meaning.specs.Meaning.Before.{before_children}
 use Rattle.md_meaning.specs.Meaning.Means.{prints}
 use Rattle.md_meaning.specs.Meaning.Nodes.{outcome, found_at}
-use Rattle.md_steps.specs.Content.{Content, Blocks, Fits, is_string}
-use Rattle.md_steps.specs.Content.{is_code_data, is_source, is_allowed}
+use Rattle.md_steps.specs.Content.{Content, Fits, is_string, is_code_data, is_source, is_allowed}
 use Rattle.md_steps.specs.Content.{content_inside, content_after_node}
 use Rattle.md_steps.specs.Claim.{at_node, inner_of, next_before}
-use Rattle.md_steps.proofs.Standing.{implies, follows, picked, allowed-facts, is_callless}
+use Rattle.md_steps.proofs.Standing.{follows, picked, allowed-facts, is_callless}
 use Rattle.md_steps.proofs.Staying.{node-same}
 use Rattle.md_steps.proofs.Quiet.{past-callless, defines-inside}
 
@@ -30,15 +27,9 @@ use Rattle.md_steps.proofs.Quiet.{past-callless, defines-inside}
 abbrev pub is_plain : Name → Bool
 is_plain name = is_transparent name || (is_string name || (is_code_data name || is_source name))
 
-plain-names : (c : Content) (n : Name) →
-    implies (is_callless c && is_allowed c n) (is_plain n) ≡ true
-plain-names Blocks Data = refl
-plain-names _ Data = refl
-plain-names _ _ = refl
-
 pub plain : (c : Content) (n : Name) → is_callless c ≡ true → is_allowed c n ≡ true →
     is_plain n ≡ true
-plain c n h k = follows (is_callless c && is_allowed c n) _ (plain-names c n) (and_from _ _ h k)
+plain c n h k = grind (arith, follows)
 
 -- two places in which strings are read alike
 pub record Alike (a b : Surroundings) (x y : Before) : Type 0 where
@@ -49,34 +40,12 @@ pub record Alike (a b : Surroundings) (x y : Before) : Type 0 where
   pub spine : x.spine ≡ y.spine
   pub previous : x.previous ≡ y.previous
 
--- of what is read of the surroundings only the same is read inside
-inside-read : (options : CompileOptions) (loose : Bool) (name : Name) (a b : Surroundings) →
-    let read : Surroundings =
-    record b { is_escaping = a.is_escaping; in_code = a.in_code } in
-    ((inside options loose name a).is_escaping ≡ (inside options loose name read).is_escaping)
-    × ((inside options loose name a).in_code ≡ (inside options loose name read).in_code)
-inside-read options loose Data a b = (refl, refl)
-inside-read options loose _ a b = (refl, refl)
-
 alike-inside : (options : CompileOptions) (name : Name) (children : Forest)
     (a b : Surroundings) (x y : Before) →
     Alike a b x y →
     Alike (inside options (is_loose children) name a) (inside options (is_loose children) name b)
     (before_children name children x) (before_children name children y)
-alike-inside options name children a b x y h =
-    let loose = is_loose children in
-    let read = inside-read options loose name a b in
-    let same : record b { is_escaping = a.is_escaping; in_code = a.in_code } ≡ b =
-    ap (λ e. record b { is_escaping = e; in_code = a.in_code }) h.escaping
-    ∙ ap (λ e. record b { in_code = e }) h.code in
-    record {
-      escaping = read.0 ∙ ap (λ s. (inside options loose name s).is_escaping) same;
-      code = read.1 ∙ ap (λ s. (inside options loose name s).in_code) same;
-      one = defines-inside options loose name a h.one;
-      other = defines-inside options loose name b h.other;
-      spine = ap (λ l. if is_transparent name then l else []) h.spine;
-      previous = refl;
-    }
+alike-inside options name children a b x y h = grind (arith, defines-inside)
 
 -- a place in a definition, with all that strings read of one
 abbrev read_at : Position → Surroundings → List Name → Option Name → Found → At → At
@@ -91,51 +60,16 @@ read_at place around spine previous found at = record at {
   found = found;
 }
 
-prints-read : (context : Context) (name : Name) (place : Position) (around : Surroundings)
-    (spine : List Name) (previous : Option Name) (found : Found) (at other : At)
-    (p : List Piece) →
-    (if is_plain name then prints context (read_at place around spine previous found at) name p
-    else prints context (read_at place around spine previous found other) name p)
-    ≡ prints context (read_at place around spine previous found other) name p
-prints-read context Data place around spine previous found at other p = refl
-prints-read context _ place around spine previous found at other p = refl
-
-found-read : (name : Name) (at other : At) (text : List ℕ) →
-    found_at at name text ≡ found_at (record other { found = at.found }) name text
-found-read Data at other text = refl
-found-read _ at other text = refl
-
-defined : (at : At) → at.around.in_definition ≡ true →
-    read_at at.place at.around at.before.spine at.before.previous at.found at ≡ at
-defined at h = ap (λ d. record at { around = record at.around { in_definition = d } }) (sym h)
-
 module _ (context : Context) (at other : At) (place : at.place ≡ other.place)
     (alike : Alike at.around other.around at.before other.before) (p q : List Piece)
     (same : p ≡ q) where
-  other-read : (found : at.found ≡ other.found) →
-      read_at at.place at.around at.before.spine at.before.previous at.found other
-      ≡ read_at other.place other.around other.before.spine other.before.previous other.found other
-  other-read found =
-      let escaping = alike.escaping in
-      let code = alike.code in
-      let spine = alike.spine in
-      let previous = alike.previous in
-      cc
-
   prints-alike : (name : Name) → is_plain name ≡ true → at.found ≡ other.found →
       prints context at name p ≡ prints context other name q
-  prints-alike name h found =
-      ap (λ a. prints context a name p) (sym (defined at alike.one))
-      ∙ picked (is_plain name) _ _ (prints-read context name at.place at.around at.before.spine
-      at.before.previous at.found at other p) h
-      ∙ ap (λ a. prints context a name p) (other-read found ∙ defined other alike.other)
-      ∙ ap (λ l. prints context other name l) same
+  prints-alike name h found = grind (arith, picked)
 
   found-alike : (name : Name) → at.found ≡ other.found →
       found_at at name (layout context.ending p) ≡ found_at other name (layout context.ending q)
-  found-alike name found = found-read name at other (layout context.ending p)
-      ∙ ap (λ f. found_at (record other { found = f }) name (layout context.ending p)) found
-      ∙ ap (λ l. found_at other name (layout context.ending l)) same
+  found-alike name found = grind arith
 
 pub outcomes-alike :
     (context : Context) (a b : Surroundings) (x y : Before) (c : Content) (forest : Forest) →

@@ -1,7 +1,6 @@
 -- A node's captured text and the one around it, and how the surroundings come back.
 use Rattle.std.proofs.Common.{arith, ◌≡◌, ℕ, Bool, true, false, not, ◌&&◌, List, [], ◌∷◌, Option}
-use Rattle.std.proofs.Common.{refl, ap}
-use Rattle.std.proofs.Common.{◌∙◌}
+use Rattle.std.proofs.Common.{refl, ap, ◌∙◌}
 use Rattle.std.specs.Prelude.{if◌then◌else◌}
 use Rattle.std.proofs.lemmas.Bool.{and_from, and_parts}
 use Rattle.md_base.specs.declared.event.Name.{Name}
@@ -13,9 +12,8 @@ use Rattle.md_base.specs.Is.{is}
 use Rattle.md_meaning.specs.Meaning.Layout.{Piece, laid_after, layout}
 use Rattle.md_meaning.specs.Meaning.At.{Context}
 use Rattle.md_steps.specs.Content.{Content, content_inside}
-use Rattle.md_steps.specs.State.{State, NodeFacts, Scope, captures}
+use Rattle.md_steps.specs.State.{State, NodeFacts, Scope, captures, outside}
 use Rattle.md_steps.specs.Sides.{closes}
-use Rattle.md_steps.specs.State.{outside}
 use Rattle.md_steps.specs.Steps.{first_or, others_of}
 use Rattle.md_steps.specs.Claim.{is_laid}
 use Rattle.md_steps.proofs.Standing.{is_set_aside, implies, follows, Facts}

@@ -1,7 +1,6 @@
 -- Each document of the grammar fits: the content of each place allows its nodes.
-use Rattle.std.proofs.Common.{◌≡◌, Bool, true, ◌||◌, Option, Some, None, List, []}
-use Rattle.std.proofs.Common.{◌∷◌, ◌++◌}
-use Rattle.std.proofs.Common.{refl, sym, ap, ◌∙◌, subst, if◌then◌else◌}
+use Rattle.std.proofs.Common.{◌≡◌, Bool, true, ◌||◌, Option, None, List, [], ◌∷◌, ◌++◌, refl, sym}
+use Rattle.std.proofs.Common.{ap, ◌∙◌, subst, if◌then◌else◌, arith}
 use Rattle.std.proofs.lemmas.Bool.{not_from_false, false_from_ne_true, and_parts, and_from}
 use Rattle.md_base.specs.declared.event.Name.{Name}
 use Rattle.md_base.specs.Tree.{Forest, Empty, Node}
@@ -15,34 +14,16 @@ use Rattle.md_pattern.specs.declared.kinds.Standing.TheVariants.{Through, Space,
 use Rattle.md_pattern.specs.Standing.{standing_of}
 use Rattle.md_pattern.specs.Spine.{spine, shown}
 use Rattle.md_pattern.specs.Shape.{AreShaped, IsStanding, role_for, inner_role, IsShaped}
-use Rattle.md_steps.specs.Content.{Content, Blocks, Spans, Parts, Fits}
-use Rattle.md_steps.specs.Content.{is_childless, may_stand, content_of, content_inside}
-use Rattle.md_steps.specs.Content.{content_past, content_after, content_after_node}
+use Rattle.md_steps.specs.Content.{Content, Blocks, Fits, is_childless, may_stand, content_of}
+use Rattle.md_steps.specs.Content.{content_inside, content_past, content_after, content_after_node}
 use Rattle.md_content.proofs.SymbolNames.{is_through, name_for, transparent}
-use Rattle.md_steps.proofs.ContentSymbols.{admits, group_of, group_in, may-same}
-use Rattle.md_steps.proofs.ContentSymbols.{group-same}
+use Rattle.md_steps.proofs.ContentSymbols.{admits, group_of, group_in, may-same, group-same}
 use Rattle.md_steps.proofs.Staying.{node-same, past-as}
 use Rattle.md_steps.proofs.RoleContents.{matches-admitted}
 
--- the role that a name has in its place is of the group of its usual one
-groups : (around : Role) (before : Option Symbol) →
-    (group_of (role_for around before role.Item) ≡ Blocks)
-    × (group_of (role_for around before role.Prefix) ≡ Parts)
-    × (group_of (role_for around before role.Label) ≡ Spans)
-groups role.OrderedList None = (refl, refl, refl)
-groups role.OrderedList (Some s) = (refl, refl, refl)
-groups _ before = (refl, refl, refl)
-
 role-group : (around : Role) (before : Option Symbol) (usual : Role) →
     group_of (role_for around before usual) ≡ group_of usual
-role-group around before role.Item = (groups around before).0
-role-group around before role.Prefix = (groups around before).1
-role-group around before role.Label = (groups around before).2
-role-group around None role.CodeFence = refl
-role-group around (Some s) role.CodeFence = refl
-role-group around None role.MathFence = refl
-role-group around (Some s) role.MathFence = refl
-role-group around before usual = refl
+role-group around before usual = grind arith
 
 -- ---- a run of symbols
 abbrev run : Content → List Symbol → Content
@@ -59,31 +40,14 @@ admits-split : (content : Content) (symbols others : List Symbol) →
     (admits content symbols ≡ true) × (admits (run content symbols) others ≡ true)
 admits-split content [] others h = (refl, h)
 admits-split content (seen ∷ symbols) others h =
-    let parts = and_parts _ _ h in
-    let rest = admits-split (content_past content) symbols others parts.1 in (
-      and_from _ _ parts.0 rest.0,
-      rest.1,
-    )
-
-node_after :
-    (standing : Standing) (children : Forest) (around : Role) (before : Option Symbol)
-    (content : Content) → IsStanding standing around before children →
-    content_after content children ≡ run content (spine children) →
-    (if is_through standing then content_after content children else content_past content)
-    ≡ run content (shown standing (spine children))
-node_after Through children around before content stands again = again
-node_after Space children around before content stands again = ap (content_after content) stands
-node_after (Solid seen usual reading) children around before content stands again = refl
-node_after Mdx children around before content stands again = absurd stands
+    grind (arith, admits-split (content_past content) symbols)
 
 after_node : (name : Name) (children : Forest) (around : Role) (before : Option Symbol)
     (content : Content) → IsStanding (standing_of name) around before children →
     content_after content children ≡ run content (spine children) →
     content_after_node content name children
     ≡ run content (shown (standing_of name) (spine children))
-after_node name children around before content stands again =
-    ap (λ t. if t then content_after content children else content_past content) (transparent name)
-    ∙ node_after (standing_of name) children around before content stands again
+after_node name children around before content stands again = grind (arith, transparent)
 
 after_spine : (forest : Forest) (around : Role) (before : Option Symbol) (content : Content) →
     AreShaped forest around before → content_after content forest ≡ run content (spine forest)
@@ -119,12 +83,7 @@ spot : (standing : Standing) (name : Name) (children : Forest) (around : Role)
 spot Through name children around before content others may group stands childless h =
     let whole = admits-split content (spine children) others h in
     record { stands = refl; inside = whole.0; childless = childless; after = whole.1 }
-spot Space name children around before content others may group stands childless h = record {
-  stands = refl;
-  inside = ap (λ f. admits content (spine f)) stands;
-  childless = λ c. refl;
-  after = h;
-}
+spot Space name children around before content others may group stands childless h = grind arith
 spot (Solid seen usual reading) name children around before content others may group stands
     childless h =
     let parts = and_parts _ _ h in

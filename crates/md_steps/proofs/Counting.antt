@@ -1,6 +1,6 @@
 -- What is counted where a node is left, and the mark of a reference: cells, fences and chunks.
-use Rattle.std.proofs.Common.{◌≡◌, ℕ, ◌+◌, Bool, true, false, not, ◌||◌, cond, List, [], ◌∷◌, ◌++◌}
-use Rattle.std.proofs.Common.{refl, ap, sym, ◌∙◌, arith}
+use Rattle.std.proofs.Common.{◌≡◌, ℕ, ◌+◌, Bool, true, false, ◌||◌, cond, List, [], ◌∷◌, ◌++◌, ap}
+use Rattle.std.proofs.Common.{sym, ◌∙◌, arith}
 use Rattle.std.specs.Prelude.{if◌then◌else◌, count_by}
 use Rattle.std.specs.Option.{option_map_or}
 use Rattle.std.specs.List.{list_any}
@@ -8,17 +8,15 @@ use Rattle.std.proofs.lemmas.List.Sums.{sum_by-append}
 use Rattle.std.proofs.lemmas.List.Folds.{list_any-append}
 use Rattle.md_base.specs.declared.event.Name.{Name}
 use Rattle.md_base.specs.declared.event.Name.TheVariants as name_variants
-use name_variants.{SpaceOrTab, BlockQuotePrefix, Other, GfmTableCell}
+use name_variants.{GfmTableCell}
 use Rattle.std.proofs.lemmas.Bool.{cond-false}
-use Rattle.md_base.proofs.Lies.{lie}
 use Rattle.md_base.specs.Is.{is}
 use Rattle.md_base.specs.Children.{spine_names}
 use Rattle.md_base.specs.Tree.{Forest}
 use Rattle.md_base.specs.NameTests.{is_transparent, is_fence, is_chunk, is_cell}
 use Rattle.md_meaning.specs.Meaning.Spans.{marker}
 use Rattle.md_content.proofs.LastNames.{last-got, last-push}
-use Rattle.md_steps.specs.Content.{Content, Lines, Cells, content_inside, content_past}
-use Rattle.md_steps.specs.Content.{content_after, content_after_node}
+use Rattle.md_steps.specs.Content.{Content, content_inside, content_after, content_after_node}
 use Rattle.md_steps.specs.Steps.{cells_after, is_row, is_raw}
 use Rattle.md_steps.specs.Claim.{KnowsCells, KnowsLines, has_marks, mark_after, keeps_cells}
 use Rattle.md_steps.specs.Claim.{keeps_lines}
@@ -36,10 +34,7 @@ pub marker-after : (c : Content) (name : Name) (spine : List Name) (children : F
     has_marks (content_after_node c name children) ≡ true →
     (if is_transparent name then inner else marker name)
     ≡ mark_after (spine ++ (if is_transparent name then spine_names children else name ∷ []))
-marker-after c SpaceOrTab spine children inner k h = k h
-marker-after c BlockQuotePrefix spine children inner k h = k h
-marker-after c (Other number) spine children inner k h = k h
-marker-after c name spine children inner k h = sym (mark-push spine name)
+marker-after c name spine children inner k h = grind (arith, mark-push)
 
 -- ---- cells
 count-push : (p : Name → Bool) (xs : List Name) (x : Name) →
@@ -49,18 +44,7 @@ count-push p xs x = omega (arith, sum_by-append (λ y. cond (p y) 1 0) xs (x ∷
 in_row : (name : Name) (spine : List Name) (start inner : ℕ) → is_cell name ≡ true →
     start ≡ count_by (is GfmTableCell) spine → inner ≡ start →
     cells_after name inner ≡ count_by (is GfmTableCell) (spine ++ name ∷ [])
-in_row GfmTableCell spine start inner h k keep =
-    ap (λ n. n + 1) (keep ∙ k) ∙ sym (count-push (is GfmTableCell) spine GfmTableCell)
-in_row _ spine start inner h k keep = lie h
-
-in-cells : (c : Content) (name : Name) (spine : List Name) (start inner : ℕ) → Facts c name →
-    is_transparent name ≡ false → KnowsCells c spine start →
-    (keeps_cells (content_inside c name) ≡ true → inner ≡ (if is_row name then 0 else start)) →
-    KnowsCells (content_past c) (spine ++ name ∷ []) (cells_after name inner)
-in-cells Cells name spine start inner facts solid k keep =
-    let f = facts.in_cells (ap (λ t. not t) solid) in
-    in_row name spine start inner f.2 k (keep f.0 ∙ cond-false (is_row name) 0 start f.1)
-in-cells _ name spine start inner facts solid k keep = tt
+in_row name spine start inner h k keep = grind (arith, count-push)
 
 pub cells-known :
     (c : Content) (name : Name) (spine : List Name) (children : Forest) (start inner : ℕ) →
@@ -71,22 +55,12 @@ pub cells-known :
     KnowsCells (content_after_node c name children)
     (spine ++ (if is_transparent name then spine_names children else name ∷ []))
     (cells_after name inner)
-cells-known c SpaceOrTab spine children start inner facts k known keep = known
-cells-known c BlockQuotePrefix spine children start inner facts k known keep = known
-cells-known c (Other number) spine children start inner facts k known keep = known
-cells-known c name spine children start inner facts k known keep =
-    in-cells c name spine start inner facts refl k keep
-
-no-cell : (name : Name) (inner : ℕ) → is_cell name ≡ false → cells_after name inner ≡ inner
-no-cell GfmTableCell inner h = lie (sym h)
-no-cell _ inner h = refl
+cells-known c name spine children start inner facts k known keep = grind (arith, in_row, cond-false)
 
 pub cells-kept : (c : Content) (name : Name) (start inner : ℕ) → Facts c name →
     (keeps_cells (content_inside c name) ≡ true → inner ≡ (if is_row name then 0 else start)) →
     keeps_cells c ≡ true → cells_after name inner ≡ start
-cells-kept c name start inner facts keep h =
-    let f = facts.cells h in
-    no-cell name inner f.2 ∙ keep f.0 ∙ cond-false (is_row name) 0 start f.1
+cells-kept c name start inner facts keep h = grind (arith, cond-false)
 
 -- ---- fences and chunks
 abbrev fences_after : Name → ℕ → ℕ
@@ -99,24 +73,6 @@ chunk-push : (p : Name → Bool) (xs : List Name) (x : Name) →
     list_any p (xs ++ x ∷ []) ≡ p x || list_any p xs
 chunk-push p xs x = grind (arith, list_any-append p xs (x ∷ []))
 
-in-lines : (c : Content) (name : Name) (spine : List Name) (fences inner : ℕ)
-    (chunk within : Bool) → Facts c name →
-    is_transparent name ≡ false → KnowsLines c spine fences chunk →
-    (keeps_lines (content_inside c name) ≡ true → inner ≡ (if is_raw name then 0 else fences)) →
-    (keeps_lines (content_inside c name) ≡ true → within ≡ (if is_raw name then false else chunk)) →
-    KnowsLines (content_past c) (spine ++ name ∷ []) (fences_after name inner)
-    (is_chunk name || within)
-in-lines Lines name spine fences inner chunk within facts solid k keep keeps =
-    let f = facts.in_lines (ap (λ t. not t) solid) in (
-      ap (λ n. fences_after name n) (keep f.0 ∙ cond-false (is_raw name) 0 fences f.1 ∙ k.0)
-          ∙ plus_if (is_fence name) (count_by is_fence spine)
-          ∙ sym (count-push is_fence spine name),
-      ap (λ b. is_chunk name || b) (keeps f.0 ∙ cond-false (is_raw name) false chunk f.1 ∙ k.1)
-          ∙ sym (chunk-push
-          is_chunk spine name),
-    )
-in-lines _ name spine fences inner chunk within facts solid k keep keeps = tt
-
 pub lines-known : (c : Content) (name : Name) (spine : List Name) (children : Forest)
     (fences inner : ℕ) (chunk within : Bool) → Facts c name → KnowsLines c spine fences chunk →
     KnowsLines (content_after (content_inside c name) children)
@@ -126,25 +82,15 @@ pub lines-known : (c : Content) (name : Name) (spine : List Name) (children : Fo
     KnowsLines (content_after_node c name children)
     (spine ++ (if is_transparent name then spine_names children else name ∷ []))
     (fences_after name inner) (is_chunk name || within)
-lines-known c SpaceOrTab spine children fences inner chunk within facts k known keep keeps = known
-lines-known c BlockQuotePrefix spine children fences inner chunk within facts k known keep keeps =
-    known
-lines-known c (Other number) spine children fences inner chunk within facts k known keep keeps =
-    known
 lines-known c name spine children fences inner chunk within facts k known keep keeps =
-    in-lines c name spine fences inner chunk within facts refl k keep keeps
+    grind (arith, cond-false, plus_if, count-push, chunk-push)
 
 pub fences-kept : (c : Content) (name : Name) (fences inner : ℕ) → Facts c name →
     (keeps_lines (content_inside c name) ≡ true → inner ≡ (if is_raw name then 0 else fences)) →
     keeps_lines c ≡ true → fences_after name inner ≡ fences
-fences-kept c name fences inner facts keep h =
-    let f = facts.lines h in
-    cond-false (is_fence name) (inner + 1) inner f.2 ∙ keep f.0 ∙ cond-false (is_raw name) 0 fences
-    f.1
+fences-kept c name fences inner facts keep h = grind arith
 
 pub chunk-kept : (c : Content) (name : Name) (chunk within : Bool) → Facts c name →
     (keeps_lines (content_inside c name) ≡ true → within ≡ (if is_raw name then false else chunk)) →
     keeps_lines c ≡ true → is_chunk name || within ≡ chunk
-chunk-kept c name chunk within facts keeps h =
-    let f = facts.lines h in
-    ap (λ b. b || within) f.3 ∙ keeps f.0 ∙ cond-false (is_raw name) false chunk f.1
+chunk-kept c name chunk within facts keeps h = grind arith

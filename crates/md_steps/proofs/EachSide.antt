@@ -1,8 +1,7 @@
 -- What a state knows of a node where it is left, and what is printed at the two ends of nodes whose
 -- ends look at more than the node.
-use Rattle.std.proofs.Common.{◌≡◌, ℕ, ◌==◌, Bool, true, false, not, ◌&&◌, List, []}
-use Rattle.std.proofs.Common.{◌∷◌, ◌++◌, Option, Some, None, refl, ap, sym, ◌∙◌, append_assoc}
-use Rattle.std.proofs.Common.{arith, codes, cond}
+use Rattle.std.proofs.Common.{◌≡◌, ℕ, ◌==◌, Bool, true, false, not, ◌&&◌, List, [], ◌∷◌, ◌++◌}
+use Rattle.std.proofs.Common.{Option, Some, None, refl, append_assoc, arith, codes, cond}
 use Rattle.std.proofs.lemmas.List.Sums.{sum_by-cons}
 use Rattle.std.specs.Prelude.{count_by, unwrap_or}
 use Rattle.std.specs.Option.{option_map_or}
@@ -15,13 +14,12 @@ use Rattle.md_base.specs.Children.{spine_names, last_name}
 use Rattle.md_base.specs.NameTests.{is_transparent, is_fence, is_chunk, is_cell, is_call}
 use Rattle.md_meaning.specs.Meaning.Layout.{Piece, said, when}
 use Rattle.md_meaning.specs.Meaning.At.{Context, At, identifier_of}
-use Rattle.md_meaning.specs.Meaning.Media.{leads_to, target_defined}
+use Rattle.md_meaning.specs.Meaning.Media.{leads_to}
 use Rattle.md_tree.specs.declared.mention.Referral.TheVariants.{Missing}
 use Rattle.md_tree.specs.Rules.{target_of}
 use Rattle.md_meaning.specs.Meaning.Before.{is_first_fence}
 use Rattle.md_meaning.specs.Meaning.Tables.{cell_of}
-use Rattle.md_meaning.specs.Meaning.Footnotes.{call, distinct}
-use Rattle.md_meaning.specs.Meaning.Footnotes.{place_among}
+use Rattle.md_meaning.specs.Meaning.Footnotes.{call}
 use Rattle.md_content.specs.Underlined.{is_underline}
 use Rattle.md_steps.specs.State.{State, NodeFacts, facts_of, is_resource}
 use Rattle.md_steps.specs.Steps.{is_value, is_ending, is_raw, is_row, is_labelled}
@@ -80,8 +78,7 @@ pub fence-sides : (at : At) (left : State) (inner : List Piece) →
     left.fences ≡ count_by is_fence at.before.spine →
     inner ++ when (is_first_fence at) (said (codes ">"))
     ≡ inner ++ when (left.fences == 0) (said (codes ">"))
-fence-sides at left inner fences = ap (λ b. inner ++ when b (said (codes ">")))
-    (sym (ap (λ n. n == 0) fences ∙ none-counted is_fence at.before.spine))
+fence-sides at left inner fences = grind (arith, none-counted)
 
 pub call-sides : (context : Context) (at : At) (left : State) → at.calls ≡ left.calls →
     (later : List (List ℕ)) →
@@ -89,19 +86,10 @@ pub call-sides : (context : Context) (at : At) (left : State) → at.calls ≡ l
     call context at ≡ call_closing context (record left
     { scope = seen at.around at.before.columns })
     (facts_at context at)
-call-sides context at left calls later whole =
-    let id : List ℕ = identifier_of context.bytes at.children in
-    rw (ap (λ l. place_among (distinct l) id) whole ∙ place-so-far at.calls id later, calls) refl
+call-sides context at left calls later whole = grind (arith, place-so-far)
 
 -- a resource that the meaning found, or the definition to which the node refers
 pub led-sides : (context : Context) (at : At) →
     (at.found.resource ≡ None → is_resource (target_of at.children Missing) ≡ false) →
     leads_to context at ≡ unwrap_or at.found.resource (referred context (facts_at context at))
-led-sides context at refers =
-    elim at.found.resource as (λ o.
-    (o ≡ None → is_resource (target_of at.children Missing) ≡ false) →
-    unwrap_or o (target_defined context (identifier_of context.bytes at.children))
-    ≡ unwrap_or o (referred context (facts_at context at))) [
-      | None ↦ λ h. rw (h refl) refl
-      | Some target ↦ λ h. refl
-    ] refers
+led-sides context at refers = grind arith

@@ -1,12 +1,11 @@
 -- What some nodes and those after them contain: the target of a link or an image.
-use Rattle.std.proofs.Common.{◌≡◌, Bool, true, false, Option, refl, ap, sym, subst, ◌∙◌, unwrap_or}
+use Rattle.std.proofs.Common.{◌≡◌, Bool, true, false, Option, refl, ap, sym, ◌∙◌, arith}
 use Rattle.md_base.specs.declared.event.Name.{Name}
-use Rattle.md_base.proofs.Lies.{lie}
 use Rattle.md_base.specs.Tree.{Forest}
 use Rattle.md_base.specs.Children.{or_else}
 use Rattle.md_meaning.specs.Meaning.At.{Target, Found}
-use Rattle.md_steps.specs.Content.{Content, Strings, BeforeLabel, AfterLabel, Sources, Nothing}
-use Rattle.md_steps.specs.Content.{Childless, content_after_node}
+use Rattle.md_steps.specs.Content.{Content, Strings, BeforeLabel, AfterLabel, Nothing, Childless}
+use Rattle.md_steps.specs.Content.{content_after_node}
 use Rattle.md_steps.specs.Claim.{TargetAfter, ResourceAfter}
 use Rattle.md_steps.proofs.Past.{or_else-assoc, unwrap-else}
 use Rattle.md_steps.proofs.Staying.{node-same, past-as, node-stays}
@@ -16,9 +15,7 @@ is_media c = elim c [ BeforeLabel ↦ true | AfterLabel ↦ true | _ ↦ false ]
 
 media-after : (c : Content) (found : Found) (one other : Option Target) → is_media c ≡ true →
     ResourceAfter c found one other → other ≡ or_else found.resource one
-media-after BeforeLabel found one other h k = k
-media-after AfterLabel found one other h k = k
-media-after _ found one other h k = lie h
+media-after c found one other h k = grind arith
 
 -- what two findings give together
 abbrev pub both_found : Found → Found → Found
@@ -33,34 +30,16 @@ pub target-both : (c : Content) (name : Name) (children : Forest) (one two : Fou
     (a b d : Target) →
     TargetAfter c one a b → TargetAfter (content_after_node c name children) two b d →
     TargetAfter c (both_found one two) a d
-target-both Strings name children one two a b d k l =
-    subst (λ c. TargetAfter c two b d) (node-stays Strings name children refl) l ∙ k
-target-both Nothing name children one two a b d k l =
-    subst (λ c. TargetAfter c two b d) (node-stays Nothing name children refl) l ∙ k
-target-both Childless name children one two a b d k l =
-    subst (λ c. TargetAfter c two b d) (node-stays Childless name children refl) l ∙ k
-target-both Sources name children one two a b d k l =
-    rw (
-      unwrap-else two.destination one.destination a.destination,
-      or_else-assoc two.title one.title a.title,
-    )
-    (subst (λ c. TargetAfter c two b d) (node-stays Sources name children refl) l
-    ∙ ap (λ (t : Target). record {
-      destination = unwrap_or two.destination t.destination;
-      title = or_else two.title t.title;
-    }) k)
-target-both _ name children one two a b d k l = tt
+target-both c name children one two a b d k l =
+    grind (arith, node-stays, unwrap-else, or_else-assoc)
 
 pub resource-both : (c : Content) (name : Name) (children : Forest) (one two : Found)
     (a b d : Option Target) →
     ResourceAfter c one a b → ResourceAfter (content_after_node c name children) two b d →
     ResourceAfter c (both_found one two) a d
-resource-both Strings name children one two a b d k l =
-    subst (λ c. ResourceAfter c two b d) (node-stays Strings name children refl) l ∙ k
-resource-both Nothing name children one two a b d k l =
-    subst (λ c. ResourceAfter c two b d) (node-stays Nothing name children refl) l ∙ k
-resource-both Childless name children one two a b d k l =
-    subst (λ c. ResourceAfter c two b d) (node-stays Childless name children refl) l ∙ k
+resource-both Strings name children one two a b d k l = grind (arith, node-stays)
+resource-both Nothing name children one two a b d k l = grind (arith, node-stays)
+resource-both Childless name children one two a b d k l = grind (arith, node-stays)
 resource-both BeforeLabel name children one two a b d k l =
     media-after (content_after_node BeforeLabel name children) two b d
     (node-same is_media (past-as is_media refl) BeforeLabel name children) l

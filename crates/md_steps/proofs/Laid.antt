@@ -1,5 +1,5 @@
 -- Pieces are laid out in parts, and a captured text on its own.
-use Rattle.std.proofs.Common.{◌≡◌, ℕ, List, [], ◌∷◌, ◌++◌, refl, sym, ◌∙◌}
+use Rattle.std.proofs.Common.{◌≡◌, ℕ, List, [], ◌∷◌, ◌++◌, refl, arith}
 use Rattle.std.specs.Prelude.{if◌then◌else◌}
 use Rattle.md_meaning.specs.Meaning.Layout.{Piece, Text, Needed, Forced, laid_after, begins_line}
 
@@ -15,5 +15,4 @@ laid-append ending text (Forced ∷ xs) ys = laid-append ending (text ++ ending)
 pub three : (ending text : List ℕ) (xs ys zs : List Piece) →
     laid_after ending (laid_after ending (laid_after ending text xs) ys) zs
     ≡ laid_after ending text (xs ++ (ys ++ zs))
-three ending text xs ys zs = sym (laid-append ending text xs (ys ++ zs)
-    ∙ laid-append ending (laid_after ending text xs) ys zs)
+three ending text xs ys zs = grind (arith, laid-append)

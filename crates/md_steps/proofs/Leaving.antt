@@ -1,13 +1,10 @@
 -- The other parts of a state where a node is left: headings, calls, footnotes, endings to slurp.
 use Rattle.std.proofs.Common.{arith, ◌≡◌, ℕ, ◌==◌, Bool, true, false, ◌&&◌, ◌||◌, List, [], ◌∷◌}
-use Rattle.std.proofs.Common.{◌++◌}
-use Rattle.std.proofs.Common.{refl, ap, sym, ◌∙◌, append_assoc, append-nil, unwrap_or}
+use Rattle.std.proofs.Common.{◌++◌, refl, ap, ◌∙◌, append_assoc, append-nil, unwrap_or}
 use Rattle.std.specs.Prelude.{if◌then◌else◌, count_by}
 use Rattle.md_base.specs.declared.event.Name.{Name}
 use Rattle.md_base.specs.declared.event.Name.TheVariants as name_variants
-use name_variants.{LineEnding, SpaceOrTab, BlockQuotePrefix, Other, HeadingSetextText}
-use name_variants.{GfmFootnoteCall, GfmFootnoteDefinition}
-use Rattle.md_base.proofs.Lies.{lie}
+use name_variants.{LineEnding, HeadingSetextText, GfmFootnoteCall, GfmFootnoteDefinition}
 use Rattle.md_base.specs.Is.{is}
 use Rattle.md_base.specs.NameTests.{is_transparent, is_fence}
 use Rattle.md_meaning.specs.Meaning.Layout.{when}
@@ -16,7 +13,7 @@ use Rattle.md_meaning.specs.Meaning.Before.{is_first_fence, lets_slurp}
 use Rattle.md_meaning.specs.Meaning.Nodes.{found_at}
 use Rattle.md_content.specs.Underlined.{waits_past}
 use Rattle.md_steps.specs.State.{State}
-use Rattle.md_steps.specs.Steps.{heading_after, calls_after, noted, footnotes_after, slurps_after}
+use Rattle.md_steps.specs.Steps.{heading_after, calls_after, footnotes_after, slurps_after}
 use Rattle.md_steps.specs.Claim.{noted_all, seen}
 use Rattle.md_steps.proofs.Noted.{noted-append}
 use Rattle.md_steps.proofs.EachSide.{none-counted}
@@ -29,34 +26,22 @@ pub heading-known : (name : Name) (at : At) (waits after : Bool) (inner text hea
     (is LineEnding name ≡ true → waits ≡ true → heading ≡ at.before.heading) →
     (if is_transparent name then after else waits_past waits name) ≡ true →
     heading_after name inner heading ≡ unwrap_or (found_at at name text).heading at.before.heading
-heading-known SpaceOrTab at waits after inner text heading own through line h = through refl h
-heading-known BlockQuotePrefix at waits after inner text heading own through line h = through refl h
-heading-known (Other number) at waits after inner text heading own through line h = through refl h
-heading-known HeadingSetextText at waits after inner text heading own through line h = own refl
-heading-known LineEnding at waits after inner text heading own through line h = line refl h
-heading-known _ at waits after inner text heading own through line h = lie h
+heading-known name at waits after inner text heading own through line h = grind arith
 
 -- ---- calls and footnotes
 pub calls-known : (name : Name) (identifier : List ℕ) (before own inner : List (List ℕ)) →
     inner ≡ before ++ own →
     calls_after name identifier inner
     ≡ before ++ (own ++ when (is GfmFootnoteCall name) (identifier ∷ []))
-calls-known GfmFootnoteCall identifier before own inner k =
-    ap (λ l. l ++ identifier ∷ []) k ∙ append_assoc before own (identifier ∷ [])
-calls-known _ identifier before own inner k = k ∙ ap (λ l. before ++ l) (sym (append-nil own))
+calls-known name identifier before own inner k = grind (arith, append_assoc, append-nil)
 
 pub footnotes-known :
     (name : Name) (identifier text captured : List ℕ) (before own inner : List Footnote) →
     (is GfmFootnoteDefinition name ≡ true → captured ≡ text) → inner ≡ noted_all before own →
     footnotes_after name identifier captured inner ≡ noted_all before (own
     ++ when (is GfmFootnoteDefinition name) (record { identifier = identifier; text = text } ∷ []))
-footnotes-known GfmFootnoteDefinition identifier text captured before own inner same k =
-    ap (λ l. noted l (record { identifier = identifier; text = captured })) k
-    ∙ sym (noted-append before own (record { identifier = identifier; text = captured } ∷ []))
-    ∙ ap (λ t. noted_all before (own ++ record { identifier = identifier; text = t } ∷ []))
-    (same refl)
-footnotes-known _ identifier text captured before own inner same k =
-    k ∙ ap (λ l. noted_all before l) (sym (append-nil own))
+footnotes-known name identifier text captured before own inner same k =
+    grind (arith, noted-append, append-nil)
 
 -- ---- whether the next line ending is slurped
 
@@ -91,11 +76,7 @@ SlurpsSo defines code slurps name at left =
 
 slurps-so : (defines code slurps : Bool) (name : Name) (at : At) (left : State) →
     SlurpsSo defines code slurps name at left
-slurps-so true true true LineEnding at left = refl
-slurps-so _ true true LineEnding at left = refl
-slurps-so _ _ true LineEnding at left = refl
-slurps-so _ _ _ LineEnding at left = refl
-slurps-so _ _ _ _ at left = refl
+slurps-so defines code slurps name at left = grind arith
 
 pub slurps-known : (name : Name) (at : At) (left : State) (inner : Bool) → left.slurps ≡ inner →
     (is_fence name ≡ true → left.fences ≡ count_by is_fence at.before.spine) →

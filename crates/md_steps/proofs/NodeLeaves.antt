@@ -1,6 +1,6 @@
 -- What is known of a node where it is left.
-use Rattle.std.proofs.Common.{◌≡◌, ℕ, Bool, true, false, List, [], ◌∷◌, ◌++◌, Option}
-use Rattle.std.proofs.Common.{None, refl, ap, sym, subst, ◌∙◌}
+use Rattle.std.proofs.Common.{◌≡◌, ℕ, Bool, true, false, List, [], ◌∷◌, ◌++◌, Option, None, refl}
+use Rattle.std.proofs.Common.{ap, sym, subst, ◌∙◌, arith}
 use Rattle.std.specs.Prelude.{if◌then◌else◌, count_by}
 use Rattle.std.specs.List.{list_any}
 use Rattle.std.proofs.lemmas.Bool.{and_parts, not-true}
@@ -19,12 +19,10 @@ use Rattle.md_meaning.specs.Meaning.Layout.{laid_after}
 use Rattle.md_meaning.specs.Meaning.At.{Context, Before, identifier_of}
 use Rattle.md_meaning.specs.Meaning.Before.{before_children}
 use Rattle.md_content.specs.Underlined.{is_underline, waits_past, waits_after}
-use Rattle.md_steps.specs.Content.{Content, Lines, BeforeLabel, Cells, Nothing, Childless, Fits}
-use Rattle.md_steps.specs.Content.{is_allowed}
+use Rattle.md_steps.specs.Content.{Content, Lines, BeforeLabel, Cells, Childless, Fits, is_allowed}
 use Rattle.md_steps.specs.Content.{content_inside, content_after, content_after_node}
 use Rattle.md_steps.specs.State.{State, facts_of}
-use Rattle.md_steps.specs.Steps.{entered, restored, is_raw, is_row, is_ending}
-use Rattle.md_steps.specs.Steps.{is_labelled}
+use Rattle.md_steps.specs.Steps.{entered, restored, is_raw, is_row, is_ending, is_labelled}
 use Rattle.md_steps.specs.Claim.{Knows, KnowsEnded, KnowsCells, KnowsLines, TargetAfter}
 use Rattle.md_steps.specs.Claim.{ResourceAfter, Done, noted_all, has_marks, keeps_cells}
 use Rattle.md_steps.specs.Claim.{keeps_lines, is_laid, at_node, node_of, inner_of, next_before}
@@ -106,9 +104,7 @@ cell-is _ h = lie h
 
 marks_at : (c : Content) (name : Name) → Facts c name → is_transparent name ≡ false →
     has_marks c ≡ true
-marks_at Nothing name facts solid = lie (sym solid ∙ facts.nothing refl)
-marks_at Childless name facts solid = lie (sym solid ∙ facts.nothing refl)
-marks_at _ name facts solid = refl
+marks_at c name facts solid = grind arith
 
 -- ---- the content of a node that passes a test, computed for all names
 abbrev Told : Content → Name → Type 0
@@ -149,20 +145,7 @@ raw_known : (context : Context) (waits : Bool) (c : Content) (name : Name) (arou
     (s.fences ≡ count_by is_fence (spine_names children))
     × (s.has_chunk ≡ list_any is_chunk (spine_names children)) × (s.ended ≡ last_name children)
 raw_known context waits c name around first children s raw none before k =
-    let same : content_after (content_inside c name) children ≡ Lines =
-    ap (λ c. content_after c children) (picked (is_raw name) _ Lines (told c name).3 raw)
-    ∙ stays Lines children refl in
-    let spine = (past context around first children).spine ∙ ap (λ l. l ++ spine_names children)
-    none
-    in
-    let lines = rw (same, spine) at k.lines in
-    let ended = rw same at k.ended in (
-      lines.0,
-      lines.1,
-      ended ∙ (past context around first children).previous
-          ∙ ap (λ o. or_else (last_name children) o) before
-          ∙ or_else-none (last_name children),
-    )
+    grind (arith, picked, told, stays, past, or_else-none)
 
 call-own : (name : Name) (identifier : List ℕ) →
     (if is_call name then own_call name identifier else identifier ∷ []) ≡ identifier ∷ []

@@ -20,11 +20,9 @@ use Rattle.md_meaning.specs.Meaning.Nodes.{Outcome}
 use Rattle.md_content.specs.Underlined.{waits_after}
 use Rattle.md_steps.specs.Content.{Content, Nothing, Childless, Fits, content_of}
 use Rattle.md_steps.specs.Content.{content_inside, content_after, content_after_node}
-use Rattle.md_steps.specs.State.{State, NodeFacts, facts_of}
-use Rattle.md_steps.specs.Steps.{exited, restored}
-use Rattle.md_steps.specs.State.{captures, opens_scope, scope_inside}
+use Rattle.md_steps.specs.State.{State, NodeFacts, facts_of, captures, opens_scope, scope_inside}
+use Rattle.md_steps.specs.Steps.{exited, restored, slurps_after, heading_after, is_value}
 use Rattle.md_steps.specs.Sides.{opens, closes}
-use Rattle.md_steps.specs.Steps.{slurps_after, heading_after, is_value}
 use Rattle.md_meaning.specs.Meaning.Spans.{marker}
 use Rattle.md_steps.specs.Claim.{KnowsCells, KnowsLines, has_marks, mark_after, at_node}
 use Rattle.md_steps.specs.Claim.{inner_of, seen}

@@ -1,10 +1,8 @@
 -- The first footnote with each identifier is kept, and no other one is read.
-use Rattle.std.proofs.Common.{arith, ◌≡◌, ℕ, true, false, List, [], ◌∷◌, ◌++◌, Option}
-use Rattle.std.proofs.Common.{refl, ap, sym, ◌∙◌, append-nil, bytes_eq}
+use Rattle.std.proofs.Common.{arith, ◌≡◌, ℕ, true, false, List, [], ◌∷◌, ◌++◌, Option, refl, ap}
+use Rattle.std.proofs.Common.{sym, ◌∙◌, append-nil, bytes_eq}
 use Rattle.std.specs.Prelude.{if◌then◌else◌, find}
-use Rattle.std.specs.List.{flat_map}
 use Rattle.md_meaning.specs.Meaning.At.{Footnote, Context}
-use Rattle.md_meaning.specs.Meaning.Footnotes.{distinct, item}
 use Rattle.md_meaning.specs.Meaning.Footnotes.{section}
 use Rattle.md_meaning.proofs.Identifiers.{same}
 use Rattle.md_steps.specs.Steps.{noted}
@@ -45,17 +43,6 @@ pub found-all : (xs ys : List Footnote) (q : List ℕ) →
 found-all xs [] q = ap (λ l. first_with l q) (sym (append-nil xs))
 found-all xs (y ∷ ys) q = found-all (noted xs y) ys q ∙ found-noted xs y ys q
 
--- the section reads of the footnotes only the first with each identifier
-items-same : (context : Context) (xs ys : List Footnote) →
-    ((q : List ℕ) → first_with xs q ≡ first_with ys q) →
-    (identifiers : List (List ℕ)) →
-    flat_map (item context xs) identifiers ≡ flat_map (item context ys) identifiers
-items-same context xs ys found [] = refl
-items-same context xs ys found (identifier ∷ identifiers) =
-    rw (found identifier, items-same context xs ys found identifiers) refl
-
 pub section-noted : (context : Context) (footnotes : List Footnote) →
     section context (noted_all [] footnotes) ≡ section context footnotes
-section-noted context footnotes =
-    rw (items-same context (noted_all [] footnotes) footnotes (λ q. found-all [] footnotes q)
-    (distinct context.calls)) refl
+section-noted context footnotes = grind (arith, found-all)

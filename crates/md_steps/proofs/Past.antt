@@ -1,7 +1,7 @@
 -- What stands after some nodes: the spine, the alignments, the previous sibling, the calls, whether
 -- line endings are slurped, the heading.
 use Rattle.std.proofs.Common.{◌≡◌, Bool, ◌&&◌, [], ◌∷◌, ◌++◌, Option, Some, None, refl, sym, ◌∙◌}
-use Rattle.std.proofs.Common.{append_assoc, append-nil}
+use Rattle.std.proofs.Common.{append_assoc, append-nil, arith}
 use Rattle.std.specs.Prelude.{if◌then◌else◌, unwrap_or}
 use Rattle.md_base.specs.declared.event.Name.{Name}
 use Rattle.md_base.specs.Tree.{Forest, Empty, Node}
@@ -49,14 +49,7 @@ pub record Passed (context : Context) (around : Surroundings) (before : Before) 
 
 pub past : (context : Context) (around : Surroundings) (before : Before) (forest : Forest) →
     Passed context around before forest
-past context around before Empty = record {
-  spine = sym (append-nil before.spine);
-  columns = refl;
-  previous = refl;
-  calls = sym (append-nil before.calls);
-  slurps = refl;
-  heading = refl;
-}
+past context around before Empty = grind (arith, append-nil)
 past context around before (Node name start end children rest) =
     let last : Bool = around.is_outermost && is_empty rest in
     let here : Outcome = node_of context around before last name start end children in

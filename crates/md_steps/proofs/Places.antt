@@ -1,7 +1,6 @@
 -- A call's number is its place among the calls so far: later ones don't change it.
 use Rattle.std.proofs.Common.{arith, ◌≡◌, ℕ, Bool, true, false, not, ◌||◌, List, [], ◌∷◌, ◌++◌}
-use Rattle.std.proofs.Common.{refl}
-use Rattle.std.proofs.Common.{ap, sym, ◌∙◌, bytes_eq, filter}
+use Rattle.std.proofs.Common.{refl, ap, ◌∙◌, bytes_eq, filter}
 use Rattle.std.specs.List.{list_any}
 use Rattle.std.proofs.lemmas.Slice.Eq.{bytes_eq-Decides}
 use Rattle.std.proofs.lemmas.Bool.{or_right}
@@ -42,24 +41,14 @@ filter-keeps : (p : Identifier → Bool) (xs : List Identifier) (x : Identifier)
     among xs x ≡ true → p x ≡ true →
     among (filter p xs) x ≡ true
 filter-keeps p [] x h k = lie h
-filter-keeps p (y ∷ xs) x h k =
-    let passes : bytes_eq y x ≡ true → p y ≡ true =
-    λ e. ap p ((bytes_eq-Decides y x).0 e) ∙ k in
-    grind (arith, passes, filter-keeps p xs x)
+filter-keeps p (y ∷ xs) x h k = grind (arith, bytes_eq-Decides, filter-keeps p xs)
 
 -- what is among some is among the distinct ones
 distinct-has : (xs : List Identifier) (x : Identifier) → among xs x ≡ true →
     among (distinct xs) x ≡ true
 distinct-has [] x h = lie h
 distinct-has (y ∷ xs) x h =
-    grind (arith, distinct-has xs x, filter-keeps (is_other y) (distinct xs) x, other)
-  where
-    other : bytes_eq y x ≡ false → is_other y x ≡ true
-    other e = elim (bytes_eq x y) as (λ b. bytes_eq x y ≡ b → not b ≡ true) [
-      | true ↦ λ f.
-          lie (sym e ∙ (ap (λ z. bytes_eq z x) (sym ((bytes_eq-Decides x y).0 f)) ∙ same-self x))
-      | false ↦ λ f. refl
-    ] refl
+    grind (arith, filter-keeps, bytes_eq-Decides, same-self, distinct-has xs)
 
 last-among : (xs : List Identifier) (x : Identifier) → among (xs ++ x ∷ []) x ≡ true
 last-among [] x = ap (λ b. b || false) (same-self x)

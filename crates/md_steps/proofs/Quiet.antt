@@ -1,14 +1,12 @@
 -- Where nothing is printed, called or noted, and where no line ending is slurped anew.
-use Rattle.std.proofs.Common.{◌≡◌, Bool, true, false, not, arith, ◌&&◌, cond, List, [], ◌∷◌, ◌++◌}
-use Rattle.std.proofs.Common.{refl, ap, subst, ◌∙◌}
+use Rattle.std.proofs.Common.{◌≡◌, Bool, true, false, not, arith, ◌&&◌, List, [], ◌∷◌, ◌++◌, refl}
+use Rattle.std.proofs.Common.{ap, ◌∙◌}
 use Rattle.std.specs.Prelude.{if◌then◌else◌}
-use Rattle.std.proofs.lemmas.Bool.{and_parts, not-true}
+use Rattle.std.proofs.lemmas.Bool.{not-true}
 use Rattle.md_base.specs.declared.event.Name.{Name}
 use Rattle.md_base.specs.declared.event.Name.TheVariants as name_variants
-use name_variants.{Data, SpaceOrTab, BlockQuotePrefix, Other, Definition, GfmFootnoteCall}
-use name_variants.{GfmFootnoteDefinition}
+use name_variants.{Data, Definition, GfmFootnoteCall, GfmFootnoteDefinition}
 use Rattle.md_base.specs.declared.event.Point.{Point}
-use Rattle.md_base.proofs.Lies.{lie}
 use Rattle.md_base.specs.Is.{is}
 use Rattle.md_base.specs.Tree.{Forest, Empty, Node}
 use Rattle.md_base.specs.Children.{is_empty}
@@ -21,8 +19,7 @@ use Rattle.md_meaning.specs.Meaning.Layout.{when}
 use Rattle.md_meaning.specs.Meaning.At.{Context, Before}
 use Rattle.md_meaning.specs.Meaning.Before.{before_children}
 use Rattle.md_meaning.specs.Meaning.Nodes.{outcome}
-use Rattle.md_steps.specs.Content.{Content, Blocks, Fits, is_allowed, content_of}
-use Rattle.md_steps.specs.Content.{content_inside}
+use Rattle.md_steps.specs.Content.{Content, Blocks, Fits, is_allowed, content_of, content_inside}
 use Rattle.md_steps.specs.Content.{content_past, content_after_node}
 use Rattle.md_steps.specs.Claim.{inner_of, node_of, next_before}
 use Rattle.md_steps.proofs.Standing.{allowed-facts, is_callless, is_nothing, is_quiet, implies}
@@ -37,10 +34,7 @@ prints-through : (context : Context) (around : Surroundings) (before : Before) (
     (name : Name) (start end : Point) (children : Forest) → is_transparent name ≡ true →
     (node_of context around before last name start end children).pieces
     ≡ (inner_of context around before name children).pieces
-prints-through context around before last SpaceOrTab start end children h = refl
-prints-through context around before last BlockQuotePrefix start end children h = refl
-prints-through context around before last (Other number) start end children h = refl
-prints-through context around before last _ start end children h = lie h
+prints-through context around before last name start end children h = grind arith
 
 silent : (context : Context) (around : Surroundings) (before : Before) (c : Content)
     (forest : Forest) → is_nothing c ≡ true → Fits c forest →
@@ -67,13 +61,7 @@ pub quiet : (context : Context) (around : Surroundings) (before : Before) (c : C
     (name : Name)
     (children : Forest) →
     Says context around before c name children
-quiet context around before c name children fits h =
-    let parts = and_parts _ _ h in
-    let own : content_inside c name ≡ content_of name =
-    ap (λ t. cond t c (content_of name)) (not-true (is_transparent name) parts.1) in
-    silent context (inside context.options (is_loose children) name around)
-    (before_children name children before) (content_of name) children parts.0
-    (subst (λ content. Fits content children) own fits)
+quiet context around before c name children fits h = grind (arith, not-true, silent)
 
 -- ---- no call and no footnote
 

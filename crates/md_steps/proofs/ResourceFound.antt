@@ -1,12 +1,7 @@
 -- If the grammar finds a resource in a node, the meaning has found its target.
 use Rattle.std.proofs.Common.{arith, ◌≡◌, ℕ, Bool, true, false, ◌&&◌, List, Option, Some, None}
-use Rattle.std.proofs.Common.{refl, ap}
-use Rattle.std.proofs.Common.{sym, ◌∙◌}
+use Rattle.std.proofs.Common.{refl, ap, sym, ◌∙◌}
 use Rattle.md_base.specs.declared.event.Name.{Name}
-use Rattle.md_base.specs.declared.event.Name.TheVariants as name_variants
-use name_variants.{BlockQuotePrefix, Other, GfmFootnoteDefinitionPrefix}
-use name_variants.{Label}
-use name_variants.{Resource}
 use Rattle.md_base.specs.declared.event.Position.{Position}
 use Rattle.md_base.specs.Children.{is_empty, or_else}
 use Rattle.md_base.specs.NameTests.{is_transparent}
@@ -15,18 +10,15 @@ use Rattle.md_base.proofs.Lies.{lie}
 use Rattle.md_pattern.specs.Looseness.{is_loose}
 use Rattle.md_pattern.specs.Standing.{standing_of}
 use Rattle.md_tree.specs.declared.mention.Referral.{Referral}
-use Rattle.md_tree.specs.declared.mention.Referral.TheVariants.{Missing}
 use Rattle.md_tree.specs.Rules.{place, target_of, target_after}
 use Rattle.md_meaning.specs.declared.surroundings.Surroundings.{Surroundings}
 use Rattle.md_meaning.specs.Meaning.Inherited.{inside}
-use Rattle.md_meaning.specs.Meaning.At.{Context, Found, At, Before, Target}
+use Rattle.md_meaning.specs.Meaning.At.{Context, Found, At, Before}
 use Rattle.md_meaning.specs.Meaning.Before.{before_children}
 use Rattle.md_meaning.specs.Meaning.Layout.{layout}
 use Rattle.md_meaning.specs.Meaning.Nodes.{Outcome, outcome, found_at}
-use Rattle.md_steps.specs.Content.{Content, Blocks}
-use Rattle.md_steps.specs.Content.{BeforeLabel, AfterLabel}
-use Rattle.md_steps.specs.Content.{Fits, is_allowed, content_inside, content_past}
-use Rattle.md_steps.specs.Content.{content_after_node}
+use Rattle.md_steps.specs.Content.{Content, BeforeLabel, AfterLabel, Fits, is_allowed}
+use Rattle.md_steps.specs.Content.{content_inside, content_past, content_after_node}
 use Rattle.md_steps.specs.State.{is_resource}
 use Rattle.md_steps.specs.Claim.{at_node, inner_of, next_before}
 use Rattle.md_steps.proofs.Staying.{node-stays}
@@ -39,22 +31,13 @@ past-same : (c : Content) → refers c ≡ false → content_past c ≡ c
 past-same BeforeLabel h = lie (sym h)
 past-same _ h = refl
 
-none-stands : (c : Content) → refers c ≡ false → is_allowed c Resource ≡ true → false ≡ true
-none-stands Blocks h k = k
-none-stands _ h k = grind arith
-
 -- a name that doesn't leave a resource
 step-none : (c : Content) (name : Name) (found : Referral) (inner : Referral → Referral)
     (at : Position) → is_allowed c name ≡ true → refers c ≡ false →
     (refers (content_inside c name) ≡ false → (f : Referral) → is_resource f ≡ false →
     is_resource (inner f) ≡ false) → is_resource found ≡ false →
     is_resource (target_after (standing_of name) found inner at) ≡ false
-step-none c BlockQuotePrefix found inner at may h own k = own h found k
-step-none c (Other number) found inner at may h own k = own h found k
-step-none c Label found inner at may h own k = own refl Missing refl
-step-none c GfmFootnoteDefinitionPrefix found inner at may h own k = own refl Missing refl
-step-none c Resource found inner at may h own k = lie (none-stands c h may)
-step-none c _ found inner at may h own k = grind (arith, k)
+step-none c name found inner at may h own k = grind arith
 
 -- no resource is found where none may stand
 none-found : (c : Content) (forest : Forest) → refers c ≡ false → Fits c forest →
@@ -81,19 +64,7 @@ step-lost : (c : Content) (name : Name) (at : At) (text : List ℕ) (found : Ref
     is_resource (inner f) ≡ false) →
     (found_at at name text).resource ≡ None → is_resource found ≡ false →
     is_resource (target_after (standing_of name) found inner where_it_is) ≡ false
-step-lost c BlockQuotePrefix at text found inner where_it_is through own lost k =
-    through refl lost found k
-step-lost c (Other number) at text found inner where_it_is through own lost k =
-    through refl lost found k
-step-lost c Label at text found inner where_it_is through own lost k = own refl Missing refl
-step-lost c GfmFootnoteDefinitionPrefix at text found inner where_it_is through own lost k =
-    own refl Missing refl
-step-lost c Resource at text found inner where_it_is through own lost k = some lost
-  where
-    some : {t : Target} → Some t ≡ None → is_resource (target_after (standing_of Resource) found
-        inner where_it_is) ≡ false
-    some e = cc
-step-lost c _ at text found inner where_it_is through own lost k = grind (arith, k)
+step-lost c name at text found inner where_it_is through own lost k = grind arith
 
 pub resource-found : (context : Context) (around : Surroundings) (before : Before) (c : Content)
     (forest : Forest) → Fits c forest →

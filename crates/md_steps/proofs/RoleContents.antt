@@ -1,13 +1,11 @@
 -- What matches the pattern of a role may stand in what its group of names is.
-use Rattle.std.proofs.Common.{◌≡◌, ℕ, zero, suc, true, List, [], ◌∷◌, ◌++◌, refl}
-use Rattle.std.proofs.Common.{sym, ap, ◌∙◌, subst, replicate}
+use Rattle.std.proofs.Common.{◌≡◌, ℕ, zero, suc, true, List, [], ◌∷◌, ◌++◌, refl, sym, ap, ◌∙◌}
+use Rattle.std.proofs.Common.{subst, replicate, arith}
 use Rattle.std.specs.List.{list_all}
 use Rattle.std.proofs.lemmas.Bool.{and_parts, and_from}
-use Rattle.md_base.proofs.Lies.{lie}
 use Rattle.md_pattern.specs.declared.kinds.Symbol.{Symbol}
 use Rattle.md_pattern.specs.declared.kinds.Symbol.TheVariants as symbol_variants
-use symbol_variants.{ReferenceMarker, ReferenceNumeric, ReferenceHexadecimal, ReferenceValue}
-use symbol_variants.{SetextText, SetextUnderline, LineEnding, Label}
+use symbol_variants.{SetextUnderline, LineEnding, Label}
 use Rattle.md_pattern.specs.declared.kinds.Item.{Item}
 use Rattle.md_pattern.specs.declared.kinds.Item.TheVariants.{Once}
 use Rattle.md_pattern.specs.declared.kinds.Role.{Role}
@@ -18,9 +16,7 @@ use Rattle.md_pattern.specs.Spine.{IsTail, IsGrouped, Matches}
 use Rattle.md_content.proofs.Letters.{letters, fits-all, grouped-all}
 use Rattle.md_content.proofs.LoneSymbols.{once-is, follows}
 use Rattle.md_content.proofs.Tails.{each-tail}
-use Rattle.md_steps.specs.Content.{Content, Blocks, Spans, Strings}
-use Rattle.md_steps.specs.Content.{BeforeLabel, AfterLabel}
-use Rattle.md_steps.specs.Content.{content_past}
+use Rattle.md_steps.specs.Content.{Content, Blocks, BeforeLabel, AfterLabel, content_past}
 use Rattle.md_steps.proofs.ContentSymbols.{may_show, admits, group_of}
 
 -- ---- what may stand after a symbol of a group may stand there
@@ -29,37 +25,16 @@ endings-show : (endings : ℕ) →
 endings-show zero = refl
 endings-show (suc endings) = endings-show endings
 
-heading-shows : (content : Content) (endings : ℕ) → may_show content SetextText ≡ true →
-    list_all (may_show content) (replicate endings LineEnding ++ SetextUnderline ∷ []) ≡ true
-heading-shows Blocks endings h = endings-show endings
-heading-shows _ endings h = lie h
-
-marker-shows : (content : Content) → may_show content ReferenceMarker ≡ true →
-    (list_all (may_show content) (ReferenceValue ∷ []) ≡ true)
-    × (list_all (may_show content) (ReferenceNumeric ∷ ReferenceValue ∷ []) ≡ true)
-    × (list_all (may_show content) (ReferenceNumeric ∷ ReferenceHexadecimal ∷ ReferenceValue ∷ [])
-    ≡ true)
-marker-shows Blocks h = (refl, refl, refl)
-marker-shows Spans h = (refl, refl, refl)
-marker-shows Strings h = (refl, refl, refl)
-marker-shows _ h = lie h
-
 tail-shows : (content : Content) (first : Symbol) (tail : List Symbol) →
     may_show content first ≡ true →
     IsTail first tail → list_all (may_show content) tail ≡ true
-tail-shows content first tail h is =
-    each-tail (λ first tail. may_show content first ≡ true →
-    list_all (may_show content) tail ≡ true) (λ h. (marker-shows content h).0)
-    (λ h. (marker-shows content h).1) (λ h. (marker-shows content h).2) (heading-shows content)
-    (λ first lone h. refl) first tail is h
+tail-shows content first tail h is = grind (arith, each-tail, endings-show)
 
 -- ---- what matches a role's pattern may stand in what its group is
 all-show : (content : Content) (usual : Role) (symbols : List Symbol) → Matches usual symbols →
     letters (may_show content) (pattern_of usual) ≡ true →
     list_all (may_show content) symbols ≡ true
-all-show content usual symbols match h =
-    grouped-all (may_show content) (tail-shows content) match.0 symbols match.1
-    (fits-all (may_show content) (pattern_of usual) match.0 match.2 h)
+all-show content usual symbols match h = grind (arith, grouped-all, tail-shows, fits-all)
 
 admits-all : (content : Content) (symbols : List Symbol) → content_past content ≡ content →
     list_all (may_show content) symbols ≡ true → admits content symbols ≡ true

@@ -20,8 +20,7 @@ use Rattle.md_meaning.specs.Meaning.Before.{before_children, nothing_before}
 use Rattle.md_meaning.specs.Meaning.Nodes.{Outcome, outcome}
 use Rattle.md_content.specs.Underlined.{waits_past, waits_after, IsUnderlined}
 use Rattle.md_steps.specs.Content.{Content, Blocks, Strings, BeforeLabel, AfterLabel, Sources}
-use Rattle.md_steps.specs.Content.{Nothing, Childless, Fits, content_inside}
-use Rattle.md_steps.specs.Content.{content_after_node}
+use Rattle.md_steps.specs.Content.{Nothing, Childless, Fits, content_inside, content_after_node}
 use Rattle.md_steps.specs.State.{State, NodeFacts, facts_of}
 use Rattle.md_steps.specs.Steps.{entered, exited, over, passed, is_passed, beginning}
 use Rattle.md_steps.specs.Claim.{Knows, TargetAfter, ResourceAfter, Continues, Done, noted_all}

@@ -1,16 +1,14 @@
 -- What is printed at a node's two ends is what the node means, and its surroundings change as those
 -- of the meaning. For most names both sides compute to the same, once the facts in the state are
 -- substituted.
-use Rattle.std.proofs.Common.{arith, ◌≡◌, ℕ, ◌==◌, Bool, true, false, not, ◌||◌, List, [], ◌∷◌}
-use Rattle.std.proofs.Common.{◌++◌}
-use Rattle.std.proofs.Common.{Option, refl, ap, sym, ◌∙◌, append-nil, codes}
-use Rattle.std.specs.Prelude.{if◌then◌else◌, count_by, slice_get}
+use Rattle.std.proofs.Common.{arith, ◌≡◌, ℕ, Bool, true, false, not, ◌||◌, List, [], ◌∷◌, ◌++◌}
+use Rattle.std.proofs.Common.{Option, ap, sym, ◌∙◌, append-nil}
+use Rattle.std.specs.Prelude.{if◌then◌else◌, count_by}
 use Rattle.std.specs.List.{list_any}
 use Rattle.md_base.specs.declared.event.AlignKind.{AlignKind}
 use Rattle.md_base.specs.declared.event.Name.{Name}
 use Rattle.md_base.specs.declared.event.Name.TheVariants as name_variants
-use name_variants.{ListOrdered, ListUnordered, Paragraph, GfmTable, GfmTableCell, GfmFootnoteCall}
-use name_variants.{Link, Image}
+use name_variants.{GfmTable, GfmTableCell}
 use Rattle.md_base.specs.Is.{is}
 use Rattle.md_base.specs.Children.{spine_names, last_name}
 use Rattle.md_base.specs.NameTests.{is_fence, is_chunk, is_cell}
@@ -19,21 +17,19 @@ use Rattle.md_pattern.specs.Alignments.{alignments}
 use Rattle.md_meaning.specs.declared.surroundings.Container.TheVariants as container
 use Rattle.md_meaning.specs.declared.surroundings.Container.{Container}
 use Rattle.md_meaning.specs.declared.surroundings.Surroundings.{Surroundings}
-use Rattle.md_meaning.specs.Meaning.Inherited.{inside, is_tight}
-use Rattle.md_meaning.specs.Meaning.Layout.{Piece, Forced, layout, said, on_own_line, when}
+use Rattle.md_meaning.specs.Meaning.Inherited.{inside}
+use Rattle.md_meaning.specs.Meaning.Layout.{Piece, layout, when}
 use Rattle.md_meaning.specs.Meaning.At.{Context, At}
-use Rattle.md_meaning.specs.Meaning.Before.{is_first_fence}
 use Rattle.md_meaning.specs.Meaning.Means.{prints}
-use Rattle.md_meaning.specs.Meaning.Media.{anchor, picture}
 use Rattle.md_content.specs.Underlined.{is_underline}
 use Rattle.md_steps.specs.Content.{Blocks, Lines, Fences, Cells, content_of}
 use Rattle.md_steps.specs.State.{State, opens_scope, scope_inside, captures}
 use Rattle.md_steps.specs.Steps.{is_ending, is_raw, is_row, is_labelled}
-use Rattle.md_steps.specs.Sides.{opens, closes, list_opening}
+use Rattle.md_steps.specs.Sides.{opens, closes}
 use Rattle.md_steps.specs.Claim.{seen, mark_after}
 use Rattle.md_steps.proofs.Standing.{is_quiet, is_set_aside}
-use Rattle.md_steps.proofs.EachSide.{facts_at, is_reference, Leaves, cell_sides}
-use Rattle.md_steps.proofs.EachSide.{list_sides, fence-sides, call-sides, led-sides}
+use Rattle.md_steps.proofs.EachSide.{facts_at, is_reference, Leaves, cell_sides, list_sides}
+use Rattle.md_steps.proofs.EachSide.{fence-sides, call-sides, led-sides}
 
 -- ---- the facts about a node at its exit, written into its state
 abbrev informed : Name → At → State → State
@@ -64,17 +60,7 @@ chosen b x y h = grind arith
 informed-is : (context : Context) (name : Name) (at : At) (cells : ℕ) (left : State)
     (ended : Option Name) → Leaves context name at cells left ended →
     informed name at left ≡ record left { scope = seen at.around at.before.columns }
-informed-is context name at cells left ended k =
-    let slurps = chosen (is_ending name) at.before.slurps left.slurps (λ e. (k.ending e).0) in
-    let previous = chosen (is_ending name) at.before.previous left.ended (λ e. (k.ending e).1) in
-    let marker = chosen (is_reference name) _ left.marker k.marker in
-    let fences = chosen (is_raw name) _ left.fences (λ e. (k.raw e).0) in
-    let chunk = chosen (is_raw name) _ left.has_chunk (λ e. (k.raw e).1) in
-    let heading = chosen (is_underline name) at.before.heading left.heading k.heading in
-    let row = chosen (is_row name) _ left.cells k.row in
-    let cell = chosen (is_cell name) _ left.cells (λ e. (k.cell e).1) in
-    let resource = chosen (is_labelled name) _ left.resource (λ e. sym (k.resource e)) in
-    cc
+informed-is context name at cells left ended k = grind arith
 
 -- ---- both sides, name by name
 
@@ -100,8 +86,7 @@ ended_by name inner stop = if captures name || is_quiet name then stop
 ended-is : (c q o : Bool) (inner stop : List Piece) → (q ≡ true → inner ≡ []) →
     (if c || q then stop else (if o then inner ++ stop else joined inner stop))
     ≡ (if c then [] else inner) ++ stop
-ended-is c q o inner [] h = grind (arith, append-nil inner)
-ended-is c q o inner (piece ∷ pieces) h = grind arith
+ended-is c q o inner stop h = grind (arith, append-nil)
 
 -- what a node prints, from what its children print, in a state that has the facts that it needs
 abbrev Ends : Context → At → ℕ → State → Option Name → List Piece → Name → List Piece
@@ -126,56 +111,12 @@ tight_sides : (b : Bool) (inner start : List Piece) (piece : Piece) (pieces : Li
     ≡ when (not b) start ++ joined inner (when (not b) (piece ∷ pieces))
 tight_sides b inner start piece pieces = grind arith
 
-both-sides : (context : Context) (at : At) (cells : ℕ) (left : State) (ended : Option Name)
-    (inner : List Piece) (name : Name) → Leaves context name at cells left ended →
-    BothSides context at cells left ended inner name
-both-sides context at cells left ended inner ListOrdered k =
-    list_sides (on_own_line (codes "<ol")) (list_opening context (facts_at context at))
-    (said (codes ">")) inner (Forced ∷ said (codes "</ol>"))
-both-sides context at cells left ended inner Paragraph k =
-    tight_sides (is_tight at.around.container) inner _ _ _
-both-sides context at cells left ended inner GfmTableCell k =
-    cell_sides at.around.in_head (slice_get at.before.columns
-    (count_by (is GfmTableCell) at.before.spine)) (layout context.ending inner)
-both-sides context at cells left ended inner GfmFootnoteCall k =
-    let calls = k.calls refl in
-    call-sides context at left calls.0 calls.1 calls.2
-both-sides context at cells left ended inner Link k =
-    ap (λ t. if at.around.in_image then said (layout context.ending inner)
-    else anchor context.options t (layout context.ending inner)) (led-sides context at k.referred)
-both-sides context at cells left ended inner Image k =
-    ap (λ t. if at.around.in_image then said (layout context.ending inner)
-    else picture context.options t (layout context.ending inner)) (led-sides context at k.referred)
-both-sides context at cells left ended inner name k =
-    elim at.around.in_image as (λ b. BothSides context
-    (record at { around = record at.around { in_image = b } }) cells left ended inner name) [
-      | true ↦ refl
-      | false ↦ refl
-    ]
-
--- the end of a fence depends on the fences before it
-fence-told : (context : Context) (at : At) (cells : ℕ) (left : State) (ended : Option Name)
-    (inner : List Piece) (name : Name) →
-    ((if is_fence name then Meant context at inner name
-    else inner ++ when (is_first_fence at) (said (codes ">")))
-    ≡ inner ++ when (is_first_fence at) (said (codes ">")))
-    × ((if is_fence name then Ends context at cells left ended inner name
-    else inner ++ when (left.fences == 0) (said (codes ">")))
-    ≡ inner ++ when (left.fences == 0) (said (codes ">")))
-fence-told context at cells left ended inner Paragraph = (refl, refl)
-fence-told context at cells left ended inner _ = (refl, refl)
-
 ends-meant : (context : Context) (at : At) (cells : ℕ) (left : State) (ended : Option Name)
     (inner : List Piece) (name : Name) → is_set_aside name ≡ false →
     Leaves context name at cells left ended →
     Meant context at inner name ≡ Ends context at cells left ended inner name
 ends-meant context at cells left ended inner name aside k =
-    let sides = both-sides context at cells left ended inner name k in
-    let told = fence-told context at cells left ended inner name in
-    let fences : is_fence name ≡ true → inner ++ when (is_first_fence at) (said (codes ">"))
-    ≡ inner ++ when (left.fences == 0) (said (codes ">")) =
-    λ e. fence-sides at left inner (k.fences e) in
-    grind (arith, told.0, told.1)
+    grind (arith, fence-sides, list_sides, tight_sides, cell_sides, call-sides, led-sides)
 
 -- the two ends of a node, in the surroundings that the meaning sees
 pub sides-seen :
@@ -212,14 +153,6 @@ sides-seen context at cells left ended inner name aside quiet k =
 abbrev contained_is : Container → Bool
 contained_is kind = elim kind [ container.Nothing ↦ false | _ ↦ true ]
 
-tight_is : (loose : Bool) →
-    not loose ≡ is_tight (if loose then container.Another else container.TightList)
-tight_is loose = grind arith
-
-contained_list : (loose : Bool) →
-    true ≡ contained_is (if loose then container.Another else container.TightList)
-contained_list loose = grind arith
-
 abbrev table_or : Name → List AlignKind → List AlignKind → List AlignKind
 table_or name own columns = if is GfmTable name then own else columns
 
@@ -229,8 +162,4 @@ pub scope_inside-seen :
     (seen around columns)
     else seen around columns) ≡ seen (inside context.options (is_loose at.children) name around)
     (table_or name (alignments at.children) columns)
-scope_inside-seen context around columns at ListUnordered =
-    rw (← tight_is (is_loose at.children), ← contained_list (is_loose at.children)) refl
-scope_inside-seen context around columns at ListOrdered =
-    rw (← tight_is (is_loose at.children), ← contained_list (is_loose at.children)) refl
-scope_inside-seen context around columns at _ = refl
+scope_inside-seen context around columns at name = grind arith

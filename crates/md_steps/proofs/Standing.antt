@@ -1,16 +1,13 @@
 -- The facts that a content gives about the names that it allows: computed once for each content,
 -- for all names.
-use Rattle.std.proofs.Common.{arith}
-use Rattle.std.proofs.Common.{◌≡◌, Bool, true, false, not, ◌&&◌, refl}
+use Rattle.std.proofs.Common.{arith, ◌≡◌, Bool, true, false, not, ◌&&◌}
 use Rattle.std.specs.Prelude.{if◌then◌else◌}
 use Rattle.md_base.specs.declared.event.Name.{Name}
-use Rattle.md_base.specs.declared.event.Name.TheVariants.{Data}
 use Rattle.md_base.proofs.Lies.{lie}
 use Rattle.md_base.specs.NameTests.{is_transparent, is_fence, is_chunk, is_call, is_cell, is_label}
 use Rattle.md_base.specs.NameTests.{is_footnote_definition}
-use Rattle.md_steps.specs.Content.{Content, Blocks, Strings, Lines}
-use Rattle.md_steps.specs.Content.{Sources, Cells, Nothing}
-use Rattle.md_steps.specs.Content.{Childless, is_source, is_allowed, content_of, content_inside}
+use Rattle.md_steps.specs.Content.{Content, Strings, Lines, Sources, Cells, Nothing, Childless}
+use Rattle.md_steps.specs.Content.{is_source, is_allowed, content_of, content_inside}
 use Rattle.md_steps.specs.State.{captures}
 use Rattle.md_steps.specs.Steps.{is_row, is_raw, begins_target, is_labelled}
 use Rattle.md_steps.specs.Claim.{is_laid, keeps_cells, keeps_lines}
@@ -75,11 +72,6 @@ facts c n =
     && (implies (is_sources c && not (is_transparent n)) (keeps_target (content_inside c n)
     && not (begins_target n)) && implies (is_nothing c) (is_transparent n))))))))))
 
-all-facts : (c : Content) (n : Name) → implies (is_allowed c n) (facts c n) ≡ true
-all-facts Blocks Data = refl
-all-facts _ Data = refl
-all-facts _ _ = refl
-
 -- what is known of a name that is allowed somewhere
 pub record Facts (c : Content) (n : Name) : Type 0 where
   pub aside : is_laid c ≡ true → is_set_aside n ≡ false
@@ -104,18 +96,4 @@ pub record Facts (c : Content) (n : Name) : Type 0 where
   pub nothing : is_nothing c ≡ true → is_transparent n ≡ true
 
 pub allowed-facts : (c : Content) (n : Name) → is_allowed c n ≡ true → Facts c n
-allowed-facts c n h =
-    let f = follows (is_allowed c n) (facts c n) (all-facts c n) h in
-    record {
-      aside = λ t. grind arith;
-      laid = λ t. grind arith;
-      cells = λ t. (grind arith, grind arith, grind arith);
-      lines = λ t. (grind arith, grind arith, grind arith, grind arith);
-      target = λ t. (grind arith, grind arith, grind arith, grind arith, grind arith);
-      callless = λ t. (grind arith, grind arith, grind arith);
-      fence = λ t. grind arith;
-      in_lines = λ t. (grind arith, grind arith);
-      in_cells = λ t. (grind arith, grind arith, grind arith);
-      in_sources = λ t. (grind arith, grind arith);
-      nothing = λ t. grind arith;
-    }
+allowed-facts c n h = grind (arith, follows)

@@ -18,8 +18,7 @@ use Rattle.md_meaning.specs.Meaning.Nodes.{Outcome, outcome}
 use Rattle.md_content.proofs.Underlines.{grammatical-underlined}
 use Rattle.md_steps.specs.Content.{Blocks}
 use Rattle.md_steps.specs.State.{State, NodeFacts, facts_of}
-use Rattle.md_steps.specs.Steps.{entered, exited, passed, is_passed, over}
-use Rattle.md_steps.specs.Steps.{beginning}
+use Rattle.md_steps.specs.Steps.{entered, exited, passed, is_passed, over, beginning}
 use Rattle.md_steps.specs.Claim.{Done, noted_all, next_before}
 use Rattle.md_steps.specs.Run.{Noticed, noticed, run, defined, stepped, passes, context_alone}
 use Rattle.md_steps.specs.Run.{printed}

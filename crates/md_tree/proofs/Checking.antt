@@ -182,19 +182,6 @@ LeaveOpen-undone holds events course runs undone = (
       (Reached-runs holds events course runs) undone,
 )
 
--- and no document of the grammar is read so
-pub outside-undone : (given : Handed) (course : Course) →
-    Runs (Unbroken given.bytes given.names) given.events beginning course →
-    (course.open_nodes ≡ [] → is_complete course.state ≡ false) → IsChecked given → ⊥
-outside-undone given course runs undone checked =
-    let holds = Unbroken given.bytes given.names in
-    let document = Runs-checked given checked.0 (IsReadAs.flattened checked.1)
-    (IsGrammatical.shape (IsReadAs.grammatical checked.1))
-    (IsGrammatical.rules (IsReadAs.grammatical checked.1)) in
-    let same = Runs-same holds holds given.events beginning course _ runs document.1 in
-    true≢false (sym (ap (λ (c : Course). is_complete c.state) same ∙ document.2)
-    ∙ undone (ap (λ (c : Course). c.open_nodes) same))
-
 -- all has ended: the document that was read
 pub record IsWalked (given : Handed) (mentions : List Mentioned) : Type 0 where
   pub forest : Forest
@@ -233,17 +220,7 @@ pub IsRefusal-undone : (given : Handed) (course : Course) →
     Runs (Unbroken given.bytes given.names) given.events beginning course →
     (course.open_nodes ≡ [] → is_complete course.state ≡ false) →
     IsRefusal given (error.Event (length given.events) rule.Order)
-IsRefusal-undone given course runs undone = record {
-  order = (
-    omega arith,
-    (λ h. absurd (omega (arith, h))),
-    (λ _. LeaveOpen-undone (Unbroken given.bytes given.names) given.events course runs undone),
-  );
-  mdx = tt;
-  of_node = tt;
-  lost = tt;
-  outside = outside-undone given course runs undone;
-}
+IsRefusal-undone given course runs undone = grind (arith, LeaveOpen-undone, Runs-checked, Runs-same)
 
 -- ---- unresolved mentions
 

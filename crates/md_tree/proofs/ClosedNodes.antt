@@ -49,22 +49,6 @@ module _ (holds ending : Reads) (name : Name) (start end : Point) (children : Fo
   closed_through : Enters Through → Closes Through
   closed_through e = grind arith
 
-  closed_space : Enters Space → Closes Space
-  closed_space e =
-      let waiting : Outer =
-      record { state = here; before = here.before; target = found; reading = Free } in
-      let parts = entry_is
-      (record { state = start_of Childless; target = Missing; outer = Some waiting }) _ e in
-      let exit = subst (λ o. ExitsWhere ending o start end others last to) (sym parts.2) exits in
-      record {
-        apart = not_childless here.role may;
-        shaped = nothing_inside holds children None (subst
-            (λ (s : State). EachNode (IsFine holds) children s.role s.before) (sym parts.0) fine);
-        read = tt;
-        feeds = ap Course.state (sym exit.2);
-        target_is = ap Course.target exit.2;
-      }
-
   closed_solid : (symbol : Symbol) (usual : Role) (reading : Reading) →
       Enters (Solid symbol usual reading) → Closes (Solid symbol usual reading)
   closed_solid symbol usual reading e =
@@ -87,4 +71,5 @@ module _ (holds ending : Reads) (name : Name) (start end : Point) (children : Fo
       }
 
   pub closed : (standing : Standing) → Enters standing → Closes standing
-  closed standing e = grind (arith, closed_through, closed_space, closed_solid)
+  closed standing e =
+      grind (arith, closed_through, closed_solid, entry_is, not_childless, nothing_inside)

@@ -42,17 +42,11 @@ settled_enter : (standing : Standing) (named : Name) (point : Point) (from to : 
 settled_enter standing named point from to settled b holds o is enters = grind arith
 
 module _ (holds : Reads) where
-  settled_exit : (opens : List Open) (named : Name) (point : Point) (from to : Course) →
-      IsSettled from.state → AreSettled opens → Exits holds opens named point from to →
-      HasSettled to
-  settled_exit opens named point from to here settled exits = grind arith
-
   settled_step : (kind : Kind) (named : Name) (point : Point) (from to : Course) → HasSettled from →
       StepsBy holds kind named point from to → HasSettled to
   settled_step Enter named point from to settled step =
       settled_enter _ named point from to settled _ refl _ refl step
-  settled_step Exit named point from to settled step =
-      settled_exit from.open_nodes named point from to settled.0 settled.1 step
+  settled_step Exit named point from to settled step = grind arith
 
   pub settled_runs : (events : List Event) (from to : Course) → HasSettled from →
       Runs holds events from to → HasSettled to

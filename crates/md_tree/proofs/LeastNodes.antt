@@ -67,9 +67,6 @@ item_ends : (around : Role) (before : Option Symbol) →
     Ends (item_in around before) (symbol.ListItemPrefix ∷ [])
 item_ends around before = grind arith
 
-prefix_ends : (around : Role) → Ends (prefix_in around) (symbol.ListItemMarker ∷ [])
-prefix_ends around = grind arith
-
 label_ends : (around : Role) → Ends (label_in around) (symbol.LabelText ∷ [])
 label_ends around = grind arith
 
@@ -79,16 +76,7 @@ bare around e = matches_after around [] e
 
 prefix_shaped : (around : Role) (before : Option Symbol) → around ≢ role.Childless →
     AreShaped (least symbol.ListItemPrefix) around before
-prefix_shaped around before apart = grind (arith, not_childless, prefix_ends, matches_after, bare)
-
-item_shaped : (around : Role) (before : Option Symbol) → around ≢ role.Childless →
-    AreShaped (least symbol.ListItem) around before
-item_shaped around before apart =
-    grind (arith, matches_after, item_ends, prefix_shaped, not_childless)
-
-label_shaped : (around : Role) (before : Option Symbol) → around ≢ role.Childless →
-    AreShaped (least symbol.Label) around before
-label_shaped around before apart = grind (arith, not_childless, label_ends, matches_after, bare)
+prefix_shaped around before apart = grind (arith, not_childless, matches_after, bare)
 
 footnote_shaped : (around : Role) (before : Option Symbol) → around ≢ role.Childless →
     AreShaped (least symbol.FootnotePrefix) around before
@@ -103,10 +91,7 @@ least_shaped : (one : Symbol) (around : Role) (before : Option Symbol) → aroun
 least_shaped symbol.FootnotePrefix around before apart e = footnote_shaped around before apart
 least_shaped symbol.TableHead around before apart e = head_shaped around before apart
 least_shaped _ around before apart e =
-    grind (arith, matches_after, item_shaped, prefix_shaped, label_shaped)
-
-least_spine : (one : Symbol) → cond (has_least one) (spine (least one)) (one ∷ []) ≡ one ∷ []
-least_spine one = grind arith
+    grind (arith, matches_after, prefix_shaped, item_ends, not_childless, label_ends, bare)
 
 -- the least nodes of symbols, in sequence
 abbrev pub nodes_of : List Symbol → Forest
@@ -116,7 +101,7 @@ nodes_of (one ∷ symbols) = joined (least one) (nodes_of symbols)
 pub nodes_spine : (symbols : List Symbol) → list_all has_least symbols ≡ true →
     spine (nodes_of symbols) ≡ symbols
 nodes_spine [] e = refl
-nodes_spine (one ∷ symbols) e = grind (arith, nodes_spine symbols, spine-joined, least_spine)
+nodes_spine (one ∷ symbols) e = grind (arith, spine-joined, nodes_spine symbols)
 
 pub nodes_shaped : (symbols : List Symbol) (around : Role) (before : Option Symbol) →
     around ≢ role.Childless →

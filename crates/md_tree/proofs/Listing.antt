@@ -96,18 +96,12 @@ got_later mention mentions index one got =
     let next : suc index + at ≡ index + suc at = omega arith in
     record { at = suc at; index_is = got.index_is ∙ next; got = got.got }
 
-got_cons : (mention : Mention) (mentions : List Mention) (index at : ℕ) (one : Mentioned) →
-    ((k : ℕ) → slice_get (listed (suc index) mentions) k ≡ Some one →
-    GotListed mentions (suc index) one) →
-    slice_get (record { index = index; mention = mention } ∷ listed (suc index) mentions) at
-    ≡ Some one → GotListed (mention ∷ mentions) index one
-got_cons mention mentions index at one later e = grind (arith, got_first, got_later)
-
 got_listed : (mentions : List Mention) (index at : ℕ) (one : Mentioned) →
     slice_get (listed index mentions) at ≡ Some one → GotListed mentions index one
 got_listed [] index at one e = cc
 got_listed (Nothing ∷ mentions) index at one e = grind (arith, got_listed mentions, got_later)
-got_listed (mention ∷ mentions) index at one e = grind (arith, got_listed mentions, got_cons)
+got_listed (mention ∷ mentions) index at one e =
+    grind (arith, got_first, got_later, got_listed mentions)
 
 pub got-listed : (mentions : List Mention) (at : ℕ) (one : Mentioned) →
     slice_get (listed 0 mentions) at ≡ Some one → slice_get mentions one.index ≡ Some one.mention

@@ -163,15 +163,10 @@ module _ (number : Mention → ℕ) (mentioned : List Mentioned) (i : ℕ) (fact
       ∙ sym (at_drop_more (λ ms. numbered number ms facts) mentioned i n inside) ∙ so_far
 
 -- ---- the target of a mention
-got_first_or_later : (x y : Identifier) (xs : List Identifier) (place : ℕ) →
-    ((p : ℕ) → which xs y ≡ Some p → slice_get xs p ≡ Some y) →
-    which (x ∷ xs) y ≡ Some place → slice_get (x ∷ xs) place ≡ Some y
-got_first_or_later x y xs place later e = grind (arith, bytes_eq-Decides)
-
 which_got : (xs : List Identifier) (y : Identifier) (place : ℕ) → which xs y ≡ Some place →
     slice_get xs place ≡ Some y
 which_got [] y place e = cc
-which_got (x ∷ xs) y place e = got_first_or_later x y xs place (which_got xs y) e
+which_got (x ∷ xs) y place e = grind (arith, bytes_eq-Decides, which_got xs y)
 
 which_there : (xs : List Identifier) (y : Identifier) (place : ℕ) →
     which xs y ≡ Some place → Contains xs y

@@ -9,13 +9,9 @@ use Rattle.md_tree.specs.Refusal.{IsShapedPath}
 use Rattle.md_tree.proofs.NodesRead.{IsReadWhere, IsFine, AllowsFree, EachNode-map}
 use Rattle.md_tree.proofs.OpenPaths.{IsFinePath}
 
-reads_anything : (standing : Standing) (around : Role) (before : Option Symbol) (start end : Point)
-    (target : Referral) → IsReadWhere Anything standing around before start end target
-reads_anything standing around before start end target = grind arith
-
 pub shaped_anything : (forest : Forest) (around : Role) (before : Option Symbol) →
     EachNode IsShapedNode forest around before → EachNode (IsFine Anything) forest around before
-shaped_anything forest around before each = grind (arith, EachNode-map, reads_anything)
+shaped_anything forest around before each = grind (arith, EachNode-map)
 
 EachNode-both : (P Q : Claim) → (forest : Forest) (around : Role) (before : Option Symbol) →
     EachNode P forest around before → EachNode Q forest around before →
@@ -31,12 +27,6 @@ module _ (bytes : List ℕ) (names : List (List ℕ × List ℕ)) where
       broken_rule bytes names (reading_of standing) around before start end target ≡ None →
       IsReadWhere (Unbroken bytes names) standing around before start end target
   reads_unbroken standing around before start end target e = grind arith
-
-  unbroken_reads : (standing : Standing) (around : Role)
-      (before : Option Symbol) (start end : Point) (target : Referral) →
-      IsReadWhere (Unbroken bytes names) standing around before start end target →
-      broken_rule bytes names (reading_of standing) around before start end target ≡ None
-  unbroken_reads standing around before start end target e = grind arith
 
   pub fine_unbroken : (forest : Forest) (around : Role) (before : Option Symbol) →
       AreShaped forest around before → MeetRules bytes names forest around before →
@@ -56,7 +46,7 @@ fine_shaped holds forest around before fine = grind (arith, EachNode-map)
 pub fine_meets : (bytes : List ℕ) (names : List (List ℕ × List ℕ)) (forest : Forest) (around : Role)
     (before : Option Symbol) → EachNode (IsFine (Unbroken bytes names)) forest around before →
     MeetRules bytes names forest around before
-fine_meets bytes names forest around before fine = grind (arith, EachNode-map, unbroken_reads)
+fine_meets bytes names forest around before fine = grind (arith, EachNode-map)
 
 pub fine_path_shaped : (holds : Reads) (path : List Level) →
     IsFinePath holds path → IsShapedPath path

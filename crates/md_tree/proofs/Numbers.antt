@@ -27,13 +27,9 @@ pub ended-with : (events : List Event) (numbers : List ℕ) (facts : List Fact) 
     position_ended events (facts_with numbers facts) index ≡ position_ended events facts index
 ended-with events numbers facts index = grind (arith, by_partner, partner-with)
 
-pub there-with : (events : List Event) (numbers : List ℕ) (facts : List Fact) (index : ℕ) →
-    position_there events (facts_with numbers facts) index ≡ position_there events facts index
-there-with events numbers facts index = grind (arith, by_partner, partner-with)
-
 pub at-with : (events : List Event) (numbers : List ℕ) (facts : List Fact) (index : ℕ) →
     position_at events (facts_with numbers facts) index ≡ position_at events facts index
-at-with events numbers facts index = grind (arith, there-with)
+at-with events numbers facts index = grind (arith, by_partner, partner-with)
 
 pub length-with : (numbers : List ℕ) (facts : List Fact) →
     length (facts_with numbers facts) ≡ length facts

@@ -100,38 +100,22 @@ one_more (Once class) items symbol symbols taken fit =
 one_more (Maybe class) items symbol symbols taken fit =
     (symbol ∷ [], symbols, refl, and_both _ _ taken refl, omega arith, fit)
 
-left_out : (item : Item) (items : List Item) (symbols : List Symbol) → is_optional item ≡ true →
-    Fits items symbols → Fits (item ∷ items) symbols
-left_out item items symbols optional fit = grind arith
-
 pub fits_nothing : (items : List Item) → list_all is_optional items ≡ true → Fits items []
 fits_nothing [] e = refl
-fits_nothing (item ∷ items) e = grind (arith, fits_nothing items, left_out)
-
-fits_back_optional :
-    (item : Item) (items left : List Item) (symbol : Symbol) (symbols : List Symbol) →
-    (left_after items symbol ≡ Some left → Fits items (symbol ∷ symbols)) → (optional : Bool) →
-    is_optional item ≡ optional → cond optional (left_after items symbol) None ≡ Some left →
-    Fits (item ∷ items) (symbol ∷ symbols)
-fits_back_optional item items left symbol symbols again optional o e = grind arith
+fits_nothing (item ∷ items) e = grind (arith, fits_nothing items)
 
 fits_back_taken : (item : Item) (items left : List Item) (symbol : Symbol) (symbols : List Symbol) →
     Fits left symbols → (left_after items symbol ≡ Some left → Fits items (symbol ∷ symbols)) →
     (taken : Bool) → takes (class_of item) symbol ≡ taken → cond taken (Some (kept item items))
     (cond (is_optional item) (left_after items symbol) None) ≡ Some left →
     Fits (item ∷ items) (symbol ∷ symbols)
-fits_back_taken item items left symbol symbols fit again taken t e =
-    grind (arith, one_more, fits_back_optional)
+fits_back_taken item items left symbol symbols fit again taken t e = grind (arith, one_more)
 
 -- what a reading takes fits
 pub fits_back : (items left : List Item) (symbol : Symbol) (symbols : List Symbol) →
     left_after items symbol ≡ Some left → Fits left symbols → Fits items (symbol ∷ symbols)
 fits_back [] left symbol symbols e fit = cc
 fits_back (item ∷ items) left symbol symbols e fit = grind (arith, fits_back items, fits_back_taken)
-
-many_taken : (item : Item) (taken : Bool) → taken ≡ true →
-    (is_many item || not taken) ≡ true → (n : ℕ) → IsCount item n
-many_taken item taken t e n = grind arith
 
 -- where each item that takes it may be there any number of times, a first symbol may go
 one_less_own :
@@ -143,9 +127,7 @@ one_less_own :
 one_less_own item items symbol symbols [] others many again e all count fit =
     ([], symbols, refl, refl, count, again (rw e fit))
 one_less_own item items symbol symbols (first ∷ own) others many again e all count fit =
-    let same : first ≡ symbol = cc in
-    let taken : takes (class_of item) symbol ≡ true = rw (← same) (and_left _ _ all) in
-    (own, others, (cc), and_right _ _ all, many_taken item _ taken many _, fit)
+    grind (arith, and_left, and_right)
 
 one_less : (items : List Item) (symbol : Symbol) (symbols : List Symbol) →
     only_many symbol items ≡ true → Fits items (symbol ∷ symbols) → Fits items symbols

@@ -88,35 +88,10 @@ module _ (at : At) where
       Searched at from to (or_else o later) (or_else r more)
   joined from middle to o r later more a b = grind arith
 
-  nothing_where : (w : Wanted) (f : Found) (n : ℕ) →
-      Searched at (record { wanted = w; found = f; read_at = n })
-      (record { wanted = w; found = f; read_at = n }) None None
-  nothing_where w f n = grind arith
-
   pub nothing : (s : Sought) → Searched at s s None None
-  nothing s = nothing_where s.wanted s.found s.read_at
+  nothing s = grind arith
 
 -- ---- one node
-
-module _ (at : At) where
-  -- a node that is, or holds, what is sought, by a test
-  itself_step : (s : Sought) (passes : Bool) (m inner : ℕ) (o : Option Position) →
-      at m ≡ o → Searched at s (seen_as (cond passes looks.Itself looks.Other) s m inner)
-      (cond passes (Some o) None) None
-  itself_step s passes m inner o e = grind arith
-
-  holder_step : (s : Sought) (passes : Bool) (m inner : ℕ) (o : Option Position) →
-      (passes ≡ true → at inner ≡ o) → Searched at s
-      (seen_as (cond passes looks.Holder looks.Other) s m inner) (cond passes (Some o) None) None
-  holder_step s passes m inner o e = grind arith
-
-  media_step : (s : Sought) (name : Name) (start end : Point) (children : Forest) (m inner : ℕ) →
-      at m ≡ Some (place start end) →
-      (is_label name ≡ true → at inner ≡ finds want.Media start end children) →
-      Searched at s (seen_as (sight want.Media name) s m inner)
-      (cond (is_label name) (Some (finds want.Media start end children)) None)
-      (cond (is_reference name) (Some (Some (place start end))) None)
-  media_step s name start end children m inner here held = grind arith
 
 -- which node holds what is sought, and is found in it
 abbrev pub is_holder : Wanted → Name → Bool
@@ -137,19 +112,15 @@ pub solid_step : (at : At) (w : Wanted) (s : Sought) (name : Name) (start end : 
     (cond (seeks w name) (Some (finds w start end children)) None)
     (cond (refers w name) (Some (Some (place start end))) None)
 solid_step at want.Nothing s name start end children m inner here held = nothing at s
-solid_step at _ s name start end children m inner here held =
-    grind (arith, holder_step, media_step, itself_step)
+solid_step at _ s name start end children m inner here held = grind (arith, held)
 
 -- What is found on a spine, in the words of the definitions: the place of the first node.
-
-none_through : {A : Type 0} (t : Bool) → or_else {A = A} (cond t None None) None ≡ None
-none_through t = grind arith
 
 no_reference : {A : Type 0} (tell : Point → Point → Forest → A) (forest : Forest) →
     first_on_spine (λ name. false) tell forest ≡ None
 no_reference tell Empty = refl
 no_reference tell (Node name start end children rest) =
-    grind (arith, no_reference tell children, no_reference tell rest, none_through)
+    grind (arith, no_reference tell children, no_reference tell rest)
 
 map_or_else : (o p : Option Position) →
     or_else (option_map Some o) (option_map Some p) ≡ option_map Some (or_else o p)
@@ -170,9 +141,6 @@ places_mapped test (Node name start end children rest) =
 unwrap_mapped : (o p : Option Position) → unwrap_or (option_map Some o) p ≡ or_else o p
 unwrap_mapped o p = grind arith
 
-or_none : (o : Option Position) → or_else o None ≡ o
-or_none o = grind arith
-
 abbrev here_place : Point → Point → Forest → Option Position
 here_place start end inner = Some (place start end)
 
@@ -184,7 +152,7 @@ alone o forest = ap (λ r. unwrap_or r (unwrap_or o None)) (no_reference here_pl
 place_found : (test : Name → Bool) (forest : Forest) →
     unwrap_or (first_on_spine (λ name. false) here_place forest)
     (unwrap_or (first_on_spine test here_place forest) None) ≡ first_place test forest
-place_found test forest = grind (arith, alone, places_mapped, unwrap_mapped, or_none)
+place_found test forest = grind (arith, alone, places_mapped, unwrap_mapped)
 
 -- what a search of a name's own spine finds
 abbrev pub found_in : Name → Forest → Option Position

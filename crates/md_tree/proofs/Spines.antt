@@ -20,16 +20,8 @@ appended : (names others : List Name) →
 appended [] others = refl
 appended (name ∷ names) others = grind (arith, appended names others, append_assoc)
 
--- what one node shows
-node_shows : (standing : Standing) (name : Name) (through : Bool) (children : Forest)
-    (around : Role) (before : Option Symbol) → standing_of name ≡ standing →
-    through ≡ is_through standing → IsStanding standing around before children →
-    spine children ≡ symbols_of (spine_names children) →
-    shown standing (spine children) ≡ symbols_of (cond through (spine_names children) (name ∷ []))
-node_shows standing name through children around before same is stands inner = grind arith
-
 pub spine-names : (forest : Forest) (around : Role) (before : Option Symbol) →
     AreShaped forest around before → spine forest ≡ symbols_of (spine_names forest)
 spine-names Empty around before shaped = refl
 spine-names (Node name start end children rest) around before shaped =
-    grind (arith, spine-names children, spine-names rest, node_shows, looked_through, appended)
+    grind (arith, looked_through, appended, spine-names children, spine-names rest)

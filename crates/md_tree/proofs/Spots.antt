@@ -190,14 +190,10 @@ IsTail-from : (first : Symbol) (tail : List Symbol) →
 IsTail-from ReferenceMarker tail t = t
 IsTail-from _ tail t = t
 
-after_numeric : (tail : List Symbol) → IsTailFrom Numeric tail →
-    IsTail ReferenceMarker (ReferenceNumeric ∷ tail)
-after_numeric tail e = grind arith
-
 IsTailFrom-cons : (stage : Stage) (symbol : Symbol) (tail : List Symbol) →
     MatchOption (next_stage stage symbol) ⊥ (λ next. IsTailFrom next tail) →
     IsTailFrom stage (symbol ∷ tail)
-IsTailFrom-cons Marker ReferenceNumeric tail t = after_numeric tail t
+IsTailFrom-cons Marker ReferenceNumeric tail t = grind arith
 IsTailFrom-cons Marker ReferenceValue tail t = inl (ap (λ s. ReferenceValue ∷ s) t)
 IsTailFrom-cons Numeric ReferenceHexadecimal tail t = inr (ap (λ s. ReferenceHexadecimal ∷ s) t)
 IsTailFrom-cons Numeric ReferenceValue tail t = inl (ap (λ s. ReferenceValue ∷ s) t)
@@ -264,11 +260,6 @@ on_inside items left stage next symbol symbols e on =
       fits = rw w.0 on.fits;
     }
 
-on_any : (stage : Stage) (items left : List Item) (next : Stage) (symbol : Symbol)
-    (symbols : List Symbol) → spot_after items stage symbol ≡ Some (At left next) →
-    ReadsOn left next symbols → ReadsOn items stage (symbol ∷ symbols)
-on_any stage items left next symbol symbols e on = grind (arith, on_whole, on_inside)
-
 goes_back : (items left : List Item) (stage : Stage) (symbols : List Symbol) →
     Goes items stage symbols (At left Whole) → list_all is_optional left ≡ true →
     ReadsOn items stage symbols
@@ -284,7 +275,7 @@ goes_back items left stage [] g out =
       fits = fits_nothing items (rw same.0 out);
     }
 goes_back items left stage (symbol ∷ symbols) g out =
-    on_any stage items g.0 g.1 symbol symbols g.2 (goes_back g.0 left g.1 symbols g.3 out)
+    grind (arith, on_whole, on_inside, goes_back g.0 left g.1 symbols g.3 out)
 
 pub whole_stage : (stage : Stage) → is_whole stage ≡ true → stage ≡ Whole
 whole_stage stage e = grind arith

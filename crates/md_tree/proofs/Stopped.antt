@@ -71,19 +71,6 @@ module _ (bytes : List ℕ) (names : List (List ℕ × List ℕ)) where
   ends_broken broken kind name point seen course runs breaks =
       grind (arith, EndsBroken-exit, Reached-runs)
 
-  order_stuck : (kind : Kind) (name : Name) (point : Point) (course next : Course) →
-      StopsBy bytes names kind rule.Order name point course →
-      StepsBy Anything kind name point course next → ⊥
-  order_stuck kind name point course next stops step = grind arith
-
-  mdx_entered : (events : List Event) (index : ℕ)
-      (kind : Kind) (name : Name) (point : Point) (course : Course) → slice_get events index
-      ≡ Some (record { kind = kind; name = name; point = point }) →
-      StopsBy bytes names kind rule.Mdx name point course →
-      (event : Event) × (slice_get events index ≡ Some event) × (event.kind ≡ Enter)
-      × (standing_of event.name ≡ standing.Mdx)
-  mdx_entered events index kind name point course here stops = grind arith
-
 module _ (given : Handed) (index : ℕ) (d : Event) (course : Course)
     (inside : index < length given.events)
     (runs : Runs (Unbroken given.bytes given.names) (take index given.events)
@@ -102,10 +89,10 @@ module _ (given : Handed) (index : ℕ) (d : Event) (course : Course)
   broken_node broken of stops = search (rules, seen_more, ends_broken, at_exit)
 
   said_order : (broken : Rule) → Stops broken → IsOrder given (error.Event index broken)
-  said_order broken stops = grind (arith, seen_more, BeginNoTree-stuck, order_stuck)
+  said_order broken stops = grind (arith, seen_more, BeginNoTree-stuck)
 
   said_mdx : (broken : Rule) → Stops broken → IsMdx given (error.Event index broken)
-  said_mdx broken stops = grind (arith, mdx_entered, slice_get-get_or)
+  said_mdx broken stops = grind (arith, slice_get-get_or)
 
   said_node : (broken : Rule) → Stops broken → refusal.IsOfNode given (error.Event index broken)
   said_node broken stops = grind (arith, broken_node)

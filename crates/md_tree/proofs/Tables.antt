@@ -35,27 +35,20 @@ own_pass p item (seen ∷ own) all there =
     and_both _ _ (taken p (members _) seen (and_left _ _ there) all)
     (own_pass p item own all (and_right _ _ there))
 
-all_append : (p : Symbol → Bool) (xs ys : List Symbol) → list_all p xs ≡ true →
-    list_all p ys ≡ true → list_all p (xs ++ ys) ≡ true
-all_append p xs ys e f = list_all-append p xs ys ∙ and_both _ _ e f
-
 fits_pass : (p : Symbol → Bool) (items : List Item) (symbols : List Symbol) →
     list_all (passes p) items ≡ true → Fits items symbols → list_all p symbols ≡ true
 fits_pass p [] symbols all fit = ap (list_all p) fit
-fits_pass p (item ∷ items) symbols all fit = grind (arith, fits_pass p items, all_append, own_pass)
+fits_pass p (item ∷ items) symbols all fit =
+    grind (arith, own_pass, list_all-append, and_both, fits_pass p items)
 
 -- a symbol that begins no group
 abbrev pub alone : Symbol → Bool
 alone seen = is_whole (begun_by seen)
 
-alone_tail : (first : Symbol) (tail : List Symbol) → alone first ≡ true →
-    IsTail first tail → tail ≡ []
-alone_tail first tail e is = grind arith
-
 grouped_alone : (firsts spine : List Symbol) → list_all alone firsts ≡ true →
     IsGrouped firsts spine → spine ≡ firsts
 grouped_alone [] spine all is = is
-grouped_alone (first ∷ firsts) spine all is = grind (arith, grouped_alone firsts, alone_tail)
+grouped_alone (first ∷ firsts) spine all is = grind (arith, grouped_alone firsts)
 
 -- the symbols of a spine that matches a pattern
 pub matches_pass : (p : Symbol → Bool) (around : Role) (symbols : List Symbol) →
@@ -73,15 +66,6 @@ abbrev pub has_symbol : Symbol → Standing → Bool
 has_symbol one (Solid other usual reading) = sameb the_type one other
 has_symbol one _ = false
 
-pub record Named (name : Name) : Type 0 where
-  pub value : is_named GfmTableDelimiterCellValue name
-      ≡ has_symbol symbol.TableDelimiterValue (standing_of name)
-  pub head : is_table_head name ≡ has_symbol symbol.TableHead (standing_of name)
-  pub row : is_delimiter_row name ≡ has_symbol symbol.TableDelimiterRow (standing_of name)
-
-pub named : (name : Name) → Named name
-named name = grind arith
-
 -- ---- one level: what is found on a spine
 
 -- the alignments of a node
@@ -90,28 +74,30 @@ at_node name children =
     cond (is_named GfmTableDelimiterCellValue name) (alignment_of children ∷ [])
     (cond (leads_to_values name) (alignments children) [])
 
+-- of the symbols of values, of heads and of delimiter rows it is this one, or none
+abbrev pub only_of : Symbol → Symbol → Bool
+only_of one seen = sameb the_type one seen || not (sameb the_type symbol.TableDelimiterValue seen
+    || (sameb the_type symbol.TableHead seen || sameb the_type symbol.TableDelimiterRow seen))
+
 -- names with the symbol pass the test, and no other symbol on the spine contains values
-module _ (test : Name → Bool) (only : Name) (one : Symbol) (p : Symbol → Bool) (found : Forest →
-    List AlignKind) (test_is : (name : Name) → test name ≡ true → name ≡ only)
+module _ (test : Name → Bool) (only : Name) (one : Symbol) (found : Forest → List AlignKind)
+    (test_is : (name : Name) → test name ≡ true → name ≡ only)
     (test_symbol : (name : Name) → test name ≡ has_symbol one (standing_of name))
     (own : (around : Role) (before : Option Symbol) (children : Forest)
     → IsStanding (standing_of only) around before children →
     EachNode IsShapedNode children (inner_role (standing_of only) around before)
-    (inner_before (standing_of only) before) → at_node only children ≡ found children)
-    (others : (seen : Symbol) → p seen ≡ true → sameb the_type one seen ≡ false →
-    (sameb the_type symbol.TableDelimiterValue seen ≡ false)
-    × ((sameb the_type symbol.TableHead seen || sameb the_type symbol.TableDelimiterRow seen)
-    ≡ false)) where
+    (inner_before (standing_of only) before) → at_node only children ≡ found children) where
   abbrev pub Level : Forest → Type 0
   Level forest =
       (around : Role) (before : Option Symbol) → EachNode IsShapedNode forest around before →
-      list_all p (spine forest) ≡ true → alignments forest ≡ in_each test found forest
+      list_all (only_of one) (spine forest) ≡ true →
+      alignments forest ≡ in_each test found forest
 
   any_node : (name : Name) (children : Forest) (around : Role) (before : Option Symbol) →
       Level children → IsStanding (standing_of name) around before children →
       EachNode IsShapedNode children (inner_role (standing_of name) around before)
       (inner_before (standing_of name) before) →
-      list_all p (shown (standing_of name) (spine children)) ≡ true →
+      list_all (only_of one) (shown (standing_of name) (spine children)) ≡ true →
       (passed : Bool) → test name ≡ passed → at_node name children
       ≡ cond passed (found children) (cond (is_transparent name) (in_each test found children) [])
   any_node name children around before again stands shaped all passed is = grind arith
@@ -122,25 +108,6 @@ module _ (test : Name → Bool) (only : Name) (one : Symbol) (p : Symbol → Boo
       grind (arith, level children, level rest, list_all-append, any_node, and_left, and_right)
 
 -- ---- the three levels
-value_is : (name : Name) → is_named GfmTableDelimiterCellValue name ≡ true →
-    name ≡ GfmTableDelimiterCellValue
-value_is name e = grind arith
-
-row_is : (name : Name) → is_delimiter_row name ≡ true → name ≡ GfmTableDelimiterRow
-row_is name e = grind arith
-
-head_is : (name : Name) → is_table_head name ≡ true → name ≡ GfmTableHead
-head_is name e = grind arith
-
--- neither of two
-abbrev neither : Symbol → Symbol → Symbol → Bool
-neither one other seen = not (sameb the_type one seen) && not (sameb the_type other seen)
-
-not_true : (b : Bool) → not b ≡ true → b ≡ false
-not_true b e = grind arith
-
-or_false : (a b : Bool) → a ≡ false → b ≡ false → (a || b) ≡ false
-or_false a b e f = ap (λ x. x || b) e ∙ f
 
 -- the alignments of a row's, a head's and a table's children
 abbrev of_value : Forest → List AlignKind
@@ -155,38 +122,26 @@ of_head children = in_each is_delimiter_row of_row children
 row_level : (children : Forest) → AreShaped children role.TableDelimiterRow None →
     Matches role.TableDelimiterRow (spine children) → alignments children ≡ of_row children
 row_level children shaped matches =
-    let p = neither symbol.TableHead symbol.TableDelimiterRow in
     level (is_named GfmTableDelimiterCellValue) GfmTableDelimiterCellValue
-    symbol.TableDelimiterValue p of_value value_is
-    (λ name. (named name).value) (λ around before inner stands each. refl) (λ seen e none. (
-      none,
-      or_false (sameb the_type symbol.TableHead seen) (sameb the_type symbol.TableDelimiterRow seen)
-          (not_true _ (and_left _ _ e)) (not_true _ (and_right _ _ e)),
-    )) children role.TableDelimiterRow None shaped (matches_pass p role.TableDelimiterRow
-    _ refl refl matches)
+    symbol.TableDelimiterValue of_value (λ name e. grind arith) (λ name. grind arith)
+    (λ around before inner stands each. refl) children role.TableDelimiterRow None shaped
+    (matches_pass (only_of symbol.TableDelimiterValue) role.TableDelimiterRow _ refl refl matches)
 
 head_level : (children : Forest) → AreShaped children role.TableHead None →
     Matches role.TableHead (spine children) → alignments children ≡ of_head children
 head_level children shaped matches =
-    let p = neither symbol.TableDelimiterValue symbol.TableHead in
-    level is_delimiter_row GfmTableDelimiterRow symbol.TableDelimiterRow p of_row row_is
-    (λ name. (named name).row) (λ around before inner stands each. row_level inner each stands)
-    (λ seen e none. (
-      not_true _ (and_left _ _ e),
-      or_false (sameb the_type symbol.TableHead seen) (sameb the_type symbol.TableDelimiterRow seen)
-          (not_true _ (and_right _ _ e)) none,
-    )) children role.TableHead None shaped (matches_pass p role.TableHead _ refl refl matches)
+    level is_delimiter_row GfmTableDelimiterRow symbol.TableDelimiterRow of_row
+    (λ name e. grind arith) (λ name. grind arith)
+    (λ around before inner stands each. row_level inner each stands) children role.TableHead None
+    shaped (matches_pass (only_of symbol.TableDelimiterRow) role.TableHead _ refl refl matches)
 
 table_level : (children : Forest) → IsTable children →
     alignments children ≡ in_each is_table_head of_head children
 table_level children table =
-    let p = neither symbol.TableDelimiterValue symbol.TableDelimiterRow in
-    level is_table_head GfmTableHead symbol.TableHead p of_head head_is (λ name. (named name).head)
-    (λ around before inner stands each. head_level inner each stands) (λ seen e none. (
-      not_true _ (and_left _ _ e),
-      or_false (sameb the_type symbol.TableHead seen) (sameb the_type symbol.TableDelimiterRow seen)
-          none (not_true _ (and_right _ _ e)),
-    )) children role.Table None table.0 (matches_pass p role.Table _ refl refl table.1)
+    level is_table_head GfmTableHead symbol.TableHead of_head (λ name e. grind arith)
+    (λ name. grind arith) (λ around before inner stands each. head_level inner each stands)
+    children role.Table None table.0
+    (matches_pass (only_of symbol.TableHead) role.Table _ refl refl table.1)
 
 -- ---- each of them
 map_cond : {A B : Type 0} (f : A → B) (passed transparent : Bool) (own inner : List A) →

@@ -22,11 +22,6 @@ slice_range-run bytes text s start end is low ordered high =
     (drop s bytes) ∙ ap (take left) (drop-drop from s bytes ∙ ap (λ n. drop n bytes) there) in
     ap (λ n. take n (drop from text)) count ∙ ap (take _) rest ∙ take-take _ left _ (omega arith)
 
--- bytes that may be read and are UTF-8 are a text
-pub text_when-some : (readable : Bool) (bytes part : List ℕ) → readable ≡ true →
-    part ≡ bytes → IsUtf8 part → text_when readable bytes ≡ Some part
-text_when-some readable bytes part holds same utf8 = grind (arith, is_utf8-from_IsUtf8)
-
 -- indices in order, within the bytes
 pub readable-ordered : (start end n : ℕ) → start ≤ end → end ≤ n →
     (nat_le start end && nat_le end n) ≡ true
@@ -38,7 +33,7 @@ pub run-part : (bytes text part : List ℕ) (s start end : ℕ) → s + length t
     end - s ≤ length text → part ≡ slice_range text (start - s) (end - s) → IsUtf8 part → text_when
     (nat_le start end && nat_le end (length bytes)) (slice_range bytes start end) ≡ Some part
 run-part bytes text part s start end within is low low_end ordered high same utf8 =
-    grind (arith, text_when-some, readable-ordered, slice_range-run)
+    grind (arith, readable-ordered, slice_range-run, is_utf8-from_IsUtf8)
 
 -- what holds of an answer, where there is one
 pub some-weaken : {A : Type 0} (P Q : A → Type 0) → ((a : A) → P a → Q a) → (o : Option A) →

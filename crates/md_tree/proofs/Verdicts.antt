@@ -68,26 +68,16 @@ module _ (holds : Reads) where
       Exits holds opens name point from to → Exits Anything opens name point from to
   anything_exits opens name point from to e = grind arith
 
-  anything_steps : (kind : Kind) (name : Name) (point : Point) (from to : Course) →
-      StepsBy holds kind name point from to → StepsBy Anything kind name point from to
-  anything_steps kind name point from to step = grind arith
-
   pub anything_runs : (events : List Event) (from to : Course) → Runs holds events from to →
       Runs Anything events from to
   anything_runs [] from to runs = runs
-  anything_runs (event ∷ events) from to runs = grind (arith, anything_runs events, anything_steps)
+  anything_runs (event ∷ events) from to runs = grind (arith, anything_runs events, anything_exits)
 
 module _ (bytes : List ℕ) (names : List (List ℕ × List ℕ)) where
   broken_leaves : (broken : Rule) (opens : List Open) (name : Name) (point : Point)
       (course next : Course) → BreaksAtExit bytes names broken opens name point course →
       Exits (Unbroken bytes names) opens name point course next → ⊥
   broken_leaves broken opens name point course next breaks exits = grind arith
-
-  stop_steps : (kind : Kind) (broken : Rule) (name : Name)
-      (point : Point) (course next : Course) → StopsBy bytes names kind broken name point course →
-      StepsBy (Unbroken bytes names) kind name point course next → ⊥
-  stop_steps kind broken name point course next stops here =
-      search (rules, mdx_enters, anything_exits, broken_leaves)
 
 -- a grammatical document is walked to its end
 pub Runs-checked : (given : Handed) (forest : Forest) → flatten forest ≡ given.events →
@@ -104,14 +94,4 @@ pub outside-stopped : (given : Handed) (seen more : List Event) (event : Event) 
     StopsBy given.bytes given.names event.kind broken event.name event.point course →
     IsChecked given → ⊥
 outside-stopped given seen more event course broken parts runs stops checked =
-    let holds = Unbroken given.bytes given.names in
-    let forest = checked.0 in
-    let document = Runs-checked given forest (IsReadAs.flattened checked.1)
-    (IsGrammatical.shape (IsReadAs.grammatical checked.1))
-    (IsGrammatical.rules (IsReadAs.grammatical checked.1)) in
-    let end = after_nodes forest document.0 beginning in
-    let split = Runs-split holds seen _ beginning end
-    (subst (λ es. Runs holds es beginning end) parts document.1) in
-    let same = Runs-same holds holds seen beginning split.0 course split.1 runs in
-    stop_steps given.bytes given.names event.kind broken event.name event.point
-    course split.2.0 stops (subst (λ c. Steps holds event c split.2.0) same split.2.1)
+    grind (arith, Runs-checked, Runs-split, Runs-same, mdx_enters, anything_exits, broken_leaves)
