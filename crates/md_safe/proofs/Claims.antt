@@ -20,8 +20,7 @@ use Rattle.md_meaning.specs.Meaning.Means.{prints}
 use Rattle.md_meaning.specs.Meaning.Tables.{cell_of}
 use Rattle.md_content.specs.Built.{Blocks, content_of}
 use Rattle.md_content.specs.Underlined.{is_underline}
-use Rattle.md_safe.specs.Contents.{Content, Phrasing, Flow, Characters, Cells, may_say}
-use Rattle.md_safe.specs.Contents.{voids_in}
+use Rattle.md_safe.specs.Contents.{Content, Phrasing, Flow, Characters, Cells, may_say, voids_in}
 use Rattle.md_safe.specs.Links.{prints_link}
 use Rattle.md_safe.proofs.Insides.{is_blocks}
 use Rattle.md_safe.proofs.Texts.{Escaped}

@@ -1,8 +1,8 @@
 -- The content model allows the meaning of a document's nodes: what pieces add to a text stands as
 -- some content; one induction over blocks, in addition to that of `Forests`, which covers strings,
 -- code and images.
-use Rattle.std.proofs.Common.{◌≡◌, ℕ, Bool, true, List, [], ◌++◌, refl, false, sym, ◌||◌, cond}
-use Rattle.std.proofs.Common.{ap, ◌∙◌, subst, append-nil, arith}
+use Rattle.std.proofs.Common.{◌≡◌, ℕ, Bool, true, List, [], ◌++◌, refl, false, sym, ◌||◌, cond, ap}
+use Rattle.std.proofs.Common.{◌∙◌, subst, append-nil, arith}
 use Rattle.md_meaning.specs.Meaning.Layout.{Piece, layout}
 use Rattle.md_safe.proofs.Laid.{Adds, adds-append, adds-weaker, adds-nothing, adds-needed}
 use Rattle.md_safe.specs.Contents.{Content, Phrasing, Flow}
@@ -16,8 +16,8 @@ use Rattle.md_safe.proofs.Insides.{is_blocks, is_blocks-same}
 use Rattle.md_content.specs.Built.{content_of, Blocks, is_part, is_source, may_stand}
 use Rattle.md_content.specs.Built.{content_inside, IsBuilt}
 use Rattle.md_safe.proofs.Linking.{place_in, with_links, is_spans, inner_place, inner-place-with}
-use Rattle.md_safe.proofs.Linking.{IsLinked, linked-inside, unnested-inside}
-use Rattle.md_safe.proofs.Linking.{unlinked-here, unlinked-spans, unnested-parts}
+use Rattle.md_safe.proofs.Linking.{IsLinked, linked-inside, unnested-inside, unlinked-here}
+use Rattle.md_safe.proofs.Linking.{unlinked-spans, unnested-parts}
 use Rattle.md_safe.proofs.Elements.{adds-empty_cells}
 use Rattle.std.specs.Prelude.{Option}
 use Rattle.md_base.proofs.Lies.{lie}

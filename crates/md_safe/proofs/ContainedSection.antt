@@ -1,7 +1,7 @@
 -- The section of footnotes is flow content: its heading, its items and their ways back, which the
 -- last paragraph of flow content takes before its end.
-use Rattle.std.proofs.Common.{◌≡◌, ℕ, Bool, ◌==◌, true, List, [], ◌∷◌, ◌++◌, refl, sym, ap}
-use Rattle.std.proofs.Common.{◌∙◌, subst, append_assoc, append-nil, codes, arith}
+use Rattle.std.proofs.Common.{◌≡◌, ℕ, Bool, ◌==◌, true, List, [], ◌∷◌, ◌++◌, refl, sym, ap, ◌∙◌}
+use Rattle.std.proofs.Common.{subst, append_assoc, append-nil, codes, arith}
 use Rattle.std.proofs.lemmas.Bool.{and_parts, and_from}
 use Rattle.md_base.proofs.Lies.{lie}
 use Rattle.md_text.specs.Laws.{is_line_ends}
@@ -12,8 +12,8 @@ use Rattle.std.specs.List.{list_all}
 use Rattle.md_text.proofs.HtmlPut.{IsMade, made-before}
 use Rattle.md_safe.specs.Contents.{Content, Flow, Phrasing, held_in, is_contained, Items}
 use Rattle.md_safe.proofs.Stands.{Stands, stands-join, stands-nothing, stands-text, turns-tag}
-use Rattle.md_safe.proofs.Stands.{is_held, stands-tag, takes-white, IsWhite}
-use Rattle.md_safe.proofs.Stands.{white_beside, Opens, stands-wider}
+use Rattle.md_safe.proofs.Stands.{is_held, stands-tag, takes-white, IsWhite, white_beside, Opens}
+use Rattle.md_safe.proofs.Stands.{stands-wider}
 use Rattle.std.specs.Prelude.{None}
 use Rattle.md_meaning.specs.Meaning.At.{Footnote}
 use Rattle.md_meaning.specs.Meaning.Footnotes.{body, item, section, distinct, place_among, count_of}

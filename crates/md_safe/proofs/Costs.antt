@@ -1,7 +1,7 @@
 -- How often an id stands in what is printed: what is claimed of texts and of footnotes. What a node
 -- costs: how often an id stands in what it prints, as often as calls have it at most.
-use Rattle.std.proofs.Common.{◌≡◌, ℕ, ◌+◌, ◌≤◌, Bool, true, false, List, [], ◌∷◌, ◌++◌}
-use Rattle.std.proofs.Common.{refl, subst, arith, codes, append-nil}
+use Rattle.std.proofs.Common.{◌≡◌, ℕ, ◌+◌, ◌≤◌, Bool, true, false, List, [], ◌∷◌, ◌++◌, refl, subst}
+use Rattle.std.proofs.Common.{arith, codes, append-nil}
 use Rattle.std.specs.Prelude.{unwrap_or}
 use Rattle.md_text.specs.References.{read_back}
 use Rattle.md_text.specs.Html.{Attribute, is_tag, elements, any_attribute}

@@ -5,13 +5,13 @@
 use Rattle.std.proofs.Common.{◌≡◌, ℕ, suc, ◌+◌, Bool, true, false, not, List, [], ◌∷◌, ◌++◌, refl}
 use Rattle.std.proofs.Common.{arith, codes, cond, ap, ◌∙◌, subst}
 use Rattle.std.specs.Fmt.{decimal}
-use Rattle.std.proofs.lemmas.Bool.{cond_both, or_parts, cond_both}
+use Rattle.std.proofs.lemmas.Bool.{cond_both, or_parts}
 use Rattle.md_base.proofs.Lies.{lie}
 use Rattle.md_base.specs.declared.event.Name.{Name}
 use Rattle.md_base.specs.declared.event.Name.TheVariants as name_variants
 use name_variants.{HeadingSetextText, HeadingSetextUnderlineSequence, GfmFootnoteDefinition}
 use name_variants.{GfmFootnoteCall}
-use Rattle.md_base.specs.Tree.{Forest, Forest, Empty, Node}
+use Rattle.md_base.specs.Tree.{Forest, Empty, Node}
 use Rattle.md_base.specs.Children.{spine_names, or_else}
 use Rattle.md_text.specs.References.{read_back}
 use Rattle.md_text.proofs.HtmlIds.{occurs, Counts, counts-more, counts-join}
@@ -26,7 +26,7 @@ use Rattle.md_safe.proofs.Texts.{decimal-escaped}
 use Rattle.md_safe.proofs.Laid.{Adds, adds-nothing, adds-text, adds-alone, adds-append}
 use Rattle.md_safe.proofs.Tags.{adds-flat}
 use Rattle.md_safe.proofs.Calls.{id-escaped, call_id-escaped, call_tags}
-use Rattle.md_safe.proofs.Insides.{is_blocks, is_blocks, is_blocks-same}
+use Rattle.md_safe.proofs.Insides.{is_blocks, is_blocks-same}
 use Rattle.md_safe.proofs.Spot.{Setting}
 use Rattle.md_safe.proofs.FlowNodes.{setext-fits}
 use Rattle.md_safe.proofs.Costs.{counts-call, Waiting, texts-append, Document, Costs, Place}

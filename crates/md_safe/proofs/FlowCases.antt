@@ -32,8 +32,8 @@ use Rattle.md_text.specs.Html.{Attribute, elements, is_tag, opening_tag}
 use Rattle.md_safe.proofs.Cases.{either, cases}
 use Rattle.md_safe.proofs.Elements.{adds-cell_in, adds-ordered, class-passes, code_closing}
 use Rattle.md_safe.proofs.Elements.{heading_name, item-end, ranked}
-use Rattle.md_safe.proofs.Claims.{Claims, Known, NodePrints, Own, Prints, alone}
-use Rattle.md_safe.proofs.Claims.{block-pair, ending-around, lined, nothing, plain_tag, turned}
+use Rattle.md_safe.proofs.Claims.{Claims, Known, NodePrints, Own, Prints, alone, block-pair}
+use Rattle.md_safe.proofs.Claims.{ending-around, lined, nothing, plain_tag, turned}
 use Rattle.md_safe.proofs.Contents.{Holds}
 use Rattle.md_safe.proofs.FenceNodes.{inside-is}
 use Rattle.md_safe.proofs.FlowNodes.{in-raw, is_flow, is_math, line-escaped, raw-prints, raw_tag}
@@ -41,8 +41,8 @@ use Rattle.md_safe.proofs.FlowNodes.{setext-fits}
 use Rattle.md_safe.proofs.Insides.{is_raw}
 use Rattle.md_safe.proofs.Laid.{Adds, adds-alone, adds-text, adds-weaker, adds-when, adds-needed}
 use Rattle.md_safe.proofs.Linking.{is_spans, with_links}
-use Rattle.md_safe.proofs.RawElements.{IsInfo, IsRaw, adds-raw, code-end, code_tag}
-use Rattle.md_safe.proofs.RawElements.{fenced-end, info_regrouped}
+use Rattle.md_safe.proofs.RawElements.{IsInfo, IsRaw, adds-raw, code-end, code_tag, fenced-end}
+use Rattle.md_safe.proofs.RawElements.{info_regrouped}
 use Rattle.md_safe.proofs.SpanCases.{Spanning, inline-node, is_inline}
 use Rattle.md_safe.proofs.Stands.{is_spaced}
 use Rattle.md_safe.proofs.Tags.{Turns, adds-flat, attribute, framed-forced, framed-needed}

@@ -1,17 +1,17 @@
 -- Blocks and preformatted code are built as they are read, by what their children do; and what is
 -- known of each element that stands in flow content or in a list.
-use Rattle.std.proofs.Common.{◌≡◌, ℕ, true, false, List, ◌∷◌, ◌++◌, refl, ap, codes, ◌⊎◌}
-use Rattle.std.proofs.Common.{Bool, arith}
+use Rattle.std.proofs.Common.{◌≡◌, ℕ, true, false, List, ◌∷◌, ◌++◌, refl, ap, codes, ◌⊎◌, Bool}
+use Rattle.std.proofs.Common.{arith}
 use Rattle.std.specs.Prelude.{Some, bytes_eq}
 use Rattle.md_base.proofs.Lies.{lie}
 use Rattle.md_text.specs.Html.{Attribute, Forest, Empty, Text, Void, Element}
-use Rattle.md_safe.specs.Token.{Token, EndTag, TokenAttribute, TokenAttribute}
+use Rattle.md_safe.specs.Token.{Token, EndTag, TokenAttribute}
 use Rattle.md_safe.specs.Tokens.{seen_attributes, tokens}
 use Rattle.md_safe.specs.Contents.{Preformatted, is_contained, Content, Flow, Phrasing, Items}
 use Rattle.md_safe.specs.Contents.{Parts, elements_in}
-use Rattle.md_safe.specs.Node.{Nodes, Open, Parser, Empty as NoNode, Nodes, Open, Parser}
-use Rattle.md_safe.specs.Elements.{button_scope, headings, headings}
-use Rattle.md_safe.specs.Stack.{is_named, is_among, has_in_scope, insert, popped, insert}
+use Rattle.md_safe.specs.Node.{Nodes, Open, Parser, Empty as NoNode}
+use Rattle.md_safe.specs.Elements.{button_scope, headings}
+use Rattle.md_safe.specs.Stack.{is_named, is_among, has_in_scope, insert, popped}
 use Rattle.md_safe.specs.InBody.{close_p, has_item, start_in_body, end_in_body}
 use Rattle.md_safe.specs.Construction.{run}
 use Rattle.md_safe.specs.Built.{put, at, is_body}

@@ -2,21 +2,18 @@
 -- node's children, and before what follows it; blocks occur only in blocks, and a condition on
 -- blocks alone covers no more after nodes. After a node's children, and after it, no first fence is
 -- to come.
-use Rattle.std.proofs.Common.{◌≡◌, Bool, true, false, ◌||◌, refl, subst, ℕ, cond}
-use Rattle.std.proofs.Common.{List, [], ◌∷◌, ◌++◌, append_assoc, append-nil, arith}
-use Rattle.std.proofs.lemmas.Bool.{cond_both, cond_both, or_left, or_right}
+use Rattle.std.proofs.Common.{◌≡◌, Bool, true, false, ◌||◌, refl, subst, ℕ, cond, List, [], ◌∷◌}
+use Rattle.std.proofs.Common.{◌++◌, append_assoc, append-nil, arith}
+use Rattle.std.proofs.lemmas.Bool.{cond_both, or_left, or_right}
 use Rattle.md_base.specs.declared.event.Name.{Name}
-use Rattle.md_base.specs.Tree.{Forest, Forest, Empty, Node, Forest}
-use Rattle.md_content.specs.Built.{Content, may_stand, content_of, content_past}
-use Rattle.md_content.specs.Built.{content_after_node}
-use Rattle.md_content.specs.Built.{is_fence}
-use Rattle.md_content.specs.Built.{content_after, content_inside, IsBuilt, IsFit}
+use Rattle.md_base.specs.Tree.{Forest, Empty, Node}
+use Rattle.md_content.specs.Built.{Content, may_stand, content_of, content_past, content_after_node}
+use Rattle.md_content.specs.Built.{is_fence, content_after, content_inside, IsBuilt, IsFit}
 use Rattle.md_safe.proofs.Contents.{stays-after, Follows, spine_after_node, is_first}
-use Rattle.md_safe.proofs.Insides.{allowed_inside, is_blocks, of-blocks, Suits}
-use Rattle.md_safe.proofs.Insides.{past_of, is_raw}
-use Rattle.md_safe.proofs.Cases.{cases, cases}
+use Rattle.md_safe.proofs.Insides.{allowed_inside, is_blocks, of-blocks, Suits, past_of, is_raw}
+use Rattle.md_safe.proofs.Cases.{cases}
 use Rattle.std.specs.List.{list_any}
-use Rattle.md_base.specs.NameTests.{is_transparent, is_fence as fence_name, is_fence as fence_name}
+use Rattle.md_base.specs.NameTests.{is_transparent, is_fence as fence_name}
 use Rattle.md_base.specs.Children.{spine_names}
 use Rattle.std.proofs.lemmas.List.Folds.{list_any-append}
 use Rattle.md_base.specs.declared.event.Point.{Point}

@@ -1,6 +1,6 @@
 -- A forest, node by node: to the data state, before whatever follows.
-use Rattle.std.proofs.Common.{◌≡◌, ℕ, true, false, not, List, [], ◌∷◌, ◌++◌, refl, sym, arith}
-use Rattle.std.proofs.Common.{◌∙◌, append-nil, append_assoc}
+use Rattle.std.proofs.Common.{◌≡◌, ℕ, true, false, not, List, [], ◌∷◌, ◌++◌, refl, sym, arith, ◌∙◌}
+use Rattle.std.proofs.Common.{append-nil, append_assoc}
 use Rattle.std.proofs.lemmas.Bool.{and_parts}
 use Rattle.md_text.specs.Html.{Attribute, Forest, Empty, Text, Void, Element, is_forest}
 use Rattle.md_text.specs.Html.{begins_with_text, written, IsReading}
@@ -12,8 +12,7 @@ use Rattle.md_safe.specs.Tokens.{tokens}
 use Rattle.md_safe.proofs.TagLeads.{good-no_return, lined, line_feeds-attributes, element-leads}
 use Rattle.md_safe.proofs.TagLeads.{void-leads, end-leads}
 use Rattle.md_safe.proofs.LineFeeds.{line_feeds-append, line_feeds-name, line_feeds-escaped}
-use Rattle.md_safe.proofs.GoodNames.{is_good_name, are_good, element-good}
-use Rattle.md_safe.proofs.GoodNames.{void-good}
+use Rattle.md_safe.proofs.GoodNames.{is_good_name, are_good, element-good, void-good}
 use Rattle.md_safe.specs.Embedded.{EndsInDataState}
 use Rattle.md_safe.proofs.TextLeads.{To, arrived, text-leads}
 

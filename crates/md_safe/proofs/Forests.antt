@@ -1,7 +1,7 @@
 -- What the nodes of a document mean: the induction over nodes of any content, for any claim that is
 -- kept where two texts meet. It goes over all that an outcome has at once.
-use Rattle.std.proofs.Common.{◌≡◌, Bool, true, false, ◌||◌, List, [], ◌∷◌, ◌++◌, sym, arith}
-use Rattle.std.proofs.Common.{subst, append_assoc}
+use Rattle.std.proofs.Common.{◌≡◌, Bool, true, false, ◌||◌, List, [], ◌∷◌, ◌++◌, sym, arith, subst}
+use Rattle.std.proofs.Common.{append_assoc}
 use Rattle.std.proofs.lemmas.Bool.{cond_both}
 use Rattle.md_base.specs.declared.event.Name.{Name}
 use Rattle.md_base.specs.declared.event.Name.TheVariants as name_variants
@@ -18,8 +18,8 @@ use Rattle.md_meaning.specs.Meaning.At.{Target}
 use Rattle.md_meaning.specs.Meaning.Before.{before_children}
 use Rattle.md_meaning.specs.Meaning.Layout.{Piece, layout, when}
 use Rattle.md_meaning.specs.Meaning.Nodes.{Outcome, found_at, node, before_next, outcome}
-use Rattle.md_content.specs.Built.{Content, may_stand, content_inside}
-use Rattle.md_content.specs.Built.{content_after_node, content_after, IsBuilt}
+use Rattle.md_content.specs.Built.{Content, may_stand, content_inside, content_after_node}
+use Rattle.md_content.specs.Built.{content_after, IsBuilt}
 use Rattle.md_safe.proofs.Contents.{stays-after, Holds, Follows}
 use Rattle.md_safe.proofs.Insides.{is_blocks, Suits, past_of}
 use Rattle.md_safe.proofs.Following.{inside-blocks, asked-after-node, second, follows-inside}
@@ -28,8 +28,8 @@ use Rattle.md_safe.proofs.Spot.{IsWhole, Setting, AreTitles, IsFitAt, Prints, In
 use Rattle.md_safe.proofs.FlowNodes.{Reads}
 use Rattle.md_safe.proofs.BlockNodes.{holds-none}
 use Rattle.md_safe.proofs.Nodes.{Knows, any-node, inside-alone, Before as PrintsBefore}
-use Rattle.md_safe.proofs.Findings.{AreFound, AreRead, titles-append, texts-append}
-use Rattle.md_safe.proofs.Findings.{Inner, found-node, note-node}
+use Rattle.md_safe.proofs.Findings.{AreFound, AreRead, titles-append, texts-append, Inner}
+use Rattle.md_safe.proofs.Findings.{found-node, note-node}
 use Rattle.md_safe.proofs.Cases.{on-later, on-either}
 use Rattle.md_safe.proofs.Texts.{Escaped}
 use Rattle.md_safe.proofs.Media.{IsEscapedTitle}

@@ -1,7 +1,7 @@
 -- The list of active formatting elements while phrasing content is built: entries are taken
 -- away from it alone.
-use Rattle.std.proofs.Common.{◌≡◌, ◌⊎◌, inl, inr, ℕ, ◌≤◌, nat_lt, false}
-use Rattle.std.proofs.Common.{cond, List, [], ◌∷◌, refl, sym, subst, arith}
+use Rattle.std.proofs.Common.{◌≡◌, ◌⊎◌, inl, inr, ℕ, ◌≤◌, nat_lt, false, cond, List, [], ◌∷◌, refl}
+use Rattle.std.proofs.Common.{sym, subst, arith}
 use Rattle.std.specs.Prelude.{None}
 use Rattle.std.proofs.lemmas.Bool.{or_right, cond_both}
 use Rattle.md_safe.specs.Token.{TokenAttribute}

@@ -5,8 +5,7 @@ use Rattle.std.proofs.Common.{refl, ap, inl, inr, append-nil, codes}
 use Rattle.md_base.proofs.Lies.{lie}
 use Rattle.md_base.specs.declared.event.Name.{Name}
 use Rattle.md_base.specs.declared.event.Name.TheVariants as name_variants
-use name_variants.{CodeFencedFenceInfo, CodeFencedFenceMeta}
-use name_variants.{MathFlowFenceMeta}
+use name_variants.{CodeFencedFenceInfo, CodeFencedFenceMeta, MathFlowFenceMeta}
 use Rattle.md_text.proofs.EscapedLemmas.{escaped-append}
 use Rattle.md_base.specs.NameTests.{is_transparent}
 use Rattle.md_pattern.specs.Looseness.{is_loose}

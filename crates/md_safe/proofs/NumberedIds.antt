@@ -1,12 +1,12 @@
 -- Ids by number: which number each has is read back of it. The numbers of calls and their
 -- occurrences determine them, and so do their ids.
-use Rattle.std.proofs.Common.{◌≡◌, ℕ, ◌<◌, ◌^◌, zero, suc, true, false}
-use Rattle.std.proofs.Common.{List, [], ◌∷◌, ◌++◌, refl, sym, ap, arith, append_assoc}
-use Rattle.std.proofs.Common.{codes, ◌+◌, ◌≤◌, Bool, ◌||◌, length, append-nil, bytes_eq}
+use Rattle.std.proofs.Common.{◌≡◌, ℕ, ◌<◌, ◌^◌, zero, suc, true, false, List, [], ◌∷◌, ◌++◌, refl}
+use Rattle.std.proofs.Common.{sym, ap, arith, append_assoc, codes, ◌+◌, ◌≤◌, Bool, ◌||◌, length}
+use Rattle.std.proofs.Common.{append-nil, bytes_eq}
 use Rattle.std.specs.Prelude.{filter}
 use Rattle.std.specs.List.{list_all}
 use Rattle.std.specs.Fmt.{decimal, digits, digits_onto}
-use Rattle.std.proofs.lemmas.Bool.{and_parts, cond_both, cond_both, or_right}
+use Rattle.std.proofs.lemmas.Bool.{and_parts, cond_both, or_right}
 use Rattle.std.proofs.lemmas.Fmt.{decimal_injective}
 use Rattle.std.proofs.lemmas.List.{append_cancel_left, length-append}
 use Rattle.std.proofs.lemmas.List.Folds.{list_all-append}

@@ -1,7 +1,7 @@
 -- A page's document: its fixed parts by computing, its title character by character, and its
 -- body as it is built.
-use Rattle.std.proofs.Common.{◌≡◌, ℕ, ◌==◌, true, false, List, [], ◌∷◌, ◌++◌, refl, arith}
-use Rattle.std.proofs.Common.{ap, ◌∙◌, map, codes}
+use Rattle.std.proofs.Common.{◌≡◌, ℕ, ◌==◌, true, false, List, [], ◌∷◌, ◌++◌, refl, arith, ap, ◌∙◌}
+use Rattle.std.proofs.Common.{map, codes}
 use Rattle.std.specs.Prelude.{Option, Some, None, is_some, option_and_then}
 use Rattle.std.specs.List.{list_all}
 use Rattle.std.proofs.lemmas.Bool.{and_parts, not-true}

@@ -1,7 +1,7 @@
 -- Phrasing content is built as it is read: texts, void tags, formatting elements and others,
 -- without a link in a link.
-use Rattle.std.proofs.Common.{◌≡◌, inl, inr, ℕ, ◌≤◌, suc, Bool, true, false, List, refl}
-use Rattle.std.proofs.Common.{map, arith, Some}
+use Rattle.std.proofs.Common.{◌≡◌, inl, inr, ℕ, ◌≤◌, suc, Bool, true, false, List, refl, map, arith}
+use Rattle.std.proofs.Common.{Some}
 use Rattle.std.proofs.lemmas.Bool.{and_parts}
 use Rattle.md_text.specs.Html.{Attribute, Forest, Empty, Text, Void, Element}
 use Rattle.md_text.specs.References.{is_escaped}

@@ -1,7 +1,7 @@
 -- Where phrasing content may be inserted, what builds an element there, and which elements there
 -- are.
-use Rattle.std.proofs.Common.{◌≡◌, ℕ, ◌≤◌, suc, Bool, true, false, List, [], ◌∷◌, ◌++◌}
-use Rattle.std.proofs.Common.{◌∙◌, codes, arith, not, ◌&&◌}
+use Rattle.std.proofs.Common.{◌≡◌, ℕ, ◌≤◌, suc, Bool, true, false, List, [], ◌∷◌, ◌++◌, ◌∙◌, codes}
+use Rattle.std.proofs.Common.{arith, not, ◌&&◌}
 use Rattle.std.specs.Prelude.{Some, None, find, option_map, bytes_eq}
 use Rattle.std.specs.Option.{option_map_or}
 use Rattle.std.proofs.lemmas.Slice.Eq.{bytes_eq-Decides}

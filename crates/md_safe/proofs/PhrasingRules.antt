@@ -1,15 +1,15 @@
 -- Ordinary and formatting elements are built as they are read, by what their children do; what is
 -- known of each element of phrasing content, and where its children are inserted.
-use Rattle.std.proofs.Common.{◌≡◌, inl, inr, ℕ, ◌==◌, true, false, List, ◌∷◌, refl, ◌∙◌}
-use Rattle.std.proofs.Common.{codes, eq-eqb, ◌⊎◌, suc, Bool, arith}
-use Rattle.std.specs.Prelude.{Some, None, bytes_eq, bytes_eq}
+use Rattle.std.proofs.Common.{◌≡◌, inl, inr, ℕ, ◌==◌, true, false, List, ◌∷◌, refl, ◌∙◌, codes}
+use Rattle.std.proofs.Common.{eq-eqb, ◌⊎◌, suc, Bool, arith}
+use Rattle.std.specs.Prelude.{Some, None, bytes_eq}
 use Rattle.md_text.specs.Bytes.{is_one_of}
 use Rattle.md_text.specs.Html.{Attribute, Forest}
 use Rattle.md_safe.specs.Token.{TokenAttribute}
 use Rattle.md_safe.specs.Tokens.{seen_attributes}
-use Rattle.md_safe.specs.Node.{Nodes, Open, Entry, Formatting, Mode, Empty as NoNode, Entry}
+use Rattle.md_safe.specs.Node.{Nodes, Open, Entry, Formatting, Mode, Empty as NoNode}
 use Rattle.md_safe.specs.Elements.{special}
-use Rattle.md_safe.specs.Stack.{insert, popped, insert}
+use Rattle.md_safe.specs.Stack.{insert, popped}
 use Rattle.md_safe.specs.Formatting.{push, last_active, adopt, end_formatting}
 use Rattle.md_safe.specs.InBody.{insert_formatting}
 use Rattle.md_safe.specs.Built.{put, at, is_body, AreCreated, AreOpen}
@@ -18,11 +18,9 @@ use Rattle.md_safe.proofs.Lists.{keeps-open, later-created, open-under, keeps-no
 use Rattle.md_safe.proofs.Steps.{here, past}
 use Rattle.md_safe.proofs.TreeSteps.{Position, parser_of, element_of, within, reconstructs}
 use Rattle.md_safe.proofs.PhrasingNames.{Done, Passed, IsOrdinary, IsFormatting, full, passes}
-use Rattle.md_safe.proofs.PhrasingNames.{is_free, Each, IsVoid}
-use Rattle.md_safe.proofs.PhrasingNames.{void-named, Here}
+use Rattle.md_safe.proofs.PhrasingNames.{is_free, Each, IsVoid, void-named, Here}
 use Rattle.std.proofs.lemmas.Bool.{or_left}
-use Rattle.md_safe.specs.Contents.{Content, Phrasing, Linked, Characters}
-use Rattle.md_safe.specs.Contents.{elements_in, voids_in}
+use Rattle.md_safe.specs.Contents.{Content, Phrasing, Linked, Characters, elements_in, voids_in}
 
 -- an ordinary element
 pub ordinary-passes : {x : Position} {name : List ℕ} {attributes : List Attribute}

@@ -1,6 +1,6 @@
 -- Each document of the grammar is placed: the content of a node's children allows them.
-use Rattle.std.proofs.Common.{◌≡◌, true, ◌||◌, false, Bool, Option, None, List}
-use Rattle.std.proofs.Common.{◌++◌, refl, sym, ◌∙◌, arith}
+use Rattle.std.proofs.Common.{◌≡◌, true, ◌||◌, false, Bool, Option, None, List, ◌++◌, refl, sym}
+use Rattle.std.proofs.Common.{◌∙◌, arith}
 use Rattle.std.specs.List.{list_all}
 use Rattle.std.proofs.lemmas.Bool.{and_parts}
 use Rattle.std.proofs.lemmas.List.Folds.{list_all-append}

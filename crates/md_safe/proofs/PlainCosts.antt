@@ -4,8 +4,7 @@ use Rattle.std.specs.Prelude.{None}
 use Rattle.md_base.proofs.Lies.{lie}
 use Rattle.md_base.specs.declared.event.Name.{Name}
 use Rattle.md_base.specs.declared.event.Name.TheVariants as name_variants
-use name_variants.{HeadingSetextText}
-use name_variants.{HeadingSetextUnderlineSequence, GfmFootnoteDefinition}
+use name_variants.{HeadingSetextText, HeadingSetextUnderlineSequence, GfmFootnoteDefinition}
 use Rattle.md_base.specs.Is.{is as named}
 use Rattle.md_base.specs.Tree.{Forest, Empty, Node}
 use Rattle.md_base.specs.NameTests.{is_transparent, is_call}

@@ -22,8 +22,8 @@ use Rattle.md_meaning.specs.Meaning.At.{Context, text_in}
 use Rattle.md_meaning.specs.Meaning.Before.{nothing_before}
 use Rattle.md_meaning.specs.Meaning.Finds.{first_ending}
 use Rattle.md_meaning.specs.Meaning.Nodes.{outcome}
-use Rattle.md_content.specs.Built.{Content, Blocks, content_inside, content_after_node}
-use Rattle.md_content.specs.Built.{IsBuilt, IsFit}
+use Rattle.md_content.specs.Built.{Content, Blocks, content_inside, content_after_node, IsBuilt}
+use Rattle.md_content.specs.Built.{IsFit}
 use Rattle.md_safe.proofs.Stands.{IsWhite, line_ends-white}
 use Rattle.md_safe.proofs.Costs.{Document, read_in}
 use Rattle.md_safe.specs.Options.{KeepsGrammar}

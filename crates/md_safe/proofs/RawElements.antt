@@ -1,6 +1,6 @@
 -- The tags of fenced code and of math, around what is said of it and what it holds.
-use Rattle.std.proofs.Common.{◌≡◌, ◌⊎◌, ℕ, List, [], ◌∷◌, ◌++◌, refl, ap}
-use Rattle.std.proofs.Common.{append_assoc, append-nil, codes}
+use Rattle.std.proofs.Common.{◌≡◌, ◌⊎◌, ℕ, List, [], ◌∷◌, ◌++◌, refl, ap, append_assoc, append-nil}
+use Rattle.std.proofs.Common.{codes}
 use Rattle.std.specs.List.{list_any}
 use Rattle.md_text.specs.Html.{opening_tag}
 use Rattle.md_base.specs.Children.{spine_names}

@@ -1,16 +1,16 @@
 -- A value without a protocol has no scheme, and one with a permitted protocol has that scheme: no
 -- byte that is removed or changed on the way belongs to a scheme.
 use Rattle.std.proofs.Common.{◌≡◌, ℕ, ◌==◌, Bool, true, false, List, [], ◌∷◌, ◌++◌, refl, None}
-use Rattle.std.proofs.Common.{arith, ◌||◌, not, ◌&&◌, sym, ap, ap₂, ◌∙◌, Option}
-use Rattle.std.proofs.Common.{Some, append-nil, append_assoc, eqb-true}
+use Rattle.std.proofs.Common.{arith, ◌||◌, not, ◌&&◌, sym, ap, ap₂, ◌∙◌, Option, Some, append-nil}
+use Rattle.std.proofs.Common.{append_assoc, eqb-true}
 use Rattle.std.specs.List.{list_all}
 use Rattle.std.proofs.lemmas.Bool.{cond_both, and_parts, or_left}
-use Rattle.md_text.specs.Bytes.{is_letter, lower, is_letter, lower, lowered, is_one_of}
-use Rattle.md_text.specs.Url.{protocol_of, protocol_of, link_protocols, image_protocols}
+use Rattle.md_text.specs.Bytes.{is_letter, lower, lowered, is_one_of}
+use Rattle.md_text.specs.Url.{protocol_of, link_protocols, image_protocols}
 use Rattle.md_text.proofs.ProtocolLemmas.{map_none, ends_protocol, none_some, map_some}
 use Rattle.md_text.proofs.ProtocolLemmas.{protocol_of-goes_on, protocol_of-colon, protocol_of-end}
 use Rattle.md_text.proofs.HtmlRead.{passes_not}
-use Rattle.md_safe.specs.Input.{with_line_feeds, with_line_feeds, begins_with_line_feed}
+use Rattle.md_safe.specs.Input.{with_line_feeds, begins_with_line_feed}
 use Rattle.md_safe.specs.Scheme.{is_control_or_space, without_leading, without_trailing}
 use Rattle.md_safe.specs.Scheme.{is_tab_or_newline, without_newlines, is_scheme_byte, in_scheme}
 use Rattle.md_safe.specs.Scheme.{in_scheme_start, scheme_of, has_permitted_scheme}

@@ -1,14 +1,12 @@
 -- What stands in a line of text: strings, spans, links and what prints nothing print phrasing
 -- content.
-use Rattle.std.proofs.Common.{Bool, List, codes, false, refl, suc, sym, true, ℕ, ◌&&◌, ◌++◌}
-use Rattle.std.proofs.Common.{◌||◌, ◌∙◌, ◌∷◌, ◌≡◌, subst, [], not, cond, arith}
+use Rattle.std.proofs.Common.{Bool, List, codes, false, refl, suc, sym, true, ℕ, ◌&&◌, ◌++◌, ◌||◌}
+use Rattle.std.proofs.Common.{◌∙◌, ◌∷◌, ◌≡◌, subst, [], not, cond, arith}
 use Rattle.std.proofs.lemmas.Bool.{and_parts, cond_both, not-true, or_parts}
 use Rattle.std.specs.Prelude.{None}
 use Rattle.md_base.specs.declared.event.Name.TheVariants as name_variants
-use name_variants.{AutolinkEmail, AutolinkProtocol, GfmAutolinkLiteralEmail}
-use name_variants.{GfmAutolinkLiteralMailto, GfmAutolinkLiteralProtocol, GfmAutolinkLiteralWww}
-use name_variants.{GfmAutolinkLiteralXmpp, GfmFootnoteCall, GfmTaskListItemCheck, HardBreakEscape}
-use name_variants.{HardBreakTrailing, Image, Link}
+use name_variants.{GfmFootnoteCall, GfmTaskListItemCheck, HardBreakEscape, HardBreakTrailing, Image}
+use name_variants.{Link}
 use Rattle.md_base.proofs.Lies.{lie}
 use Rattle.md_base.specs.Is.{is as named}
 use Rattle.md_base.specs.declared.event.Name.{Name}
@@ -17,7 +15,7 @@ use Rattle.md_meaning.specs.Meaning.At.{At, Target, identifier_of, text_in}
 use Rattle.md_meaning.specs.Meaning.Footnotes.{call_id, count_of, distinct, place_among}
 use Rattle.md_meaning.specs.Meaning.Layout.{Piece, Text, layout, said, when}
 use Rattle.md_meaning.specs.Meaning.Means.{prints}
-use Rattle.md_meaning.specs.Meaning.Media.{anchor, autolink, literal}
+use Rattle.md_meaning.specs.Meaning.Media.{anchor, autolink}
 use Rattle.md_meaning.specs.Meaning.Spans.{task_start}
 use Rattle.md_text.proofs.EncodeLaws.{is_escaped-encoded}
 use Rattle.md_text.specs.Encode.{encoded}
@@ -35,6 +33,7 @@ use Rattle.md_safe.proofs.Media.{IsEscapedTitle, adds-image, adds-link}
 use Rattle.md_safe.proofs.SpanNodes.{is_shown, is_single}
 use Rattle.md_safe.proofs.SpanSorts.{by_pair, code-prints, code-text, code_opening, is_code}
 use Rattle.md_safe.proofs.SpanSorts.{is_math, is_pair, pair-prints, shown-escaped, shown_in}
+use Rattle.md_safe.proofs.SpanSorts.{autolink-prints, autolink_prefix, is_plain_at}
 use Rattle.md_safe.proofs.Spot.{target-title}
 use Rattle.md_safe.proofs.StringNodes.{is_text, text-node}
 use Rattle.md_safe.proofs.Tags.{Tagged, Turns, adds-flat, attribute}
@@ -69,28 +68,11 @@ autolinked m {content} f t plain prefix free =
     other) (link m (record { destination = prefix ++ x; title = None }) (encoded true x) tt
     (linked-text m (encoded true x) said_so)))
 
--- a literal autolink, which is plain in links too
-literal-node : (m : Claims) {content : Content} → AreSpans m.nested content →
-    (t : At) (prefix : List ℕ) → (t.around.in_link ≡ false → content ≡ Phrasing) →
-    Prints m content (literal m.s.context t prefix)
-literal-node m f t prefix plain = grind (arith, autolinked, or_parts)
-
 autolink-node : (m : Claims) (t : At) (content : Content) (name : Name) → is_autolink name ≡ true →
     SpanPrints m t content name
-autolink-node m t content AutolinkEmail is inner k a = autolinked m a.spans t t.around.in_image
-    (codes "mailto:") (λ _. a.free refl)
-autolink-node m t content AutolinkProtocol is inner k a = autolinked m a.spans t t.around.in_image
-    [] (λ _. a.free refl)
-autolink-node m t content GfmAutolinkLiteralEmail is inner k a = literal-node m a.spans t
-    (codes "mailto:") a.plain
-autolink-node m t content GfmAutolinkLiteralMailto is inner k a = literal-node m a.spans t []
-    a.plain
-autolink-node m t content GfmAutolinkLiteralProtocol is inner k a = literal-node m a.spans t []
-    a.plain
-autolink-node m t content GfmAutolinkLiteralWww is inner k a = literal-node m a.spans t
-    (codes "http://") a.plain
-autolink-node m t content GfmAutolinkLiteralXmpp is inner k a = literal-node m a.spans t [] a.plain
-autolink-node m t content _ is inner k a = lie is
+autolink-node m t content name is inner k a = rw (autolink-prints m.s.context t name is inner)
+    (autolinked m a.spans t (is_plain_at t name) (autolink_prefix name)
+    (λ plain. cases (prints_link name) a.free (λ e. a.plain (or_parts _ _ (rw e at plain)).1)))
 
 -- ---- spans
 

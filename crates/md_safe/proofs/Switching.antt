@@ -1,11 +1,10 @@
 -- A start tag switches to the mode "text" if it is `title`, and otherwise not.
-use Rattle.std.proofs.Common.{arith}
-use Rattle.std.proofs.Common.{◌≡◌, ℕ, Bool, true, false, cond, List, refl, sym, ap, subst, codes}
+use Rattle.std.proofs.Common.{arith, ◌≡◌, ℕ, Bool, true, false, cond, List, refl, sym, ap, subst}
+use Rattle.std.proofs.Common.{codes}
 use Rattle.std.specs.Prelude.{Option, Some, None, option_and_then, bytes_eq}
 use Rattle.std.proofs.lemmas.Slice.Eq.{bytes_eq-Decides}
 use Rattle.md_safe.specs.Token.{StartTag, TokenAttribute}
-use Rattle.md_safe.specs.Node.{Mode, InText, InTableText}
-use Rattle.md_safe.specs.Node.{is_text, Parser}
+use Rattle.md_safe.specs.Node.{Mode, InText, InTableText, is_text, Parser}
 use Rattle.md_safe.specs.AroundBody.{start_before_html, start_before_head, start_in_head}
 use Rattle.md_safe.specs.AroundBody.{start_after_head, with_root, with_head, with_body}
 use Rattle.md_safe.specs.InBody.{reconstructed, start_in_body}

@@ -3,23 +3,23 @@
 use Rattle.std.proofs.Common.{◌≡◌, ℕ, ◌==◌, true, false, not, List, [], ◌∷◌, ◌++◌, refl, ap}
 use Rattle.std.proofs.Common.{append-nil, append_assoc, arith, Bool, ◌&&◌, sym, ◌∙◌}
 use Rattle.std.specs.List.{list_all, list_any}
-use Rattle.std.proofs.lemmas.Bool.{and_parts, and_parts, not-true}
+use Rattle.std.proofs.lemmas.Bool.{and_parts, not-true}
 use Rattle.md_base.proofs.Lies.{lie}
 use Rattle.md_text.specs.Bytes.{is_between}
 use Rattle.md_text.specs.References.{is_escaped, read_back}
 use Rattle.md_safe.proofs.Cases.{all-weaker}
-use Rattle.md_safe.specs.Token.{Token, TokenAttribute, Token, StartTag, EndTag, TokenAttribute}
+use Rattle.md_safe.specs.Token.{Token, TokenAttribute, StartTag, EndTag}
 use Rattle.md_safe.specs.Tag.{Tag, with_tag_name, with_name, kept}
 use Rattle.md_safe.specs.TokenizerStates.{State, TagName, BeforeAttributeName, AttributeName}
 use Rattle.md_safe.specs.TokenizerStates.{AfterAttributeValueQuoted, Goes, is_space, Data, TagOpen}
 use Rattle.md_safe.specs.TokenizerStates.{EndTagOpen, Stuck, emitted}
-use Rattle.md_safe.specs.Tokenizer.{step, step, IsRun}
+use Rattle.md_safe.specs.Tokenizer.{step, IsRun}
 use Rattle.md_safe.proofs.LineFeeds.{no_return, line_feeds-append, line_feeds-name}
 use Rattle.md_safe.proofs.LineFeeds.{line_feeds-escaped}
 use Rattle.md_safe.proofs.GoodNames.{is_good_byte, is_good_attribute_name, is_good_name, are_good}
 use Rattle.md_safe.proofs.GoodNames.{good_attribute, begins_tag, good-leaves, good-not_title}
-use Rattle.md_safe.proofs.Steps.{tag_with, attribute, past, here, tag_with, attribute}
-use Rattle.md_safe.proofs.TextLeads.{To, quiet, value-leads, To, arrived, quiet, loud, along}
+use Rattle.md_safe.proofs.Steps.{tag_with, attribute, past, here}
+use Rattle.md_safe.proofs.TextLeads.{To, quiet, value-leads, arrived, loud, along}
 use Rattle.std.specs.Str.{bytes_eq}
 use Rattle.md_text.specs.Html.{Attribute}
 use Rattle.md_text.proofs.HtmlWriting.{attributes_before}

@@ -1,7 +1,7 @@
 -- Step by step: the way to the data state from a state, by the way from the state after its first
 -- step.
-use Rattle.std.proofs.Common.{◌≡◌, ℕ, List, [], ◌∷◌, ◌++◌, map, refl, subst}
-use Rattle.std.proofs.Common.{append-nil, append_assoc, true}
+use Rattle.std.proofs.Common.{◌≡◌, ℕ, List, [], ◌∷◌, ◌++◌, map, refl, subst, append-nil}
+use Rattle.std.proofs.Common.{append_assoc, true}
 use Rattle.md_text.specs.References.{is_escaped, read_back}
 use Rattle.md_text.proofs.EncodeLaws.{read_back-other}
 use Rattle.md_safe.specs.Token.{Token, Character, TokenAttribute}

@@ -4,11 +4,11 @@
 use Rattle.std.proofs.Common.{◌≡◌, ℕ, ◌≤◌, ◌==◌, Bool, true, false, ◌&&◌, ◌||◌, List, [], ◌∷◌, ◌++◌}
 use Rattle.std.proofs.Common.{refl, sym, ap, ◌∙◌, arith, codes, bytes_eq, append-nil, ◌⊎◌, inl, inr}
 use Rattle.std.proofs.Common.{not, length, ◌<◌, ◌^◌, ◌+◌}
-use Rattle.std.specs.List.{list_any, list_all, list_any}
+use Rattle.std.specs.List.{list_any, list_all}
 use Rattle.std.specs.Fmt.{decimal}
-use Rattle.std.proofs.lemmas.Bool.{or_right, and_from, or_left, or_right}
+use Rattle.std.proofs.lemmas.Bool.{or_right, and_from, or_left}
 use Rattle.md_base.proofs.Lies.{lie}
-use Rattle.md_text.proofs.HtmlIds.{occurs, occurs, counted-once}
+use Rattle.md_text.proofs.HtmlIds.{occurs, counted-once}
 use Rattle.md_content.specs.Built.{is_digit, Blocks, IsBuilt}
 use Rattle.md_safe.proofs.Texts.{decimal-digits}
 use Rattle.std.specs.Str.{bytes_eq}

@@ -1,6 +1,5 @@
 -- A text that is contained without a link in a link is built as it is read.
-use Rattle.std.proofs.Common.{◌≡◌, ℕ, true, false, List, ◌∷◌, codes, refl, ap}
-use Rattle.std.proofs.Common.{◌∙◌, arith}
+use Rattle.std.proofs.Common.{◌≡◌, ℕ, true, false, List, ◌∷◌, codes, refl, ap, ◌∙◌, arith}
 use Rattle.std.specs.Prelude.{Some, None}
 use Rattle.md_text.specs.Html.{Forest, Empty, Text, Void, Element, is_forest, any_attribute}
 use Rattle.std.proofs.lemmas.Bool.{and_parts, and_from}
