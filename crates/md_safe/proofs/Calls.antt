@@ -59,13 +59,6 @@ call_text v w n =
     ++ (codes "\" data-footnote-ref=\"\" aria-describedby=\"footnote-label\">"
     ++ (n ++ codes "</a></sup>")))))
 
-pub call-regrouped : (v w n : List ℕ)
-    → codes "<sup>" ++ ((codes "<a href=\"#" ++ (v ++ (codes "\" id=\""
-    ++ (w ++ (codes "\" data-footnote-ref=\"\" aria-describedby=\"footnote-label\">"
-    ++ (n ++ codes "</a>")))))) ++ codes "</sup>")
-    ≡ call_text v w n
-call-regrouped v w n = simp append_assoc
-
 call-read : {test : Attribute → Bool} {Q R : List ℕ → Type 0} {options : CompileOptions} →
     IsTest test options → Tagged test Q R (codes "a") → Tagged test R R (codes "sup") →
     (v w n : List ℕ) → Escaped v → test (attribute (codes "id") w) ≡ true → Escaped w → Q n →
@@ -74,8 +67,8 @@ call-read {test = test} {R = R} known a sup v w n h passes g r =
     let link = known.anchor v in
     let ref = known.other (codes "data-footnote-ref") [] refl in
     let described = known.other (codes "aria-describedby") (codes "footnote-label") refl in
-    subst R (call-regrouped v w n) (sup.tag [] _ refl refl (a.tag (attribute (codes "href") (35 ∷ v)
-    ∷ attribute (codes "id") w ∷ attribute (codes "data-footnote-ref") [] ∷ attribute (codes
+    subst R (simp append_assoc) (sup.tag [] _ refl refl (a.tag (attribute (codes "href") (35 ∷ v) ∷
+    attribute (codes "id") w ∷ attribute (codes "data-footnote-ref") [] ∷ attribute (codes
     "aria-describedby") (codes "footnote-label") ∷ []) n (a_call v w h g) (rw (
       link,
       passes,

@@ -11,9 +11,8 @@ use Rattle.md_text.proofs.HtmlReading.{all-any}
 use Rattle.std.specs.List.{list_all}
 use Rattle.md_text.proofs.HtmlPut.{IsMade, made-before}
 use Rattle.md_safe.specs.Contents.{Content, Flow, Phrasing, held_in, is_contained, Items}
-use Rattle.md_safe.proofs.Stands.{Stands, stands-join, stands-nothing, stands-text, turns-tag}
-use Rattle.md_safe.proofs.Stands.{is_held, stands-tag, takes-white, IsWhite, white_beside, Opens}
-use Rattle.md_safe.proofs.Stands.{stands-wider}
+use Rattle.md_safe.proofs.Stands.{stands-join, stands-nothing, is_held, white_beside, stands-wider}
+use Rattle.md_safe.proofs.Stands.{Stands, stands-text, turns-tag, stands-tag, takes-white, IsWhite}
 use Rattle.std.specs.Prelude.{None}
 use Rattle.md_meaning.specs.Meaning.At.{Footnote}
 use Rattle.md_meaning.specs.Meaning.Footnotes.{body, item, section, distinct, place_among, count_of}
@@ -67,10 +66,6 @@ cut-after nested x front f rest y stands whole c = record {
   made = ap (λ w. front ++ w) c.made ∙ sym (append_assoc front c.front _);
 }
 
-void-whole : (name : List ℕ) (attributes : List Attribute) (rest : Forest) →
-    written (Void name attributes rest) ≡ written (Void name attributes Empty) ++ written rest
-void-whole name attributes rest = simp append_assoc
-
 element-whole : (name : List ℕ) (attributes : List Attribute) (children rest : Forest) →
     written (Element name attributes children rest)
     ≡ (opening_tag name attributes ++ written children ++ closing_tag name) ++ written rest
@@ -89,8 +84,8 @@ cuts nested x = record {
       (stands-text escaped refl) refl (later contained);
   voids = λ name attributes rest y tag later contained. (let parts = and_parts _ _ contained in
       cut-after nested x (written (Void name attributes Empty)) (Void name attributes rest) rest y
-      (stands-forest nested Flow (Void name attributes Empty) (and_from _ _ tag refl)
-      (and_from _ _ parts.0 refl)) (void-whole name attributes rest) (later parts.1));
+      (stands-forest nested Flow (Void name attributes Empty) (and_from _ _ tag refl) (and_from _ _
+      parts.0 refl)) (simp append_assoc) (later parts.1));
   rests = λ name attributes children rest y tag forest later contained. (let parts = and_parts _ _
       contained in
       cut-after nested x (opening_tag name attributes ++ written children ++ closing_tag name)
@@ -136,12 +131,6 @@ same-end [] (n ∷ b) c d x e f = not_both n (first_of e) (first_of f)
 same-end (m ∷ a) [] c d x e f = not_both m (sym (first_of e)) (sym (first_of f))
 same-end (m ∷ a) (n ∷ b) c d x e f = same-end a b c d x (rest_of e) (rest_of f)
 
--- the element whose end that is, is a paragraph
-paragraph-name : (nested : Bool) (name : List ℕ) (children : Forest) (endings rest : List ℕ) →
-    112 ∷ 62 ∷ endings ≡ name ++ (62 ∷ rest) → is_held nested Flow name children ≡ true →
-    name ≡ codes "p"
-paragraph-name nested name children endings rest e h = grind arith
-
 pub paragraph-takes : (nested : Bool) (before endings x : List ℕ) → is_line_ends endings ≡ true →
     Stands nested Flow (before ++ codes "</p>" ++ endings) → Stands nested Phrasing (32 ∷ x) →
     Stands nested Flow (before ++ (32 ∷ x) ++ codes "</p>" ++ endings)
@@ -160,8 +149,7 @@ paragraph-takes nested before endings x h s r =
     let ends : 47 ∷ 112 ∷ 62 ∷ endings ≡ close ++ written cut.rest = same-end before front
     (47 ∷ 112 ∷ 62 ∷ endings) (close ++ written cut.rest) x left right in
     let later : 112 ∷ 62 ∷ endings ≡ (cut.name ++ (62 ∷ [])) ++ written cut.rest = rest_of ends in
-    let is : cut.name ≡ codes "p" = paragraph-name nested cut.name cut.children endings
-    (written cut.rest) (later ∙ append_assoc cut.name (62 ∷ []) (written cut.rest)) cut.held in
+    let is : cut.name ≡ codes "p" = grind arith in
     let inside : Stands nested Phrasing (written cut.children) = stands-forest nested Phrasing
     cut.children cut.forest (rw is at cut.held) in
     subst (Stands nested Flow) (sym cut.made) (stands-join cut.front _ cut.front_stands (stands-join
@@ -173,20 +161,15 @@ paragraph-takes nested before endings x h s r =
     (written cut.children ++ (32 ∷ x)) (stands-join (written cut.children) (32 ∷ x) inside r)))
     (stands-forest nested Flow cut.rest cut.rest_forest cut.rest_contained)))
 
-sup-opens : (nested : Bool) → Opens nested (in_link nested) (in_link nested) (codes "sup")
-sup-opens nested = grind arith
-
--- an escaped text in a link
-linked-text : (nested : Bool) (x : List ℕ) → Escaped x → Stands nested (in_link nested) x
-linked-text nested x h = grind (arith, stands-text)
-
 pub backreferences-stand : (nested : Bool) (d : Document) (identifier : List ℕ) (number count : ℕ) →
     Stands nested Phrasing (backreferences d.context.options identifier number count)
-backreferences-stand nested d identifier number count = backreferences-read (read_in d).test
-    (record { text = linked-text nested; both = stands-join })
-    (record { text = λ x h. stands-text h refl; both = stands-join })
-    (stands-tag (in_link nested) refl) (stands-tag (in_link nested) (sup-opens nested)) identifier
-    number count
+backreferences-stand nested d identifier number count = backreferences-read (read_in d).test (record
+    { text = grind (arith, stands-text); both = stands-join }) (record {
+      text = λ x h. stands-text h
+          refl;
+      both = stands-join;
+    }) (stands-tag (in_link nested) refl) (stands-tag (in_link nested)
+    (grind arith)) identifier number count
 
 -- a footnote's text
 body-prints : (nested : Bool) (d : Document) → IsWhite d.context.ending → (x back : List ℕ) →

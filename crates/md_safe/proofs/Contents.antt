@@ -46,10 +46,6 @@ is_first FirstFence = true
 is_first FirstMathFence = true
 is_first _ = false
 
-pub holds-nothing : (p : Claim) (escaping in_image : Bool) (content : Content) →
-    is_first content ≡ false → Holds p escaping in_image content []
-holds-nothing p escaping in_image content h = grind arith
-
 -- what stays after each name stays after nodes
 pub stays-after : (Q : Content → Type 0) → ((content : Content) (name : Name) → Q content → Q
     (content_past content name)) → (content : Content) (forest : Forest) → Q content →

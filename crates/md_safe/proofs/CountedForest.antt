@@ -2,8 +2,8 @@
 -- often an id stands in what nodes mean: at most so often as calls in them have it. The induction
 -- is over blocks alone and adds what each node costs; of other contents that of `Forests.antt` is
 -- enough.
-use Rattle.std.proofs.Common.{◌≡◌, ℕ, suc, ◌+◌, Bool, true, false, not, List, [], ◌∷◌, ◌++◌, refl}
-use Rattle.std.proofs.Common.{arith, codes, cond, ap, ◌∙◌, subst}
+use Rattle.std.proofs.Common.{append-nil, ◌≡◌, ℕ, suc, ◌+◌, Bool, true, false, not, List, [], ◌∷◌}
+use Rattle.std.proofs.Common.{◌++◌, refl, arith, codes, cond, ap, ◌∙◌, subst}
 use Rattle.std.specs.Fmt.{decimal}
 use Rattle.std.proofs.lemmas.Bool.{cond_both, or_parts}
 use Rattle.md_base.proofs.Lies.{lie}
@@ -29,10 +29,10 @@ use Rattle.md_safe.proofs.Calls.{id-escaped, call_id-escaped, call_tags}
 use Rattle.md_safe.proofs.Insides.{is_blocks, is_blocks-same}
 use Rattle.md_safe.proofs.Spot.{Setting}
 use Rattle.md_safe.proofs.FlowNodes.{setext-fits}
-use Rattle.md_safe.proofs.Costs.{counts-call, Waiting, texts-append, Document, Costs, Place}
-use Rattle.md_safe.proofs.Costs.{inner_of, here_of, Below, cost-least, counts-none, no-footnote}
-use Rattle.md_safe.proofs.Costs.{counted_in, at_of, cost-parts, read_in, due-append, inner_around}
-use Rattle.md_safe.proofs.Costs.{inner_before, through-spent, place_at}
+use Rattle.md_safe.proofs.Costs.{through-node, counts-call, Waiting, texts-append, Document, Costs}
+use Rattle.md_safe.proofs.Costs.{Place, inner_of, here_of, Below, cost-least, counts-none}
+use Rattle.md_safe.proofs.Costs.{no-footnote, counted_in, at_of, cost-parts, read_in, due-append}
+use Rattle.md_safe.proofs.Costs.{inner_around, inner_before, place_at}
 use Rattle.md_safe.proofs.PlainCosts.{is_special, Stands, IsPlain, around-blocks, around-others}
 use Rattle.md_safe.proofs.FlowCases.{heading-node}
 use Rattle.md_safe.proofs.ReadingNodes.{reads}
@@ -181,11 +181,8 @@ node-spent : {d : Document} {w : List ℕ} {p : Place} {name : Name} {waits : Bo
     (waits_past waits name)) (here_of d p name)
 node-spent {d} {w} {p} {name} {waits} {m} k h awaited b = cond_both (is_transparent name)
     (waits_after waits p.children) (waits_past waits name) (λ after. Costs d w p.before m after
-    (here_of d p name))
-    (λ e. through-spent d w p name waits m e (subst (λ t. Below d w p name (cond t waits false)
-    (cond t m 0)) e (b (ap (λ b. is_blocks (cond b Blocks (content_of name Blocks))) e))))
-    (λ e. solid-spent waits (k e) awaited h (subst (λ t. BelowBlocks d w p name (cond t waits false)
-    (cond t m 0)) e b))
+    (here_of d p name)) (λ e. grind (arith, through-node, append-nil)) (λ e. solid-spent waits (k e)
+    awaited h (subst (λ t. BelowBlocks d w p name (cond t waits false) (cond t m 0)) e b))
 
 pub spent : (d : Document) (w : List ℕ) (forest : Forest) (around : Surroundings) (before : Before)
     (waits : Bool) (m : ℕ) → Fits d around before waits forest → Waiting w waits m before.heading →

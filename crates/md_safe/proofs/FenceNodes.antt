@@ -44,15 +44,6 @@ fence-prints : (context : Context) (t : At) (name : Name) → fence_name name �
     (is_first_fence t) (said (codes ">"))
 fence-prints context t name is inner = grind arith
 
-in-code : (name : Name) → is_code_fence name ≡ true → content_of name FirstFence ≡ InfoAndMeta
-in-code name is = grind arith
-
-in-math : (name : Name) → is_math_fence name ≡ true → content_of name FirstMathFence ≡ MetaAlone
-in-math name is = grind arith
-
-in-chunks : (name : Name) → fence_name name ≡ true → content_of name Chunks ≡ Nothing
-in-chunks name is = grind arith
-
 -- the pieces of the children, if the content of the node is known
 pub inside-is : (s : Setting) (t : At) (content allowed_inside : Content) (name : Name)
     (inner : List Piece) →
@@ -66,9 +57,9 @@ pub code_fence-node : (s : Setting) (t : At) (name : Name) →
     (inner rest : List Piece) → Inside s t FirstFence name inner → Prints s Escaped rest →
     Prints s (IsRaw code_tag) (prints s.context t name inner ++ rest)
 code_fence-node s t name e is inner rest a b =
-    rw (fence-prints s.context t name ((allowed_inside FirstFence name is).fence refl) inner)
-    (begun s (list_any fence_name t.before.spine) (raw code_tag) e (inside-is s t FirstFence
-    InfoAndMeta name inner (in-code name is) a) b)
+    rw (fence-prints s.context t name ((allowed_inside FirstFence name is).fence refl) inner) (begun
+    s (list_any fence_name t.before.spine) (raw code_tag) e (inside-is s t FirstFence InfoAndMeta
+    name inner (grind arith) a) b)
 
 pub math_fence-node : (s : Setting) (t : At) (name : Name) →
     list_any fence_name t.before.spine ≡ false → is_math_fence name ≡ true →
@@ -77,12 +68,7 @@ pub math_fence-node : (s : Setting) (t : At) (name : Name) →
 math_fence-node s t name e is inner rest a b =
     rw (fence-prints s.context t name ((allowed_inside FirstMathFence name is).fence refl) inner)
     (begun s (list_any fence_name t.before.spine) (λ x y f h. raw math_tag x y (inl f) h) e
-    (inside-is s t FirstMathFence MetaAlone name inner (in-math name is) a) b)
-
--- a later fence prints nothing
-closed : (s : Setting) (has_fence : Bool) {inner : List Piece} → has_fence ≡ true →
-    Prints s IsNil inner → Prints s Escaped (inner ++ when (not has_fence) (said (codes ">")))
-closed s has_fence e a = grind (arith, append-nil, adds-weaker)
+    (inside-is s t FirstMathFence MetaAlone name inner (grind arith) a) b)
 
 pub line-node : (s : Setting) (t : At) (name : Name) → list_any fence_name t.before.spine ≡ true →
     may_stand Chunks name ≡ true → IsFitAt s t name → (inner : List Piece) →
@@ -90,5 +76,4 @@ pub line-node : (s : Setting) (t : At) (name : Name) → list_any fence_name t.b
 line-node s t name e is fit inner a = either (is_line name) (is_fence name) is
     (λ is. line-escaped s t name is fit inner) (λ is.
     let fence : fence_name name ≡ true = sym (same_fence name) ∙ is in
-    rw (fence-prints s.context t name fence inner) (closed s (list_any fence_name t.before.spine) e
-    (inside-is s t Chunks Nothing name inner (in-chunks name fence) a)))
+    rw (fence-prints s.context t name fence inner) (grind (arith, append-nil, adds-weaker)))

@@ -6,18 +6,17 @@ use Rattle.std.specs.Prelude.{Some}
 use Rattle.std.proofs.lemmas.Bool.{and_parts, or_cases}
 use Rattle.std.proofs.lemmas.Slice.Eq.{bytes_eq-Decides}
 use Rattle.md_base.proofs.Lies.{lie}
-use Rattle.md_text.specs.Bytes.{is_one_of}
 use Rattle.md_text.specs.Html.{Attribute, Forest, Empty, Text, Void, Element}
 use Rattle.md_safe.specs.Token.{StartTag, TokenAttribute}
 use Rattle.md_safe.specs.Tokens.{seen, seen_attributes}
-use Rattle.md_safe.specs.Contents.{Content, elements_in, voids_in, is_contained}
+use Rattle.md_safe.specs.Contents.{Content, elements_in, is_contained}
 use Rattle.md_safe.specs.Node.{Nodes, Entry, with_element, Empty as NoNode}
 use Rattle.md_safe.specs.Elements.{headings}
 use Rattle.md_safe.specs.Stack.{is_among}
 use Rattle.md_safe.specs.InBody.{has_item}
 use Rattle.md_safe.specs.InTable.{mode_for}
 use Rattle.md_safe.specs.Construction.{step}
-use Rattle.md_safe.specs.Built.{has_whole_texts, with_characters, put, has_none_active}
+use Rattle.md_safe.specs.Built.{has_whole_texts, with_characters, put}
 use Rattle.md_safe.proofs.Lists.{Keeps, keeps-all}
 use Rattle.md_safe.proofs.TreeSteps.{Position, parser_of, with_children, within, start-in-body}
 use Rattle.md_safe.proofs.PhrasingNames.{Here, Done, Passed, found, is_free, IsVoid, void-named}
@@ -100,11 +99,6 @@ kind-passes {content} {held} {x} {name} {attributes} {inner} rule there h c insi
           })))
     ]
 
--- a rule, besides a void tag of a span
-flow-void : (content : Content) (name : List ℕ) → is_flowing content ≡ true →
-    is_one_of (voids_in content) name ≡ true → (name ≡ codes "hr") ⊎ IsVoid name
-flow-void content name is h = grind (arith, or_cases, bytes_eq-Decides, void-named)
-
 flow-void-step : {x : Position} {name : List ℕ} (attributes : List TokenAttribute) →
     (name ≡ codes "hr") ⊎ IsVoid name → Here x true → HasNoParagraph (x.node ∷ x.others) → step
     (parser_of x) (StartTag name attributes true) ≡ Some (parser_of (with_children x
@@ -125,10 +119,14 @@ flow-done (Text bytes rest) content is h c x there =
 flow-done (Void name attributes rest) content is h c x there =
     let parts = and_parts _ _ c in
     let next : Nodes = with_element x.node.children name (seen_attributes attributes) NoNode in
-    void-done (flow-void-step (seen_attributes attributes) (flow-void content name is parts.0)
-    there.here there.no_p) (flow-done rest content is h parts.1
-    (with_children x next x.active (suc x.created))
-    (there-after (keeps-all x.active) (omega arith) there))
+    void-done (flow-void-step (seen_attributes attributes) (grind (
+      arith,
+      or_cases,
+      bytes_eq-Decides,
+      void-named,
+    )) there.here there.no_p) (flow-done rest content is h parts.1
+    (with_children x next x.active (suc x.created)) (there-after (keeps-all x.active) (omega arith)
+    there))
 flow-done (Element name attributes inner rest) content is h c x there =
     let forests = element-parts name attributes inner rest h in
     let parts = and_parts _ _ c in
@@ -143,8 +141,3 @@ flow-done (Element name attributes inner rest) content is h c x there =
     (put NoNode inner) in
     element-done passed (flow-done rest content is forests.1 parts.1
     (with_children x next passed.left passed.more) (there-after passed.keeps passed.later there))
-
--- where no formatting element is active, none is taken away
-pub kept-none : (active left : List Entry) → has_none_active active ≡ true →
-    Keeps active left → left ≡ active
-kept-none active left h k = grind arith

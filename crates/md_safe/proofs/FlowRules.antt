@@ -17,7 +17,7 @@ use Rattle.md_safe.specs.Construction.{run}
 use Rattle.md_safe.specs.Built.{put, at, is_body}
 use Rattle.md_safe.proofs.Steps.{past}
 use Rattle.md_safe.proofs.TreeSteps.{Position, parser_of, with_children, element_of, within}
-use Rattle.md_safe.proofs.PhrasingNames.{Done, Passed, IsOuter, outside, passes, Each}
+use Rattle.md_safe.proofs.PhrasingNames.{Done, Passed, IsOuter, passes, Each}
 use Rattle.md_text.specs.Bytes.{is_one_of}
 use Rattle.md_safe.specs.InTable.{mode_for}
 use Rattle.md_safe.proofs.PhrasingRules.{Rule}
@@ -87,10 +87,12 @@ pub pre-passes : {x : Position} {attributes : List Attribute} {inner : Forest} �
     (seen_attributes attributes) x.active) inner → Passed x (codes "pre") attributes inner
 pre-passes {x = x} {attributes = attributes} {inner = inner} body none c d =
     let new : Parser = parser_of (within x (codes "pre") (seen_attributes attributes) x.active) in
-    passes x.active d.left (record new { skips_line_feed = true }) body (outside refl) (ap (λ stack.
-    Some (record (insert (codes "pre") (seen_attributes attributes)
-    (record (parser_of x) { stack = stack })) { skips_line_feed = true }))
-    (unclosed (x.node ∷ x.others) none)) (λ ys. pre-begins inner new ys c) d refl d.keeps
+    passes x.active d.left (record new { skips_line_feed = true }) body (grind arith) (ap (λ stack.
+    Some (record (insert (codes "pre") (seen_attributes attributes) (record (parser_of x) {
+      stack =
+          stack;
+    })) { skips_line_feed = true })) (unclosed (x.node ∷ x.others) none)) (λ ys. pre-begins
+    inner new ys c) d refl d.keeps
 
 -- it decides no insertion mode
 abbrev pub KeepsMode : List ℕ → Type 0

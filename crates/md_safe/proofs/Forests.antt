@@ -1,6 +1,6 @@
 -- What the nodes of a document mean: the induction over nodes of any content, for any claim that is
 -- kept where two texts meet. It goes over all that an outcome has at once.
-use Rattle.std.proofs.Common.{◌≡◌, Bool, true, false, ◌||◌, List, [], ◌∷◌, ◌++◌, sym, arith, subst}
+use Rattle.std.proofs.Common.{◌≡◌, true, false, ◌||◌, List, [], ◌∷◌, ◌++◌, sym, arith, subst}
 use Rattle.std.proofs.Common.{append_assoc}
 use Rattle.std.proofs.lemmas.Bool.{cond_both}
 use Rattle.md_base.specs.declared.event.Name.{Name}
@@ -10,7 +10,6 @@ use Rattle.md_base.specs.Is.{is as named}
 use Rattle.md_base.specs.Tree.{Forest, Empty, Node}
 use Rattle.md_base.specs.NameTests.{is_transparent}
 use Rattle.md_pattern.specs.Looseness.{is_loose}
-use Rattle.md_text.specs.declared.options.CompileOptions.{CompileOptions}
 use Rattle.md_meaning.specs.declared.surroundings.Surroundings.{Surroundings}
 use Rattle.md_meaning.specs.Meaning.Inherited.{inside}
 use Rattle.md_meaning.specs.Meaning.At.{Defined, Footnote, target_in, Before, At, identifier_of}
@@ -33,19 +32,6 @@ use Rattle.md_safe.proofs.Findings.{found-node, note-node}
 use Rattle.md_safe.proofs.Cases.{on-later, on-either}
 use Rattle.md_safe.proofs.Texts.{Escaped}
 use Rattle.md_safe.proofs.Media.{IsEscapedTitle}
-
-children-suit : (options : CompileOptions) → options.allow_dangerous_html ≡ false →
-    (loose : Bool) (around : Surroundings) (content : Content) (name : Name) →
-    (is_transparent name || may_stand content name) ≡ true → Suits around.is_escaping
-    around.in_image content → Suits (inside options loose name around).is_escaping
-    (inside options loose name around).in_image (content_inside content name)
-children-suit options html loose around content name stands h = grind arith
-
--- the state before a node's first child
-children-follow : (content : Content) (name : Name) (before : Before) (children : Forest) →
-    (is_transparent name || may_stand content name) ≡ true → Follows content before.spine →
-    Follows (content_inside content name) (before_children name children before).spine
-children-follow content name before children stands f = grind (arith, follows-inside)
 
 blocks-after-node : (content : Content) (name : Name) (children : Forest) →
     is_blocks content ≡ true → is_blocks (content_after_node content name children) ≡ true
@@ -80,8 +66,7 @@ pub ready-inside : {s : Setting} {around : Surroundings} {before : Before} {cont
     (inside s.context.options (is_loose children) name around)
     (before_children name children before) (content_inside content name)
 ready-inside {s = s} {around = around} {before = before} {content = content} name children stands
-    r =
-    grind (arith, children-suit, children-follow, inside-blocks, cond_both, holds-none)
+    r = grind (arith, follows-inside, inside-blocks, cond_both, holds-none)
 
 -- and where the next node stands
 pub ready-after : {s : Setting} {content : Content} (t : At) (name : Name) (here : Outcome) →

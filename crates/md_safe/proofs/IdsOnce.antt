@@ -1,21 +1,22 @@
 -- Each id among the calls of a document is that of one call, and each among its footnotes of one.
 -- No two ids by number are equal: the heading's, those of footnotes and those of their calls.
+use Rattle.std.proofs.lemmas.Fmt.{decimal_injective}
 use Rattle.std.proofs.Common.{◌≡◌, ℕ, ◌+◌, ◌≤◌, ◌<◌, ◌^◌, suc, true, false, ◌||◌, List, [], ◌∷◌}
 use Rattle.std.proofs.Common.{◌++◌, length, refl, sym, ap, ◌∙◌, arith, append_assoc, codes}
 use Rattle.std.proofs.Common.{bytes_eq, ◌⊎◌, cond, inl, inr}
 use Rattle.std.specs.Prelude.{map}
 use Rattle.std.proofs.lemmas.Bool.{or_parts, or_right, cond_both}
-use Rattle.std.proofs.lemmas.List.{length-append}
+use Rattle.std.proofs.lemmas.List.{append_cancel_left, length-append}
 use Rattle.md_base.proofs.Lies.{lie}
 use Rattle.md_text.specs.References.{read_back}
 use Rattle.md_text.proofs.HtmlIds.{occurs}
 use Rattle.md_text.specs.declared.options.CompileOptions.{CompileOptions}
 use Rattle.md_meaning.specs.Meaning.Footnotes.{distinct, place_among, id_of, count_of}
 use Rattle.md_meaning.proofs.Identifiers.{is_in, Apart, same, itself, distinct-apart}
-use Rattle.md_safe.proofs.NumberedIds.{back_prefix, note_tail, note-back, same-note, id_after}
-use Rattle.md_safe.proofs.NumberedIds.{ids_after, ids-differ, is_in-middle, same-place}
-use Rattle.md_safe.proofs.NumberedIds.{number-bound, call_tail, call-back, EndsInDigit}
-use Rattle.md_safe.proofs.NumberedIds.{label-no_digit, note-no_call, note-ends, call-ends}
+use Rattle.md_safe.proofs.NumberedIds.{back_prefix, note_tail, note-back, id_after, ids_after}
+use Rattle.md_safe.proofs.NumberedIds.{ids-differ, is_in-middle, same-place, number-bound}
+use Rattle.md_safe.proofs.NumberedIds.{call_tail, call-back, EndsInDigit, label-no_digit, note-ends}
+use Rattle.md_safe.proofs.NumberedIds.{call-ends}
 use Rattle.md_safe.proofs.Cases.{cases}
 
 -- another text before some
@@ -66,7 +67,7 @@ notes-differ : (options : CompileOptions) → options.gfm_footnote_number_ids �
     (all : List (List ℕ)) (x y : List ℕ) → length all + 1 < 2 ^ 64 → is_in y (distinct all) ≡ true →
     note_id options all y ≡ note_id options all x → y ≡ x
 notes-differ options on all x y few among e =
-    grind (arith, note-back, same-place, same-note, number-bound)
+    grind (arith, note-back, same-place, append_cancel_left, decimal_injective, number-bound)
 
 none-other : (options : CompileOptions) → options.gfm_footnote_number_ids ≡ true →
     (all : List (List ℕ)) (x : List ℕ) (identifiers : List (List ℕ)) → length all + 1 < 2 ^ 64 →
@@ -151,7 +152,7 @@ document-once options on w calls small =
       | inr n ↦ elim (among-calls options on w calls [] calls) [
         | inl c ↦ (let alone = label-alone options w (rw n.1 (note-ends options n.0)) in
             omega (alone, notes, c, arith))
-        | inr c ↦ absurd (note-no_call options n.0 c.0 c.1 (sym n.1 ∙ c.2))
+        | inr c ↦ absurd (grind (arith, append_cancel_left))
       ]
     ]
 

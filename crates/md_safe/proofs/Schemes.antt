@@ -12,15 +12,15 @@ use Rattle.md_text.proofs.ProtocolLemmas.{protocol_of-goes_on, protocol_of-colon
 use Rattle.md_text.proofs.HtmlRead.{passes_not}
 use Rattle.md_safe.specs.Input.{with_line_feeds, begins_with_line_feed}
 use Rattle.md_safe.specs.Scheme.{is_control_or_space, without_leading, without_trailing}
-use Rattle.md_safe.specs.Scheme.{is_tab_or_newline, without_newlines, is_scheme_byte, in_scheme}
-use Rattle.md_safe.specs.Scheme.{in_scheme_start, scheme_of, has_permitted_scheme}
+use Rattle.md_safe.specs.Scheme.{without_newlines, is_scheme_byte, in_scheme, in_scheme_start}
+use Rattle.md_safe.specs.Scheme.{scheme_of, has_permitted_scheme}
 use Rattle.std.specs.Option.{option_map_or}
 use Rattle.md_base.specs.Identifier.{is_nonempty}
 use Rattle.md_text.specs.References.{is_escaped, read_back}
 use Rattle.md_text.specs.Safe.{is_safe_value}
 use Rattle.md_safe.proofs.Cases.{one_of-passes, all-weaker, cases}
 use Rattle.md_safe.specs.Tokens.{seen}
-use Rattle.md_safe.proofs.EscapedCases.{IsPlain, by_escaped}
+use Rattle.md_safe.proofs.EscapedCases.{by_escaped}
 use Rattle.md_safe.proofs.LineFeeds.{no_return, line_feeds-name}
 use Rattle.md_safe.proofs.Steps.{here}
 use Rattle.md_text.specs.Kept.{goes_on}
@@ -75,14 +75,14 @@ abbrev ReadsAlike : List ℕ → Type 0
 ReadsAlike x = (read_back (with_line_feeds x) ≡ with_line_feeds (read_back x))
     × (begins_with_line_feed (read_back x) ≡ begins_with_line_feed x)
 
-plain-alike : (b : ℕ) (rest : List ℕ) → IsPlain b → ReadsAlike rest → ReadsAlike (b ∷ rest)
-plain-alike b rest p h = grind arith
-
 pub seen-is : (x : List ℕ) → is_escaped x ≡ true → seen x ≡ with_line_feeds (read_back x)
 seen-is x e =
-    (by_escaped ReadsAlike (refl, refl) plain-alike
-    (λ rest h. (ap (λ y. 38 ∷ y) h.0, refl)) (λ rest h. (ap (λ y. 34 ∷ y) h.0, refl))
-    (λ rest h. (ap (λ y. 60 ∷ y) h.0, refl)) (λ rest h. (ap (λ y. 62 ∷ y) h.0, refl)) x e).0
+    (by_escaped ReadsAlike (refl, refl) (λ b rest p h. grind arith) (λ rest h. (
+      ap (λ y. 38 ∷ y)
+          h.0,
+      refl,
+    )) (λ rest h. (ap (λ y. 34 ∷ y) h.0, refl)) (λ rest h. (ap (λ y. 60 ∷ y) h.0, refl)) (λ
+    rest h. (ap (λ y. 62 ∷ y) h.0, refl)) x e).0
 
 -- ---- a protocol of letters
 protocol-split : (x q : List ℕ) → protocol_of x ≡ Some q → (r : List ℕ) × (x ≡ q ++ (58 ∷ r))
@@ -99,37 +99,28 @@ protocol-split (b ∷ rest) q e = cases (b == 58) (λ colon.
 abbrev pub is_word : List ℕ → Bool
 is_word name = is_nonempty name && list_all is_letter name
 
-lower-letter : (b : ℕ) → is_letter (lower b) ≡ true → is_letter b ≡ true
-lower-letter b h = grind arith
-
 lowered-letters : (q : List ℕ) → list_all is_letter (lowered q) ≡ true → list_all is_letter q ≡ true
 lowered-letters [] h = refl
-lowered-letters (b ∷ q) h = grind (arith, lower-letter b, lowered-letters q)
+lowered-letters (b ∷ q) h = grind (arith, lowered-letters q)
 
 letters-no_return : (q : List ℕ) → list_all is_letter q ≡ true → list_all no_return q ≡ true
 letters-no_return q h = all-weaker _ _ (λ b h. ap not (passes_not is_letter b 13 refl h)) q h
-
-letter-control : (b : ℕ) → is_letter b ≡ true → is_control_or_space b ≡ false
-letter-control b h = grind arith
-
-letter-newline : (b : ℕ) → is_letter b ≡ true → is_tab_or_newline b ≡ false
-letter-newline b h = grind arith
 
 letter-scheme : (b : ℕ) → is_letter b ≡ true → is_scheme_byte b ≡ true
 letter-scheme b h = or_left _ _ (or_left _ _ (or_left _ _ (or_left _ _ h)))
 
 leading-word : (q y : List ℕ) → is_word q ≡ true → without_leading (q ++ y) ≡ q ++ y
-leading-word q y h = grind (arith, letter-control)
+leading-word q y h = grind arith
 
 trailing-word : (q r : List ℕ) → list_all is_letter q ≡ true →
     without_trailing (q ++ (58 ∷ r)) ≡ q ++ (58 ∷ without_trailing r)
 trailing-word [] r h = refl
-trailing-word (b ∷ q) r h = grind (arith, letter-control b, trailing-word q r)
+trailing-word (b ∷ q) r h = grind (arith, trailing-word q r)
 
 newlines-word : (q r : List ℕ) → list_all is_letter q ≡ true →
     without_newlines (q ++ (58 ∷ r)) ≡ q ++ (58 ∷ without_newlines r)
 newlines-word [] r h = refl
-newlines-word (b ∷ q) r h = grind (arith, letter-newline b, newlines-word q r)
+newlines-word (b ∷ q) r h = grind (arith, newlines-word q r)
 
 in_scheme-word : (buffer q r : List ℕ) → list_all is_letter q ≡ true →
     in_scheme buffer (q ++ (58 ∷ r)) ≡ Some (buffer ++ lowered q)
@@ -165,17 +156,12 @@ permitted_by schemes x (Some q) g e h =
     ∙ ap (λ o. option_map_or (is_one_of schemes) o true)
     (scheme_of-word q parts.0 (lowered-word q (one_of-passes is_word schemes (lowered q) g h))) ∙ h
 
-permitted : (schemes : List (List ℕ)) → list_all is_word schemes ≡ true → (value : List ℕ) →
-    is_escaped value ≡ true →
-    is_safe_value schemes value ≡ true → has_permitted_scheme schemes (seen value) ≡ true
-permitted schemes g value e h = grind (arith, seen-is, permitted_by)
-
 pub permitted-link : (value : List ℕ) → is_escaped value ≡ true →
     is_safe_value link_protocols value ≡ true →
     has_permitted_scheme link_protocols (seen value) ≡ true
-permitted-link = permitted link_protocols refl
+permitted-link = grind (arith, seen-is, permitted_by)
 
 pub permitted-image : (value : List ℕ) → is_escaped value ≡ true →
     is_safe_value image_protocols value ≡ true →
     has_permitted_scheme image_protocols (seen value) ≡ true
-permitted-image = permitted image_protocols refl
+permitted-image = grind (arith, seen-is, permitted_by)

@@ -23,12 +23,12 @@ use Rattle.md_safe.proofs.BlockNodes.{hidden-prints, is_hidden, is_silent, silen
 use Rattle.md_safe.proofs.BlockNodes.{silent-prints}
 use Rattle.md_safe.proofs.Calls.{adds-call}
 use Rattle.md_safe.proofs.Cases.{either, cases}
-use Rattle.md_safe.proofs.Claims.{AreSpans, Claims, Here, Known, Own, Prints, SpanPrints, are-spans}
-use Rattle.md_safe.proofs.Claims.{nothing, pair, plain_tag, says}
+use Rattle.md_safe.proofs.Claims.{AreSpans, Claims, Here, Known, Own, Prints, SpanPrints, nothing}
+use Rattle.md_safe.proofs.Claims.{pair, plain_tag, says}
 use Rattle.md_safe.proofs.Elements.{adds-task, class-passes}
 use Rattle.md_safe.proofs.FlowNodes.{is_leaf, leaf-escaped}
 use Rattle.md_safe.proofs.Laid.{Adds, adds-alone, adds-text, adds-weaker}
-use Rattle.md_safe.proofs.Linking.{in_link, is_spans, place-other, place_in}
+use Rattle.md_safe.proofs.Linking.{in_link, is_spans, place_in}
 use Rattle.md_safe.proofs.Media.{IsEscapedTitle, adds-image, adds-link}
 use Rattle.md_safe.proofs.SpanNodes.{is_shown, is_single}
 use Rattle.md_safe.proofs.SpanSorts.{by_pair, code-prints, code-text, code_opening, is_code}
@@ -40,7 +40,6 @@ use Rattle.md_safe.proofs.Tags.{Tagged, Turns, adds-flat, attribute}
 use Rattle.md_safe.proofs.Texts.{Escaped}
 use Rattle.md_safe.specs.Contents.{Characters, Content, Phrasing}
 use Rattle.md_safe.specs.Links.{prints_link}
-use Rattle.md_safe.specs.Placed.{place_of}
 use Rattle.md_safe.proofs.Insides.{is_blocks}
 
 -- ---- links
@@ -54,10 +53,6 @@ link : (m : Claims) (target : Target) (label : List ℕ) → IsEscapedTitle targ
     m.holds (in_link m.nested) label → Prints m Phrasing (anchor m.s.context.options target label)
 link m target label h r = adds-link m.s.test (a-tag m) target label h r
 
--- a text in a link
-pub linked-text : (m : Claims) (x : List ℕ) → Escaped x → m.holds (in_link m.nested) x
-linked-text m x h = grind arith
-
 autolinked : (m : Claims) {content : Content} → AreSpans m.nested content →
     (t : At) (plain : Bool) (prefix : List ℕ) → (plain ≡ false → content ≡ Phrasing) →
     Prints m content (autolink m.s.context t plain prefix)
@@ -65,8 +60,8 @@ autolinked m {content} f t plain prefix free =
     let x : List ℕ = text_in m.s.context.bytes t.place in
     let said_so : Escaped (encoded true x) = is_escaped-encoded x in
     cond_both _ _ _ (Prints m content) (λ _. adds-text (says m f _ said_so)) (λ other. rw (free
-    other) (link m (record { destination = prefix ++ x; title = None }) (encoded true x) tt
-    (linked-text m (encoded true x) said_so)))
+    other) (link m (record { destination = prefix ++ x; title = None }) (encoded true x) tt (grind
+    arith)))
 
 autolink-node : (m : Claims) (t : At) (content : Content) (name : Name) → is_autolink name ≡ true →
     SpanPrints m t content name
@@ -131,8 +126,8 @@ single-node m t content GfmFootnoteCall is inner k a =
     let number : ℕ = place_among (distinct m.s.context.calls) identifier in
     let occurrence : ℕ = suc (count_of t.calls identifier) in
     rw (a.free refl, k.outside) (adds-call m.s.test (a-tag m) (m.element Phrasing Phrasing (codes
-    "sup") refl) (linked-text m) identifier number occurrence (k.ids refl (call_id
-    m.s.context.options identifier number occurrence)))
+    "sup") refl) (grind arith) identifier number occurrence (k.ids refl (call_id m.s.context.options
+    identifier number occurrence)))
 single-node m t content _ is inner k a = lie is
 
 -- ---- all of them
@@ -143,23 +138,16 @@ is_inline name =
     is_text name || (is_shown name || (is_autolink name || (is_leaf name || (is_hidden name
     || is_silent name))))
 
-spans-place : (name : Name) → is_hidden name ≡ false → is_inline name ≡ true →
-    place_of name ≡ Phrasing
-spans-place name h is = grind arith
-
 -- spans stand in spans, of the same content but in a link
 spans-in : (nested : Bool) (content : Content) (name : Name) → is_spans content ≡ true →
     is_hidden name ≡ false → is_inline name ≡ true → named Link name ≡ false →
     place_in nested content name ≡ content
-spans-in nested content name spans shown is other = grind (arith, place-other, spans-place)
+spans-in nested content name spans shown is other = grind arith
 
 link-in : (nested : Bool) (content : Content) (name : Name) → content ≡ Phrasing →
     named Link name ≡ true →
     place_in nested content name ≡ in_link nested
 link-in nested content name same is = grind arith
-
-link-prints : (name : Name) → named Link name ≡ true → prints_link name ≡ true
-link-prints name is = grind arith
 
 -- where spans stand, with links or without
 pub record Spanning (t : At) (content : Content) (name : Name) : Type 0 where
@@ -184,15 +172,15 @@ inline-node m t content name is inner k own g = cases (is_hidden name)
     (a.own (silent-block name is).0 (silent-block name is).1)))))))
   where
     spans : AreSpans m.nested content
-    spans = are-spans m.nested content g.spans
+    spans = grind arith
 
     here : is_hidden name ≡ false → Here m t content name inner
     here shown = record {
       spans = spans;
       own = λ blocks other. rw (spans-in m.nested content name g.spans shown is other) at (own
           blocks);
-      label = λ link. rw (link-in m.nested content name (g.free (link-prints name link)) link) at
-          (own (link-blocks name link));
+      label = λ link. rw (link-in m.nested content name (g.free (grind arith)) link) at (own
+          (link-blocks name link));
       free = g.free;
       plain = g.plain;
     }

@@ -2,8 +2,8 @@
 -- such texts joined. What stands among spans stands among blocks.
 use Rattle.std.specs.List.{list_all}
 use Rattle.std.specs.Option.{option_map_or}
-use Rattle.std.proofs.Common.{◌≡◌, ℕ, ◌==◌, Bool, true, false, ◌||◌, List, [], ◌∷◌, ◌++◌, refl, sym}
-use Rattle.std.proofs.Common.{ap, ap₂, ◌∙◌, append-nil, arith}
+use Rattle.std.proofs.Common.{◌≡◌, ℕ, Bool, true, false, List, [], ◌∷◌, ◌++◌, refl, sym, ap, ap₂}
+use Rattle.std.proofs.Common.{◌∙◌, append-nil, arith}
 use Rattle.std.specs.Prelude.{Some, Option, None, find, option_map}
 use Rattle.std.proofs.lemmas.Bool.{and_parts, and_from, or_right}
 use Rattle.std.proofs.lemmas.List.Folds.{list_all-append}
@@ -12,7 +12,7 @@ use Rattle.md_text.specs.Laws.{is_line_ends}
 use Rattle.md_text.specs.Bytes.{is_one_of}
 use Rattle.md_text.specs.Html.{Attribute, Forest, Empty, Text, Void, Element, is_tag, elements}
 use Rattle.md_text.specs.Html.{void_tags, written_attributes, IsReading, any_attribute}
-use Rattle.md_text.proofs.HtmlJoin.{text_before, joined, after_forest, opening-before}
+use Rattle.md_text.proofs.HtmlJoin.{joined, after_forest, opening-before}
 use Rattle.md_text.proofs.HtmlReading.{only_reading, all-any}
 use Rattle.md_text.proofs.HtmlWriting.{written_attributes-before}
 use Rattle.md_text.proofs.EscapedLemmas.{escaped-append}
@@ -53,11 +53,6 @@ say-append : (content : Content) (x y : List ℕ) → may_say content x ≡ true
     may_say content y ≡ true → may_say content (x ++ y) ≡ true
 say-append content x y a b = grind (arith, list_all-append)
 
-contained-text_before : (nested : Bool) (content : Content) (bytes : List ℕ) (g : Forest) →
-    may_say content bytes ≡ true → is_contained nested content g ≡ true →
-    is_contained nested content (text_before bytes g) ≡ true
-contained-text_before nested content bytes g s h = grind (arith, and_from, say-append)
-
 -- what an element holds stands where it may
 abbrev pub is_held : (nested : Bool) → Content → List ℕ → Forest → Bool
 is_held nested content name inner = option_map_or (λ held. is_contained nested held inner)
@@ -68,7 +63,7 @@ contained-joined : (nested : Bool) (content : Content) (f g : Forest) →
     is_contained nested content (joined f g) ≡ true
 contained-joined nested content Empty g a b = b
 contained-joined nested content (Text bytes rest) g a b =
-    grind (arith, and_parts, contained-text_before, contained-joined nested content rest g)
+    grind (arith, and_parts, and_from, say-append, contained-joined nested content rest g)
 contained-joined nested content (Void name attributes rest) g a b =
     grind (arith, contained-joined nested content rest g)
 contained-joined nested content (Element name attributes children rest) g a b =
@@ -169,11 +164,8 @@ stands-white {content = content} {x} is h = stands-text h.0 (by content is)
     by Preformatted is = lie is
     by _ is = h.1
 
-end-space : (b : ℕ) → ((b == 13) || (b == 10)) ≡ true → is_space b ≡ true
-end-space b h = grind arith
-
 line_ends-space : (x : List ℕ) → is_line_ends x ≡ true → list_all is_space x ≡ true
-line_ends-space = all-weaker _ is_space end-space
+line_ends-space = all-weaker _ is_space (λ b h. grind arith)
 
 pub line_ends-white : (x : List ℕ) → is_line_ends x ≡ true → IsWhite x
 line_ends-white x h = (line_ends-escaped x h, line_ends-space x h)

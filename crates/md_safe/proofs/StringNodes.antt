@@ -9,7 +9,7 @@ use name_variants.{LineEnding, CharacterReferenceMarker, CharacterReferenceMarke
 use name_variants.{CharacterReferenceMarkerHexadecimal, CharacterReferenceValue}
 use Rattle.md_text.specs.Encode.{encoded}
 use Rattle.md_text.specs.Laws.{is_line_ends}
-use Rattle.md_meaning.specs.Meaning.At.{Context, At, text_in}
+use Rattle.md_meaning.specs.Meaning.At.{At, text_in}
 use Rattle.md_meaning.specs.Meaning.Layout.{Piece, said}
 use Rattle.md_meaning.specs.Meaning.Means.{prints}
 use Rattle.md_meaning.specs.Meaning.Spans.{escaped, is_dropped, line_ending, reference}
@@ -50,10 +50,6 @@ line_ending-escaped s t h =
     (λ _. adds-text refl) (λ _. cond_both (is_dropped t) [] (said x) (Prints s Escaped)
     (λ _. adds-nothing refl) (λ _. adds-text (line_ends-escaped x h)))
 
-data-prints : (context : Context) (t : At) (name : Name) → is_data name ≡ true →
-    (inner : List Piece) → prints context t name inner ≡ escaped t (text_in context.bytes t.place)
-data-prints context t name is inner = grind arith
-
 other-node : (s : Setting) (t : At) (holds : List ℕ → Type 0) (name : Name) →
     IsNarrow t.around.is_escaping holds → is_text name && not (is_data name) ≡ true →
     IsFitAt s t name → (inner : List Piece) → Prints s holds (prints s.context t name inner)
@@ -66,14 +62,9 @@ other-node s t holds _ n is fit inner = lie is
 pub text-node : (s : Setting) (t : At) (holds : List ℕ → Type 0) (name : Name) →
     IsNarrow t.around.is_escaping holds → is_text name ≡ true → IsFitAt s t name →
     (inner : List Piece) → Prints s holds (prints s.context t name inner)
-text-node s t holds name n is fit inner =
-    grind (arith, data-prints, data-node, other-node, and_from)
-
-mark-node : (s : Setting) (t : At) (content : Content) (name : Name) → is_mark name ≡ true →
-    NodeAdds s t content name
-mark-node s t content name is inner a = grind arith
+text-node s t holds name n is fit inner = grind (arith, data-node, other-node, and_from)
 
 pub string-node : (s : Setting) (t : At) (content : Content) (name : Name) →
     IsNarrow t.around.is_escaping (Here s t content) → is_string name ≡ true → IsFitAt s t name →
     NodeAdds s t content name
-string-node s t content name n is fit inner a = grind (arith, mark-node, text-node, and_from)
+string-node s t content name n is fit inner a = grind (arith, text-node, and_from)

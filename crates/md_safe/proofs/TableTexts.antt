@@ -66,11 +66,6 @@ say-all (b ∷ bytes) node others =
 abbrev pub is_tables : Mode → Bool
 is_tables mode = elim mode [ InTable ↦ true | InTableBody ↦ true | InRow ↦ true | _ ↦ false ]
 
--- what the modes of tables do with a tag and with a character
-tagged : (mode : Mode) → is_tables mode ≡ true → (p : Parser) (tag : Parser → Option Parser) →
-    after_table_text (record p { mode = mode }) tag ≡ tag (record p { mode = mode })
-tagged mode is p tag = grind (arith, is)
-
 settled : (mode : Mode) → is_tables mode ≡ true →
     (node : Open) (others : List Open) (active : List Entry)
     (created : ℕ) (bytes : List ℕ) → list_all is_space bytes ≡ true →
@@ -89,9 +84,8 @@ settled mode is node others active created bytes h = record {
         option_and_then tag (end_table_text mode
         (waiting mode (node ∷ others) active created bytes)) ≡ after_table_text next tag
     by tag =
-        ap (option_and_then tag) (here None h
-        (ap (λ stack. Some (at mode stack active created)) (say-all bytes node others)))
-        ∙ sym (tagged mode is next tag)
+        ap (option_and_then tag) (here None h (ap (λ stack. Some (at mode stack active created))
+        (say-all bytes node others))) ∙ sym (grind arith)
 
 more-waits : (mode : Mode) (stack : List Open) (active : List Entry) (created : ℕ)
     (before bytes : List ℕ) → list_all is_character bytes ≡ true → run
@@ -115,9 +109,6 @@ first-waits mode is node others active created bytes t f h =
 fed : (x : List ℕ) → begins_with_line_feed x ≡ true → is_nonempty (with_line_feeds x) ≡ true
 fed x h = grind (arith, eqb-true)
 
-lines-filled : (x : List ℕ) → is_nonempty x ≡ true → is_nonempty (with_line_feeds x) ≡ true
-lines-filled x h = grind (arith, fed)
-
 read-filled : (x : List ℕ) → is_nonempty x ≡ true → is_nonempty (read_back x) ≡ true
 read-filled x h = grind arith
 
@@ -136,8 +127,8 @@ text-waits x bytes is tabular whole white =
     record {
       wait = waiting x.mode (x.node ∷ x.others) x.active x.created (seen bytes);
       runs = first-waits x.mode is x.node x.others x.active x.created (seen bytes) tabular
-          (read-filled (with_line_feeds bytes) (lines-filled bytes parts.0))
-          (seen-characters bytes parts.1);
+          (read-filled (with_line_feeds bytes) (grind (arith, fed))) (seen-characters bytes
+          parts.1);
       settles = settled x.mode is x.node x.others x.active x.created (seen bytes) (space-read
           (with_line_feeds bytes) (line_feeds-all is_space refl bytes white));
     }

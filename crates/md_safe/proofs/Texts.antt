@@ -28,14 +28,11 @@ plain_first b rest plain h = by ((b == 0) || (b == 60) || (b == 62) || (b == 34)
         ((cond special false (cond and (completes_reference rest) true)) && is_escaped rest) ≡ true
     by special and e = grind (arith, h, e)
 
-end-plain : (b : ℕ) → ((b == 13) || (b == 10)) ≡ true → is_plain b ≡ true
-end-plain b h = grind arith
-
 pub line_ends-escaped : (text : List ℕ) → is_line_ends text ≡ true → Escaped text
 line_ends-escaped [] h = refl
 line_ends-escaped (b ∷ text) h =
     let parts = and_parts ((b == 13) || (b == 10)) (is_line_ends text) h in
-    plain_first b text (end-plain b parts.0) (line_ends-escaped text parts.1)
+    plain_first b text (grind arith) (line_ends-escaped text parts.1)
 
 pub digit-plain : (b : ℕ) → is_digit b ≡ true → is_plain b ≡ true
 digit-plain b h = grind arith

@@ -1,6 +1,6 @@
 -- A text that is contained without a link in a link is built as it is read.
-use Rattle.std.proofs.Common.{◌≡◌, ℕ, true, false, List, ◌∷◌, codes, refl, ap, ◌∙◌, arith}
-use Rattle.std.specs.Prelude.{Some, None}
+use Rattle.std.proofs.Common.{◌≡◌, ℕ, true, false, List, ◌∷◌, refl, ap, ◌∙◌, arith}
+use Rattle.std.specs.Prelude.{Some}
 use Rattle.md_text.specs.Html.{Forest, Empty, Text, Void, Element, is_forest, any_attribute}
 use Rattle.std.proofs.lemmas.Bool.{and_parts, and_from}
 use Rattle.md_text.proofs.HtmlReading.{all-any}
@@ -8,19 +8,9 @@ use Rattle.md_base.proofs.Lies.{lie}
 use Rattle.md_safe.proofs.Tokenized.{read-tokenized}
 use Rattle.md_safe.specs.Contents.{Flow, is_contained, IsUnnested}
 use Rattle.md_safe.specs.Node.{Open, Entry, Mode}
-use Rattle.md_safe.specs.Formatting.{last_active}
-use Rattle.md_safe.specs.Built.{has_whole_texts, put, at, IsPlace, Builds, IsBuiltAsRead, AreOpen}
-use Rattle.md_safe.specs.Built.{has_none_active}
+use Rattle.md_safe.specs.Built.{has_whole_texts, put, at, IsPlace, Builds, IsBuiltAsRead}
 use Rattle.md_safe.proofs.TreeSteps.{Position}
-use Rattle.md_safe.proofs.Flow.{flow-done, kept-none}
-
-none-open : (node : Open) (others : List Open) (active : List Entry) →
-    has_none_active active ≡ true → AreOpen (node ∷ others) active
-none-open node others active h = grind arith
-
-none-linked : (active : List Entry) → has_none_active active ≡ true →
-    last_active (codes "a") active ≡ None
-none-linked active h = grind arith
+use Rattle.md_safe.proofs.Flow.{flow-done}
 
 -- the texts of a reading
 pub reading-texts : (forest : Forest) → is_forest forest ≡ true → has_whole_texts forest ≡ true
@@ -46,9 +36,9 @@ forest-built forest h c mode node others active created place =
     let d = flow-done forest Flow refl h c x (record {
       here = record {
         body = place.body;
-        opened = none-open node others active place.none_active;
+        opened = grind arith;
         made = place.made;
-        no_link = λ free. none-linked active place.none_active;
+        no_link = λ free. grind arith;
       };
       no_p = place.no_paragraph;
       plain = place.no_heading;
@@ -56,9 +46,9 @@ forest-built forest h c mode node others active created place =
       no_item = λ items. lie items;
     }) in (
       d.more,
-      d.runs ∙ ap (λ left.
-          Some (at mode (record node { children = put node.children forest } ∷ others) left d.more))
-          (kept-none active d.left place.none_active d.keeps),
+      d.runs ∙ ap (λ left. Some (at mode (record node {
+        children = put node.children forest;
+      } ∷ others) left d.more)) (grind arith),
     )
 
 pub text-built : (text : List ℕ) → IsUnnested text → IsBuiltAsRead text
