@@ -16,14 +16,9 @@ use Rattle.md_safe.proofs.Texts.{Escaped, decimal-escaped}
 use Rattle.md_safe.proofs.Laid.{Adds}
 use Rattle.md_safe.proofs.Tags.{IsTest, attribute, Tagged, adds-flat}
 
--- a text of the options, escaped
-option-escaped : (text : Option (List ℕ)) (unset : List ℕ) → Escaped unset →
-    Escaped (option_or text unset)
-option-escaped text unset h = grind (arith, is_escaped-encoded)
-
 pub label-escaped : (options : CompileOptions) →
     Escaped (option_or (option_map string_bytes options.gfm_footnote_label) (codes "Footnotes"))
-label-escaped options = grind (arith, option-escaped)
+label-escaped options = grind (arith, is_escaped-encoded)
 
 -- the required prefix of ids, and their prefix
 abbrev pub prefix_given : CompileOptions → Option (List ℕ)
@@ -35,7 +30,7 @@ id_prefix options = option_or (prefix_given options) (codes "user-content-")
 pub id-escaped : (options : CompileOptions) (kind identifier : List ℕ) (number : ℕ) → Escaped kind →
     Escaped (id_of options kind identifier number)
 id-escaped options kind identifier number h =
-    grind (arith, decimal-escaped, sanitized-escaped, escaped-append, option-escaped)
+    grind (arith, decimal-escaped, sanitized-escaped, escaped-append, is_escaped-encoded)
 
 pub call_id-escaped : (options : CompileOptions) (identifier : List ℕ) (number occurrence : ℕ) →
     Escaped (call_id options identifier number occurrence)
@@ -125,8 +120,7 @@ backreference-read {test = test} {Q = Q} {options = options} known inside a sup 
     sup.tag [] (decimal occurrence) refl refl (inside.text (decimal occurrence)
     (decimal-escaped occurrence))) in
     let id : Escaped v = call_id-escaped options identifier number occurrence in
-    let label : Escaped t = option-escaped
-    (option_map string_bytes options.gfm_footnote_back_label) (codes "Back to content") refl in
+    let label : Escaped t = grind (arith, is_escaped-encoded) in
     let link = known.anchor v in
     let back = known.other (codes "data-footnote-backref") [] refl in
     let named = known.other (codes "aria-label") t refl in

@@ -66,11 +66,6 @@ cut-after nested x front f rest y stands whole c = record {
   made = ap (λ w. front ++ w) c.made ∙ sym (append_assoc front c.front _);
 }
 
-element-whole : (name : List ℕ) (attributes : List Attribute) (children rest : Forest) →
-    written (Element name attributes children rest)
-    ≡ (opening_tag name attributes ++ written children ++ closing_tag name) ++ written rest
-element-whole name attributes children rest = simp append_assoc
-
 -- the text of a forest that is contained stands
 stands-forest : (nested : Bool) (content : Content) (f : Forest) → is_forest f ≡ true →
     is_contained nested content f ≡ true →
@@ -89,10 +84,10 @@ cuts nested x = record {
   rests = λ name attributes children rest y tag forest later contained. (let parts = and_parts _ _
       contained in
       cut-after nested x (opening_tag name attributes ++ written children ++ closing_tag name)
-      (Element name attributes children rest) rest y (subst (Stands nested Flow) (element-whole name
-      attributes children Empty ∙ append-nil _) (stands-forest nested Flow
-      (Element name attributes children Empty) (and_from _ _ (and_from _ _ tag forest) refl)
-      (and_from _ _ parts.0 refl))) (element-whole name attributes children rest) (later parts.1));
+      (Element name attributes children rest) rest y (subst (Stands nested Flow) ((simp
+      append_assoc) ∙ append-nil _) (stands-forest nested Flow (Element name attributes children
+      Empty) (and_from _ _ (and_from _ _ tag forest) refl) (and_from _ _ parts.0 refl))) (simp
+      append_assoc) (later parts.1));
   insides = λ name attributes children rest tag forest rests contained. (let parts = and_parts _ _
       contained in
       record {
@@ -107,7 +102,7 @@ cuts nested x = record {
         forest = forest;
         rest_forest = rests;
         rest_contained = parts.1;
-        whole = element-whole name attributes children rest;
+        whole = simp append_assoc;
         made = refl;
       });
 }

@@ -12,8 +12,8 @@ use Rattle.md_meaning.specs.Meaning.Before.{is_first_fence}
 use Rattle.md_meaning.specs.Meaning.Layout.{Piece, said, when}
 use Rattle.md_meaning.specs.Meaning.Means.{prints}
 use Rattle.md_content.specs.Built.{Content, FirstFence, FirstMathFence, Chunks, InfoAndMeta}
-use Rattle.md_content.specs.Built.{MetaAlone, Nothing, is_line, is_fence, is_code_fence}
-use Rattle.md_content.specs.Built.{is_math_fence, may_stand, content_of}
+use Rattle.md_content.specs.Built.{MetaAlone, is_line, is_fence, is_code_fence, is_math_fence}
+use Rattle.md_content.specs.Built.{may_stand, content_of}
 use Rattle.md_safe.proofs.Texts.{Escaped}
 use Rattle.md_safe.proofs.Laid.{adds-append, adds-text, adds-weaker}
 use Rattle.md_safe.proofs.RawElements.{IsRaw, raw, code_tag, math_tag}

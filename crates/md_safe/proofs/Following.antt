@@ -80,11 +80,6 @@ pub follows-after-node :
 follows-after-node bytes content name names children stands built f =
     grind (arith, follows-node, follows-after)
 
--- nothing stands before a node's first child
-pub follows-inside : (content : Content) (name : Name) → may_stand content name ≡ true →
-    Follows (content_of name content) []
-follows-inside content name s = grind (arith, allowed_inside)
-
 pub inside-blocks : (content : Content) (name : Name) → is_blocks (content_inside content name)
     ≡ true → is_blocks content ≡ true
 inside-blocks content name = grind (arith, cond_both, of-blocks)
@@ -112,6 +107,6 @@ pub later-inside :
     IsBuilt bytes (content_of name content) children
     → IsLater (content_after (content_of name content) children)
 later-inside bytes content name start end children s fit built = cases (is_raw name) (λ is.
-    fenced-after bytes (content_of name content) children built (follows-inside content name s)
+    fenced-after bytes (content_of name content) children built (grind (arith, allowed_inside))
     (grind arith)) (λ plain. stays-after IsLater (λ content name h. (past_of content name).later)
     (content_of name content) children (grind (arith, allowed_inside)))

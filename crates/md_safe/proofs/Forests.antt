@@ -20,9 +20,9 @@ use Rattle.md_meaning.specs.Meaning.Nodes.{Outcome, found_at, node, before_next,
 use Rattle.md_content.specs.Built.{Content, may_stand, content_inside, content_after_node}
 use Rattle.md_content.specs.Built.{content_after, IsBuilt}
 use Rattle.md_safe.proofs.Contents.{stays-after, Holds, Follows}
-use Rattle.md_safe.proofs.Insides.{is_blocks, Suits, past_of}
-use Rattle.md_safe.proofs.Following.{inside-blocks, asked-after-node, second, follows-inside}
-use Rattle.md_safe.proofs.Following.{follows-after-node, suits-after-node}
+use Rattle.md_safe.proofs.Insides.{allowed_inside, is_blocks, Suits, past_of}
+use Rattle.md_safe.proofs.Following.{inside-blocks, asked-after-node, second, follows-after-node}
+use Rattle.md_safe.proofs.Following.{suits-after-node}
 use Rattle.md_safe.proofs.Spot.{IsWhole, Setting, AreTitles, IsFitAt, Prints, Inside, at_in}
 use Rattle.md_safe.proofs.FlowNodes.{Reads}
 use Rattle.md_safe.proofs.BlockNodes.{holds-none}
@@ -66,7 +66,7 @@ pub ready-inside : {s : Setting} {around : Surroundings} {before : Before} {cont
     (inside s.context.options (is_loose children) name around)
     (before_children name children before) (content_inside content name)
 ready-inside {s = s} {around = around} {before = before} {content = content} name children stands
-    r = grind (arith, follows-inside, inside-blocks, cond_both, holds-none)
+    r = grind (arith, allowed_inside, inside-blocks, cond_both, holds-none)
 
 -- and where the next node stands
 pub ready-after : {s : Setting} {content : Content} (t : At) (name : Name) (here : Outcome) →

@@ -142,10 +142,6 @@ count-append : (xs ys : List (List ℕ)) (x : List ℕ) → count_of (xs ++ ys) 
 count-append [] ys x = omega arith
 count-append (z ∷ zs) ys x = omega (count-append zs ys x, arith)
 
-count-middle : (xs ys : List (List ℕ)) (x : List ℕ) → suc (count_of xs x) ≤ count_of
-    (xs ++ x ∷ ys) x
-count-middle xs ys x = grind (arith, itself x, count-append xs (x ∷ ys) x)
-
 -- numbers and occurrences are no greater than the calls are many, and one
 place-last : (xs : List (List ℕ)) (x : List ℕ) → place_among xs x ≤ suc (length xs)
 place-last [] x = omega arith
@@ -202,5 +198,6 @@ ids-differ options on all before mid x y among few small e =
       count-last,
       same-place,
       is_in-distinct,
-      count-middle,
+      itself,
+      count-append,
     )

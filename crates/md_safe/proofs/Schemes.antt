@@ -28,10 +28,6 @@ use Rattle.md_text.specs.Kept.{goes_on}
 abbrev pub HasNone : List ℕ → Type 0
 HasNone x = protocol_of x ≡ None
 
--- another text may follow that has none
-none-keep : (b : ℕ) (x y : List ℕ) → (HasNone x → HasNone y) → HasNone (b ∷ x) → HasNone (b ∷ y)
-none-keep b x y f h = grind (arith, f, map_none b (protocol_of x))
-
 -- after a byte that doesn't end a protocol the rest has none
 none-drop : (t : ℕ → Bool) (b : ℕ) (rest : List ℕ) → (t 58 || (t 63 || (t 35 || t 47))) ≡ false →
     HasNone (b ∷ rest) → t b ≡ true → HasNone rest
@@ -41,7 +37,7 @@ line_feeds-none : (x : List ℕ) → HasNone x → HasNone (with_line_feeds x)
 line_feeds-none [] h = refl
 line_feeds-none (b ∷ rest) h =
     let drop = none-drop (λ b. b == 13) b rest refl h in
-    grind (arith, line_feeds-none rest, drop, none-keep b rest (with_line_feeds rest))
+    grind (arith, line_feeds-none rest, drop, map_none)
 
 leading-none : (x : List ℕ) → HasNone x → HasNone (without_leading x)
 leading-none [] h = refl
@@ -50,11 +46,11 @@ leading-none (b ∷ rest) h =
 
 trailing-none : (x : List ℕ) → HasNone x → HasNone (without_trailing x)
 trailing-none [] h = refl
-trailing-none (b ∷ rest) h = grind (arith, cond_both, none-keep, trailing-none rest)
+trailing-none (b ∷ rest) h = grind (arith, cond_both, map_none, trailing-none rest)
 
 newlines-none : (x : List ℕ) → HasNone x → HasNone (without_newlines x)
 newlines-none [] h = refl
-newlines-none (b ∷ rest) h = grind (arith, cond_both, none-drop, none-keep, newlines-none rest)
+newlines-none (b ∷ rest) h = grind (arith, cond_both, none-drop, map_none, newlines-none rest)
 
 in_scheme-none : (buffer x : List ℕ) → HasNone x → in_scheme buffer x ≡ None
 in_scheme-none buffer [] h = refl
@@ -109,9 +105,6 @@ letters-no_return q h = all-weaker _ _ (λ b h. ap not (passes_not is_letter b 1
 letter-scheme : (b : ℕ) → is_letter b ≡ true → is_scheme_byte b ≡ true
 letter-scheme b h = or_left _ _ (or_left _ _ (or_left _ _ (or_left _ _ h)))
 
-leading-word : (q y : List ℕ) → is_word q ≡ true → without_leading (q ++ y) ≡ q ++ y
-leading-word q y h = grind arith
-
 trailing-word : (q r : List ℕ) → list_all is_letter q ≡ true →
     without_trailing (q ++ (58 ∷ r)) ≡ q ++ (58 ∷ without_trailing r)
 trailing-word [] r h = refl
@@ -138,7 +131,7 @@ scheme_of-word : (q r : List ℕ) → is_word q ≡ true → scheme_of (with_lin
     ≡ Some (lowered q)
 scheme_of-word q r h =
     let start = in_scheme_start-word q (without_newlines (without_trailing (with_line_feeds r))) in
-    grind (arith, line_feeds-name, letters-no_return, leading-word, trailing-word, newlines-word)
+    grind (arith, line_feeds-name, letters-no_return, trailing-word, newlines-word)
 
 lowered-word : (q : List ℕ) → is_word (lowered q) ≡ true → is_word q ≡ true
 lowered-word q h = grind (arith, lowered-letters)

@@ -48,11 +48,6 @@ contained-once nested x h =
 
 -- ---- texts in one
 
--- two texts that may stand somewhere may stand there as one
-say-append : (content : Content) (x y : List ℕ) → may_say content x ≡ true →
-    may_say content y ≡ true → may_say content (x ++ y) ≡ true
-say-append content x y a b = grind (arith, list_all-append)
-
 -- what an element holds stands where it may
 abbrev pub is_held : (nested : Bool) → Content → List ℕ → Forest → Bool
 is_held nested content name inner = option_map_or (λ held. is_contained nested held inner)
@@ -63,7 +58,7 @@ contained-joined : (nested : Bool) (content : Content) (f g : Forest) →
     is_contained nested content (joined f g) ≡ true
 contained-joined nested content Empty g a b = b
 contained-joined nested content (Text bytes rest) g a b =
-    grind (arith, and_parts, and_from, say-append, contained-joined nested content rest g)
+    grind (arith, and_parts, and_from, list_all-append, contained-joined nested content rest g)
 contained-joined nested content (Void name attributes rest) g a b =
     grind (arith, contained-joined nested content rest g)
 contained-joined nested content (Element name attributes children rest) g a b =
