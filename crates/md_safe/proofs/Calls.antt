@@ -64,12 +64,7 @@ call-read {test = test} {R = R} known a sup v w n h passes g r =
     let described = known.other (codes "aria-describedby") (codes "footnote-label") refl in
     subst R (simp append_assoc) (sup.tag [] _ refl refl (a.tag (attribute (codes "href") (35 ∷ v) ∷
     attribute (codes "id") w ∷ attribute (codes "data-footnote-ref") [] ∷ attribute (codes
-    "aria-describedby") (codes "footnote-label") ∷ []) n (a_call v w h g) (rw (
-      link,
-      passes,
-      ref,
-      described,
-    ) refl) r))
+    "aria-describedby") (codes "footnote-label") ∷ []) n (a_call v w h g) (grind arith) r))
 
 -- the tags of a call
 abbrev pub call_tags : CompileOptions → List ℕ → ℕ → ℕ → List Piece

@@ -3,7 +3,7 @@
 -- code and images.
 use Rattle.std.proofs.Common.{◌≡◌, ℕ, Bool, true, List, [], ◌++◌, refl, false, sym, ◌||◌, cond, ap}
 use Rattle.std.proofs.Common.{◌∙◌, subst, append-nil, arith}
-use Rattle.md_meaning.specs.Meaning.Layout.{Piece, layout}
+use Rattle.md_meaning.specs.Meaning.Layout.{Piece}
 use Rattle.md_safe.proofs.Laid.{Adds, adds-append, adds-weaker, adds-nothing, adds-needed}
 use Rattle.md_safe.specs.Contents.{Content, Phrasing, Flow}
 use Rattle.md_safe.proofs.Stands.{Stands, stands-join, stands-nothing, stands-white, takes-white}
@@ -21,7 +21,7 @@ use Rattle.md_safe.proofs.Elements.{adds-empty_cells}
 use Rattle.std.specs.Prelude.{Option}
 use Rattle.md_base.specs.declared.event.Name.TheVariants as name_variants
 use Rattle.md_base.specs.NameTests.{is_transparent}
-use Rattle.md_meaning.specs.Meaning.At.{Footnote, At, Before, identifier_of}
+use Rattle.md_meaning.specs.Meaning.At.{Footnote, At, Before}
 use Rattle.md_meaning.specs.Meaning.Nodes.{Outcome, node, before_next, outcome}
 use Rattle.md_safe.proofs.Findings.{AreTexts, AreFound, texts-append}
 use Rattle.md_safe.specs.Placed.{sort_of, may_stand as may_place, IsPlaced}
@@ -128,10 +128,6 @@ solid-means : {nested : Bool} {d : Document} {content : Content} {name : Name} {
 solid-means {nested = nested} {d = d} {content = content} {name = name} {t = t} white inner solid
     whole stands k own none g =
     let own-prints : Own nested d content name inner.pieces = λ is. (own (same ∙ is)).prints in
-    let noted : Footnote = record {
-      identifier = identifier_of d.context.bytes t.children;
-      text = layout d.context.ending inner.pieces;
-    } in
     record {
       prints = solid-node (standing nested d white) t content name solid whole stands inner.pieces k
           own-prints g;
@@ -201,13 +197,8 @@ means nested d (Node name start end children rest) around before content f =
       ids = λ call value. refl;
       heading = λ is. f.heading;
       within = inside-means t Blocks name solid f.built.0 f.built.1 f.built.2 known;
-    }) f.built.0 f.placed.0 own
-    (λ none. no_footnotes d (content_inside Blocks name) children around' before' none f.built.2)
-    (λ is. record {
-      spans = is;
-      free = λ prints. grind arith;
-      plain = λ no. grind arith;
-    }) in
+    }) f.built.0 f.placed.0 own (λ none. no_footnotes d (content_inside Blocks name) children
+    around' before' none f.built.2) (grind arith) in
     let later : Means nested d content others = means nested d rest around next content (record {
       white = f.white;
       built = rw (after-blocks name children) at f.built.3;
@@ -220,9 +211,4 @@ means nested d (Node name start end children rest) around before content f =
       unnested = λ no. (unnested-parts name around.in_link start end children rest
           (f.unnested no)).1;
     }) in
-    record {
-      prints = lays-both one.prints later.prints;
-      heading = grind (arith, on-later);
-      texts = texts-append (Stands nested Flow) here.footnotes others.footnotes one.texts
-          later.texts;
-    }
+    grind (arith, lays-both, on-later, texts-append)

@@ -15,15 +15,14 @@ use Rattle.md_safe.proofs.Stands.{stands-join, stands-nothing, is_held, white_be
 use Rattle.md_safe.proofs.Stands.{Stands, stands-text, turns-tag, stands-tag, takes-white, IsWhite}
 use Rattle.std.specs.Prelude.{None}
 use Rattle.md_meaning.specs.Meaning.At.{Footnote}
-use Rattle.md_meaning.specs.Meaning.Footnotes.{body, item, section, distinct, place_among, count_of}
+use Rattle.md_meaning.specs.Meaning.Footnotes.{body, item, section, distinct, place_among}
 use Rattle.md_meaning.specs.Meaning.Footnotes.{backreferences}
 use Rattle.md_safe.proofs.Texts.{Escaped}
 use Rattle.md_safe.proofs.Laid.{adds-all, adds-text, adds-needed}
 use Rattle.md_safe.proofs.Tags.{attribute, Turns}
 use Rattle.md_safe.proofs.Calls.{id-escaped, label-escaped, backreferences-read}
 use Rattle.md_safe.proofs.Section.{adds-body, heading_label_of, heading_text, turn-after}
-use Rattle.md_safe.proofs.Section.{item-turns, note_id, texts-among, text_among, backs_of}
-use Rattle.md_safe.proofs.Section.{adds-item, adds-section}
+use Rattle.md_safe.proofs.Section.{item-turns, note_id, texts-among, adds-item, adds-section}
 use Rattle.md_safe.proofs.Costs.{Document, read_in}
 use Rattle.md_safe.proofs.ContainedForests.{lays-white, lays-both, Prints, AreFlow}
 use Rattle.md_safe.proofs.Linking.{in_link}
@@ -159,12 +158,9 @@ paragraph-takes nested before endings x h s r =
 pub backreferences-stand : (nested : Bool) (d : Document) (identifier : List ℕ) (number count : ℕ) →
     Stands nested Phrasing (backreferences d.context.options identifier number count)
 backreferences-stand nested d identifier number count = backreferences-read (read_in d).test (record
-    { text = grind (arith, stands-text); both = stands-join }) (record {
-      text = λ x h. stands-text h
-          refl;
-      both = stands-join;
-    }) (stands-tag (in_link nested) refl) (stands-tag (in_link nested)
-    (grind arith)) identifier number count
+    { text = grind (arith, stands-text); both = stands-join })
+    (grind (arith, stands-text, stands-join)) (stands-tag (in_link nested) refl) (stands-tag
+    (in_link nested) (grind arith)) identifier number count
 
 -- a footnote's text
 body-prints : (nested : Bool) (d : Document) → IsWhite d.context.ending → (x back : List ℕ) →
@@ -181,10 +177,8 @@ item-prints nested d w footnotes h identifier =
     let number : ℕ = place_among (distinct d.context.calls) identifier in
     adds-item white_beside (takes-white refl) (takes-white refl) d.context w footnotes identifier
     (item-turns (turns-tag Flow refl) (note_id d.context identifier) refl (id-escaped
-    d.context.options (codes "fn-") identifier number refl)) (body-prints nested d w
-    (text_among footnotes identifier) (backs_of d.context identifier) (texts-among
-    (Stands nested Flow) stands-nothing footnotes identifier h) (backreferences-stand nested d
-    identifier number (count_of d.context.calls identifier)))
+    d.context.options (codes "fn-") identifier number refl))
+    (grind (arith, body-prints, texts-among, stands-nothing, backreferences-stand))
 
 -- the section's tag and its heading
 heading-turns : (nested : Bool) (label : List ℕ) → Escaped label → Turns (Stands nested Flow)
@@ -203,10 +197,8 @@ pub section-prints : (nested : Bool) (d : Document) → IsWhite d.context.ending
     d.context.options.gfm_footnote_label_tag_name ≡ None →
     d.context.options.gfm_footnote_label_attributes ≡ None → (footnotes : List Footnote) →
     AreFlow nested footnotes → Prints nested d Flow (section d.context footnotes)
-section-prints nested d w no_tag no_attributes footnotes h = adds-section white_beside
-    (takes-white refl) (takes-white refl) (takes-white refl) d.context w
-    ((turns-tag Items {name = codes "ol"} refl).tag [] refl refl) (heading-turns nested
-    (heading_label_of d.context.options)
-    (label-escaped d.context.options)) no_tag no_attributes stands-nothing footnotes (adds-all
-    (record { none = stands-nothing; both = stands-join }) (item-prints nested d w footnotes h)
-    (distinct d.context.calls))
+section-prints nested d w no_tag no_attributes footnotes h = adds-section white_beside (takes-white
+    refl) (takes-white refl) (takes-white refl) d.context w ((turns-tag Items {name = codes "ol"}
+    refl).tag [] refl refl) (heading-turns nested (heading_label_of d.context.options)
+    (label-escaped d.context.options)) no_tag no_attributes stands-nothing footnotes
+    (grind (arith, adds-all, stands-nothing, stands-join, item-prints))

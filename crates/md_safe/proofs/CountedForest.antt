@@ -17,7 +17,7 @@ use Rattle.md_text.specs.References.{read_back}
 use Rattle.md_text.proofs.HtmlIds.{occurs, Counts, counts-more, counts-join}
 use Rattle.md_meaning.specs.Meaning.At.{identifier_of, Before, At}
 use Rattle.md_meaning.specs.Meaning.Footnotes.{distinct, place_among, count_of, id_of, call_id}
-use Rattle.md_meaning.specs.Meaning.Layout.{Piece, layout}
+use Rattle.md_meaning.specs.Meaning.Layout.{Piece}
 use Rattle.md_meaning.specs.Meaning.Blocks.{underline_rank}
 use Rattle.md_meaning.specs.Meaning.Spans.{is_at}
 use Rattle.md_content.specs.Underlined.{is_underline, waits_past, waits_after, IsUnderlined}
@@ -71,16 +71,7 @@ footnote d w p m b = record {
   notes = b.notes + b.body;
   prints = adds-nothing (counts-none w);
   heading = tt;
-  texts = texts-append w b.notes b.body (inner_of d p GfmFootnoteDefinition).footnotes (record {
-    identifier = identifier_of d.context.bytes p.children;
-    text = layout d.context.ending (inner_of d p GfmFootnoteDefinition).pieces;
-  } ∷ []) b.texts (
-    b.body,
-    0,
-    omega arith,
-    adds-alone b.prints,
-    tt,
-  );
+  texts = grind (arith, texts-append, adds-alone);
   few = omega (b.few, cost-least d w p GfmFootnoteDefinition, arith);
 }
 
@@ -211,23 +202,11 @@ spent d w (Node name start end children rest) around before waits m f h =
     (content_inside Blocks name) f.built.2 within in
     let own : AreFound (read_in d) Blocks here.found = found-at t name (inner_of d p name).pieces
     f.built.0 f.built.1 f.ready.suits f.built.2 known.prints known.found in
-    let k : is_transparent name ≡ false → Stands d p name = λ solid. record {
-      solid = solid;
-      whole = not_part _ (second _ _ solid f.built.0);
-      stands = f.built.0;
-      fit = f.built.1;
-      built = f.built.2;
-      ready = f.ready;
-      within = within;
-      known = known;
-    } in
+    let k : is_transparent name ≡ false → Stands d p name = grind (arith, not_part, second) in
     let one : Costs d w before m waits' here = node-spent k h f.underlined.0 (λ is. spent d w
     children (inner_around d p name) (inner_before p name) (cond (is_transparent name) waits false)
-    (cond (is_transparent name) m 0) (record {
-      built = rw (is_blocks-same (content_inside Blocks name) is) at f.built.2;
-      ready = rw (is_blocks-same (content_inside Blocks name) is) at within;
-      underlined = f.underlined.1;
-    }) (heading-inside (is_transparent name) waits m before.heading h)) in
+    (cond (is_transparent name) m 0) (grind (arith, is_blocks-same)) (heading-inside (is_transparent
+    name) waits m before.heading h)) in
     let later : Costs d w next one.left (waits_after waits' rest) others = spent d w rest around
     next waits' one.left (record {
       built = rw (after-blocks name children) at f.built.3;

@@ -119,14 +119,9 @@ flow-done (Text bytes rest) content is h c x there =
 flow-done (Void name attributes rest) content is h c x there =
     let parts = and_parts _ _ c in
     let next : Nodes = with_element x.node.children name (seen_attributes attributes) NoNode in
-    void-done (flow-void-step (seen_attributes attributes) (grind (
-      arith,
-      or_cases,
-      bytes_eq-Decides,
-      void-named,
-    )) there.here there.no_p) (flow-done rest content is h parts.1
-    (with_children x next x.active (suc x.created)) (there-after (keeps-all x.active) (omega arith)
-    there))
+    void-done (grind (arith, flow-void-step, or_cases, bytes_eq-Decides, void-named)) (flow-done
+    rest content is h parts.1 (with_children x next x.active (suc x.created)) (there-after
+    (keeps-all x.active) (omega arith) there))
 flow-done (Element name attributes inner rest) content is h c x there =
     let forests = element-parts name attributes inner rest h in
     let parts = and_parts _ _ c in

@@ -1,7 +1,6 @@
 -- Blocks and preformatted code are built as they are read, by what their children do; and what is
 -- known of each element that stands in flow content or in a list.
-use Rattle.std.proofs.Common.{◌≡◌, ℕ, true, false, List, ◌∷◌, ◌++◌, refl, ap, codes, ◌⊎◌, Bool}
-use Rattle.std.proofs.Common.{arith}
+use Rattle.std.proofs.Common.{◌≡◌, ℕ, true, false, List, ◌∷◌, ◌++◌, refl, codes, ◌⊎◌, Bool, arith}
 use Rattle.std.specs.Prelude.{Some, bytes_eq}
 use Rattle.md_base.proofs.Lies.{lie}
 use Rattle.md_text.specs.Html.{Attribute, Forest, Empty, Text, Void, Element}
@@ -87,12 +86,8 @@ pub pre-passes : {x : Position} {attributes : List Attribute} {inner : Forest} �
     (seen_attributes attributes) x.active) inner → Passed x (codes "pre") attributes inner
 pre-passes {x = x} {attributes = attributes} {inner = inner} body none c d =
     let new : Parser = parser_of (within x (codes "pre") (seen_attributes attributes) x.active) in
-    passes x.active d.left (record new { skips_line_feed = true }) body (grind arith) (ap (λ stack.
-    Some (record (insert (codes "pre") (seen_attributes attributes) (record (parser_of x) {
-      stack =
-          stack;
-    })) { skips_line_feed = true })) (unclosed (x.node ∷ x.others) none)) (λ ys. pre-begins
-    inner new ys c) d refl d.keeps
+    passes x.active d.left (record new { skips_line_feed = true }) body (grind arith)
+    (grind (arith, unclosed)) (λ ys. pre-begins inner new ys c) d refl d.keeps
 
 -- it decides no insertion mode
 abbrev pub KeepsMode : List ℕ → Type 0

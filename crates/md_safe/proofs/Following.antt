@@ -51,14 +51,8 @@ follows-node : (content : Content) (name : Name) (names : List Name) (children :
     (is_transparent name || may_stand content name) ≡ true → Follows content names → (is_transparent
     name ≡ true → Follows (content_after content children) (names ++ spine_names children)) →
     Follows (content_after_node content name children) (spine_after_node name children names)
-follows-node content name names children stands f inner = grind (
-  arith,
-  list_any-append,
-  or_right,
-  or_left,
-  allowed_inside,
-  cond_both,
-)
+follows-node content name names children stands f inner =
+    grind (arith, list_any-append, or_right, or_left, allowed_inside, cond_both)
 
 pub follows-after : (bytes : List ℕ) (content : Content) (names : List Name) (forest : Forest) →
     IsBuilt bytes content forest → Follows content names →
@@ -106,7 +100,7 @@ pub later-inside :
     may_stand content name ≡ true → IsFit bytes name start end children →
     IsBuilt bytes (content_of name content) children
     → IsLater (content_after (content_of name content) children)
-later-inside bytes content name start end children s fit built = cases (is_raw name) (λ is.
-    fenced-after bytes (content_of name content) children built (grind (arith, allowed_inside))
-    (grind arith)) (λ plain. stays-after IsLater (λ content name h. (past_of content name).later)
-    (content_of name content) children (grind (arith, allowed_inside)))
+later-inside bytes content name start end children s fit built = cases (is_raw name)
+    (grind (arith, fenced-after, allowed_inside)) (λ plain. stays-after IsLater (λ content name h.
+    (past_of content name).later) (content_of name content) children
+    (grind (arith, allowed_inside)))

@@ -50,9 +50,8 @@ forest-leads {left} (Void name attributes rest) r t h n k =
     let p = and_parts _ _ h in
     let good = void-good name attributes p.0 in
     let on = forest_before rest r in
-    rw (← (tag-lined name attributes (32 ∷ 47 ∷ 62 ∷ on) left good.0 good.1)) (void-leads name
-    attributes (with_line_feeds on ++ left) (tokens rest ++ t) good.0 good.1 (forest-leads rest r t
-    p.1 n k))
+    rw (← (tag-lined name attributes (32 ∷ 47 ∷ 62 ∷ on) left good.0 good.1))
+    (grind (arith, void-leads, forest-leads rest r t p.1 n k))
 forest-leads {left} (Element name attributes children rest) r t h n k =
     let p = and_parts _ _ h in
     let q = and_parts _ _ p.0 in
@@ -64,9 +63,8 @@ forest-leads {left} (Element name attributes children rest) r t h n k =
     let ending : To left Data (with_line_feeds close ++ left) later = rw (← (tag-lined name [] (62 ∷
     on) left good.0 refl)) (end-leads name (with_line_feeds on ++ left) (tokens rest ++ t) good.0
     (forest-leads rest r t p.1 n k)) in
-    rw (← (tag-lined name attributes (62 ∷ inside) left good.0 good.1), append_assoc) (element-leads
-    name attributes (with_line_feeds inside ++ left) (tokens children ++ later) good.0 good.1
-    (forest-leads children close later q.1 refl ending))
+    rw (← (tag-lined name attributes (62 ∷ inside) left good.0 good.1), append_assoc)
+    (grind (arith, element-leads, forest-leads children close later q.1 refl ending))
 
 pub forest-ends : (f : Forest) → is_forest f ≡ true → EndsInDataState (written f) (tokens f)
 forest-ends f h left =

@@ -13,7 +13,6 @@ use Rattle.md_pattern.specs.Looseness.{is_loose}
 use Rattle.md_meaning.specs.declared.surroundings.Surroundings.{Surroundings}
 use Rattle.md_meaning.specs.Meaning.Inherited.{inside}
 use Rattle.md_meaning.specs.Meaning.At.{Defined, Footnote, target_in, Before, At, identifier_of}
-use Rattle.md_meaning.specs.Meaning.At.{Target}
 use Rattle.md_meaning.specs.Meaning.Before.{before_children}
 use Rattle.md_meaning.specs.Meaning.Layout.{Piece, layout, when}
 use Rattle.md_meaning.specs.Meaning.Nodes.{Outcome, found_at, node, before_next, outcome}
@@ -30,8 +29,6 @@ use Rattle.md_safe.proofs.Nodes.{Knows, any-node, inside-alone, Before as Prints
 use Rattle.md_safe.proofs.Findings.{AreFound, AreRead, titles-append, texts-append, Inner}
 use Rattle.md_safe.proofs.Findings.{found-node, note-node}
 use Rattle.md_safe.proofs.Cases.{on-later, on-either}
-use Rattle.md_safe.proofs.Texts.{Escaped}
-use Rattle.md_safe.proofs.Media.{IsEscapedTitle}
 
 blocks-after-node : (content : Content) (name : Name) (children : Forest) →
     is_blocks content ≡ true → is_blocks (content_after_node content name children) ≡ true
@@ -98,26 +95,12 @@ means s (Node name start end children rest) around before content built r =
     let others : Outcome = outcome s.context around next rest in
     let within : Means s around' (content_inside content name) children inner = means s children
     around' before' (content_inside content name) built.2 (ready-inside name children built.0 r) in
-    let i : Inner s t content name inner.pieces = record {
-      stands = built.0;
-      fit = built.1;
-      suits = r.suits;
-      built = built.2;
-      before = within.prints;
-      found = within.found;
-    } in
+    let i : Inner s t content name inner.pieces = grind arith in
     let own : AreFound s content here.found = found-node t name i in
     let after : Means s around (content_after_node content name children) rest others = means s rest
     around next (content_after_node content name children) built.3
     (ready-after t name here built.0 built.2 own r) in
-    let k : Knows s t content name = record {
-      fit = built.1;
-      suits = r.suits;
-      follows = r.follows;
-      whole = r.whole;
-      heading = r.heading;
-      resource = within.found.resource;
-    } in
+    let k : Knows s t content name = grind arith in
     let defined : Defined = record {
       identifier = identifier_of s.context.bytes children;
       target = target_in inner.found;
@@ -131,13 +114,7 @@ means s (Node name start end children rest) around before content built r =
           (sym (append_assoc here.pieces others.pieces later)) (any-node s t content name built.0 k
           inner.pieces (others.pieces ++ later) built.2 (λ pieces g. within.prints pieces g)
           (after.prints later h));
-      found = record {
-        heading = λ is. on-later (Reads s) here.found.heading others.found.heading (own.heading is)
-            (after.found.heading (blocks-after-node content name children is));
-        title = on-later Escaped _ _ own.title after.found.title;
-        resource = on-later (λ (target : Target). IsEscapedTitle target.title) _ _ own.resource
-            after.found.resource;
-      };
+      found = grind (arith, on-later, blocks-after-node);
       titles = titles-append _ _ (titles-append _ _ within.titles (cond_both (named Definition name)
           (defined ∷ []) [] AreTitles (λ _. (within.found.title, tt)) (λ _. tt))) after.titles;
       texts = texts-append (Reads s) here.footnotes others.footnotes (texts-append (Reads s)

@@ -3,11 +3,10 @@
 use Rattle.std.proofs.lemmas.Fmt.{decimal_injective}
 use Rattle.std.proofs.Common.{◌≡◌, ℕ, ◌+◌, ◌≤◌, ◌<◌, ◌^◌, suc, true, false, ◌||◌, List, [], ◌∷◌}
 use Rattle.std.proofs.Common.{◌++◌, length, refl, sym, ap, ◌∙◌, arith, append_assoc, codes}
-use Rattle.std.proofs.Common.{bytes_eq, ◌⊎◌, cond, inl, inr}
+use Rattle.std.proofs.Common.{bytes_eq, ◌⊎◌, inl, inr}
 use Rattle.std.specs.Prelude.{map}
 use Rattle.std.proofs.lemmas.Bool.{or_parts, or_right, cond_both}
 use Rattle.std.proofs.lemmas.List.{append_cancel_left, length-append}
-use Rattle.md_base.proofs.Lies.{lie}
 use Rattle.md_text.specs.References.{read_back}
 use Rattle.md_text.proofs.HtmlIds.{occurs}
 use Rattle.md_text.specs.declared.options.CompileOptions.{CompileOptions}
@@ -75,19 +74,17 @@ none-other : (options : CompileOptions) → options.gfm_footnote_number_ids ≡ 
     occurs (note_id options all x) (note_ids options all identifiers) ≡ 0
 none-other options on all x [] few among none = refl
 none-other options on all x (y ∷ identifiers) few among none =
-    let parts = or_parts _ _ none in
-    occurs-other _ _ _ (λ e. lie (sym parts.0 ∙ ap (λ z. bytes_eq z x)
-    (notes-differ options on all x y few among.0 e) ∙ itself x)) ∙ none-other options on all x
-    identifiers few among.1 parts.1
+    let later = none-other options on all x identifiers few among.1 (or_parts _ _ none).1 in
+    grind (arith, occurs-other, notes-differ, itself, or_parts, later)
 
 -- each id is that of one footnote at most
 pub notes-once : (options : CompileOptions) → options.gfm_footnote_number_ids ≡ true →
     (w : List ℕ) (all identifiers : List (List ℕ)) → length all + 1 < 2 ^ 64 → Apart identifiers →
     AreIn identifiers (distinct all) → occurs w (note_ids options all identifiers) ≤ 1
 notes-once options on w all [] few apart among = omega arith
-notes-once options on w all (x ∷ identifiers) few apart among = occurs-once w
-    (note_id options all x) (note_ids options all identifiers) (none-other options on all x
-    identifiers few among.1 apart.0) (notes-once options on w all identifiers few apart.1 among.1)
+notes-once options on w all (x ∷ identifiers) few apart among =
+    let later = notes-once options on w all identifiers few apart.1 among.1 in
+    grind (arith, occurs-once, none-other, later)
 
 in-more : (x : List ℕ) (xs others : List (List ℕ)) → AreIn xs others → AreIn xs (x ∷ others)
 in-more x [] others h = tt
@@ -143,18 +140,7 @@ document-once options on w calls small =
     (in-itself (distinct calls)) in
     let called = calls-once options on w calls [] calls refl few (omega (small, arith)) in
     let heading = occurs-once w (codes "footnote-label") [] refl (omega arith) in
-    elim (among-notes options on w calls (distinct calls)) [
-      | inl n ↦ elim (among-calls options on w calls [] calls) [
-        | inl c ↦ omega (heading, n, c, arith)
-        | inr c ↦ (let alone = label-alone options w (rw c.2 (call-ends options c.0 c.1)) in
-            omega (alone, n, called, arith))
-      ]
-      | inr n ↦ elim (among-calls options on w calls [] calls) [
-        | inl c ↦ (let alone = label-alone options w (rw n.1 (note-ends options n.0)) in
-            omega (alone, notes, c, arith))
-        | inr c ↦ absurd (grind (arith, append_cancel_left))
-      ]
-    ]
+    grind (arith, among-notes, among-calls, label-alone, call-ends, note-ends, append_cancel_left)
 
 -- an id that stands in a document is that of the heading, of a footnote or of a call
 pub document-known : (options : CompileOptions) →
@@ -162,12 +148,5 @@ pub document-known : (options : CompileOptions) →
     1 ≤ occurs w label_id + occurs w (note_ids options calls (distinct calls))
     + occurs w (ids_after options calls [] calls) →
     (codes "footnote-label" ≡ w) ⊎ (IsNote options w ⊎ IsCall options w)
-document-known options on w calls some = cases (bytes_eq (codes "footnote-label") w)
-    (λ e. inl (same (codes "footnote-label") w e))
-    (λ e. elim (among-notes options on w calls (distinct calls)) [
-      | inr n ↦ inr (inl n)
-      | inl n ↦ elim (among-calls options on w calls [] calls) [
-        | inr c ↦ inr (inr c)
-        | inl c ↦ absurd (omega (arith, n, c, some, ap {B = ℕ} (λ is. cond is 1 0) e))
-      ]
-    ])
+document-known options on w calls some = cases (bytes_eq (codes "footnote-label") w) (λ e. inl (same
+    (codes "footnote-label") w e)) (grind (arith, among-notes, among-calls))

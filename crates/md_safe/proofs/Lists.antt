@@ -38,8 +38,7 @@ keeps-earliest : (name : List ℕ) (attributes : List TokenAttribute) (xs : List
 keeps-earliest name attributes [] = refl
 keeps-earliest name attributes (Marker ∷ xs) = refl
 keeps-earliest name attributes (Formatting identity other those ∷ xs) =
-    cond_both _ _ _ (Keeps (Formatting identity other those ∷ xs)) (λ _. inl (keeps-all xs))
-    (λ _. inr (without_earliest name attributes xs, refl, keeps-earliest name attributes xs))
+    grind (arith, cond_both, keeps-all, keeps-earliest name attributes xs)
 
 -- the rest of the list when an element is pushed
 abbrev pub room : List ℕ → List TokenAttribute → List Entry → List Entry

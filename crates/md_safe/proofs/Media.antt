@@ -62,9 +62,5 @@ adds-image {test} {R} {ending} {options} known single target label h e = by targ
     by None h = adds-flat refl (single.tag (src_attribute ∷ attribute (codes "alt") label ∷ []) (rw
         (v, e) refl) (rw (p, q) refl))
     by (Some title) h = adds-flat refl (single.tag (src_attribute ∷ attribute (codes "alt") label ∷
-        attribute (codes "title") title ∷ []) (rw (v, e, h) refl) (rw (
-          p,
-          q,
-          known.other (codes
-              "title") title refl,
-        ) refl))
+        attribute (codes "title") title ∷ []) (rw (v, e, h) refl)
+        (rw (p, q, known.other (codes "title") title refl) refl))

@@ -46,10 +46,8 @@ span-any s t name suits stands fit inner a =
     let image = suits.image refl in
     either _ _ (rw stands at (span-sorts name)) (λ is. rw (hidden-prints s.context t name is inner)
     (adds-nothing refl)) (λ c. either _ _ c (λ is. rw (silent-prints s.context t name is inner)
-    (inside-is s t Spans Spans name inner (grind arith) a)) (λ c. either _ _ c (λ is. text-node s t
-    Escaped name (λ x h. h e) is fit inner) (λ c. either _ _ c (λ is. shown-in_image s t name e
-    image is inner a) (λ c. either _ _ c (λ is. leaf-escaped s t name e is fit inner) (λ is.
-    autolink-in_image s t name image is inner)))))
+    (inside-is s t Spans Spans name inner (grind arith) a))
+    (grind (arith, text-node, shown-in_image, leaf-escaped, autolink-in_image)))
 
 -- the info string
 info-node : (s : Setting) (escaping : Bool) {inner rest : List Piece} → escaping ≡ true →
@@ -58,13 +56,8 @@ info-node : (s : Setting) (escaping : Bool) {inner rest : List Piece} → escapi
 info-node s escaping e a b = adds-append
     {f = λ w. (v : List ℕ) × (w ≡ codes " class=\"language-" ++ (v ++ codes "\"")) × Escaped v}
     {g = IsNil} (λ x y f g. rw (g, append-nil, f.1) (inr (f.0, refl, f.2, refl))) (adds-append {f =
-    λ x. x ≡ codes " class=\"language-"}
-    {g = λ w. (v : List ℕ) × (w ≡ v ++ codes "\"") × Escaped v} (λ x w f g. (
-      g.0,
-      rw (f, g.1) refl,
-      g.2,
-    )) (adds-text refl)
-    (adds-append (λ v y f g. (v, ap (λ y. v ++ y) g, f e)) a
+    λ x. x ≡ codes " class=\"language-"} {g = λ w. (v : List ℕ) × (w ≡ v ++ codes "\"") × Escaped v}
+    (grind arith) (adds-text refl) (adds-append (λ v y f g. (v, ap (λ y. v ++ y) g, f e)) a
     (adds-text {f = λ x. x ≡ codes "\""} refl))) b
 
 in_code-nil : (s : Setting) {rest : List Piece} → Prints s IsNil rest →
@@ -106,15 +99,8 @@ pub solid-node : (s : Setting) (t : At) (content : Content) (name : Name) →
     Prints s (Here s t (content_past content name)) rest → Prints s
     (Here s t content) (prints s.context t name inner ++ rest)
 solid-node s t Blocks name solid stands k inner rest a b = adds-append (k.whole refl).both
-    (block-node s t name solid (not_part (is_part name || is_source name) stands) inner (record {
-      escaping = k.suits.escaped refl;
-      outside = k.suits.outside refl;
-      fit = k.fit;
-      resource = k.resource;
-      ids = λ _. (k.whole refl).ids;
-      heading = λ _. k.heading refl;
-      within = a;
-    })) b
+    (block-node s t name solid (not_part (is_part name || is_source name) stands) inner (grind
+    arith)) b
 solid-node s t Spans name solid stands k inner rest a b = adds-append escaped-append
     (span-any s t name k.suits stands k.fit inner a) b
 solid-node s t Strings name solid stands k inner rest a b = adds-append

@@ -1,5 +1,5 @@
 -- A page: its fixed parts step by step, its title in the RCDATA state, and its body by its forest.
-use Rattle.std.proofs.Common.{map, ◌≡◌, ℕ, true, List, [], ◌∷◌, ◌++◌, refl, sym, subst, codes}
+use Rattle.std.proofs.Common.{arith, map, ◌≡◌, ℕ, true, List, [], ◌∷◌, ◌++◌, refl, subst, codes}
 use Rattle.std.specs.List.{list_all}
 use Rattle.md_text.specs.References.{is_escaped}
 use Rattle.md_text.specs.Html.{Forest, is_forest, written, all_attributes, HasOneReadingWith}
@@ -88,8 +88,5 @@ page-tokenized title body e links images =
       tokenized = runs;
       only = λ other h. one_run Data (with_line_feeds text) other emits h runs;
       safe_links = page-links (seen title) inside links.reading.in_grammar links.passes;
-      safe_images =
-          page-images (seen title) inside links.reading.in_grammar
-          (subst (λ f. all_attributes is_safe_image f ≡ true)
-          (sym (images.only inside links.reading)) images.passes);
+      safe_images = grind (arith, page-images);
     }

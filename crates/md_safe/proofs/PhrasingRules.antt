@@ -106,10 +106,7 @@ here-formatting {x = x} {name = name} {those = those} rule here =
     let new : Position = within x name those left in
     record {
       body = here.body;
-      opened = (
-        or_left _ _ (self_same x.created),
-        open-under new.node new.others left (keeps-open new.others x.active left here.opened kept),
-      );
+      opened = grind (arith, or_left, self_same, open-under, keeps-open);
       made = (
         omega arith,
         later-created x.created (suc x.created) left (omega arith)

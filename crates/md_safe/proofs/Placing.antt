@@ -1,6 +1,5 @@
 -- Each document of the grammar is placed: the content of a node's children allows them.
-use Rattle.std.proofs.Common.{◌≡◌, true, ◌||◌, false, Bool, Option, None, List, ◌++◌, refl, sym}
-use Rattle.std.proofs.Common.{◌∙◌, arith}
+use Rattle.std.proofs.Common.{◌≡◌, true, ◌||◌, false, Bool, Option, None, List, ◌++◌, refl, arith}
 use Rattle.std.specs.List.{list_all}
 use Rattle.std.proofs.lemmas.Bool.{and_parts}
 use Rattle.std.proofs.lemmas.List.Folds.{list_all-append}
@@ -103,8 +102,7 @@ spot : (standing : Standing) (name : Name) (children : Forest) (around : Role)
     IsStanding standing around before children → list_all (may_show content)
     (shown standing (spine children) ++ others) ≡ true → Spot standing name children content others
 spot Through name children around before content others says stands h =
-    let whole = and_parts _ _ (sym (list_all-append _ (spine children) others) ∙ h) in
-    record { stands = rw says refl; inside = rw says whole.0; after = whole.1 }
+    grind (arith, and_parts, list_all-append, says)
 spot Space name children around before content others says stands h =
     record { stands = rw says refl; inside = rw stands refl; after = h }
 spot (Solid seen usual reading) name children around before content others says stands h =

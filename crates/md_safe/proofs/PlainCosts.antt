@@ -64,16 +64,8 @@ pub record IsPlain (name : Name) : Type 0 where
 plain-prints : {d : Document} {w : List ℕ} {p : Place} {name : Name} {n : ℕ} → Stands d p name →
     IsPlain name → Inside (counted_in d w n) (at_of d p name) Blocks name
     (inner_of d p name).pieces → Adds d.context.ending (Counts w n) (here_of d p name).pieces
-plain-prints {d = d} {w = w} {p = p} {name = name} {n = n} k plain within = block-node
-    (counted_in d w n) (at_of d p name) name k.solid k.whole (inner_of d p name).pieces (record {
-      escaping = k.ready.suits.escaped refl;
-      outside = k.ready.suits.outside refl;
-      fit = k.fit;
-      resource = k.known.found.resource;
-      ids = λ call. lie (sym plain.call ∙ call);
-      heading = λ is. lie (grind arith);
-      within = within;
-    })
+plain-prints {d = d} {w = w} {p = p} {name = name} {n = n} k plain within = block-node (counted_in d
+    w n) (at_of d p name) name k.solid k.whole (inner_of d p name).pieces (grind arith)
 
 -- a node in which blocks stand
 pub around-blocks : {d : Document} {w : List ℕ} {p : Place} {name : Name} {m : ℕ} (waits : Bool) →
@@ -116,12 +108,7 @@ pub around-others : {d : Document} {w : List ℕ} {p : Place} {name : Name} {m :
     (waits_past waits name) (here_of d p name)
 around-others {d} {w} {p} {name} {m} waits k plain blocks h =
     let counted = means (counted_in d w 0) p.children (inner_around d p name) (inner_before p name)
-    (content_inside Blocks name) k.built (record {
-      suits = k.within.suits;
-      follows = k.within.follows;
-      whole = λ is. lie (sym blocks ∙ is);
-      heading = λ is. lie (sym blocks ∙ is);
-    }) in
+    (content_inside Blocks name) k.built (grind arith) in
     record {
       body = 0;
       left = m;

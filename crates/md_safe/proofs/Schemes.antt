@@ -35,9 +35,7 @@ none-drop t b rest other h e = grind arith
 
 line_feeds-none : (x : List ℕ) → HasNone x → HasNone (with_line_feeds x)
 line_feeds-none [] h = refl
-line_feeds-none (b ∷ rest) h =
-    let drop = none-drop (λ b. b == 13) b rest refl h in
-    grind (arith, line_feeds-none rest, drop, map_none)
+line_feeds-none (b ∷ rest) h = grind (arith, none-drop, map_none, line_feeds-none rest)
 
 leading-none : (x : List ℕ) → HasNone x → HasNone (without_leading x)
 leading-none [] h = refl
@@ -72,13 +70,8 @@ ReadsAlike x = (read_back (with_line_feeds x) ≡ with_line_feeds (read_back x))
     × (begins_with_line_feed (read_back x) ≡ begins_with_line_feed x)
 
 pub seen-is : (x : List ℕ) → is_escaped x ≡ true → seen x ≡ with_line_feeds (read_back x)
-seen-is x e =
-    (by_escaped ReadsAlike (refl, refl) (λ b rest p h. grind arith) (λ rest h. (
-      ap (λ y. 38 ∷ y)
-          h.0,
-      refl,
-    )) (λ rest h. (ap (λ y. 34 ∷ y) h.0, refl)) (λ rest h. (ap (λ y. 60 ∷ y) h.0, refl)) (λ
-    rest h. (ap (λ y. 62 ∷ y) h.0, refl)) x e).0
+seen-is x e = (by_escaped ReadsAlike (refl, refl) (λ b rest p h. grind arith) (grind arith)
+    (grind arith) (grind arith) (grind arith) x e).0
 
 -- ---- a protocol of letters
 protocol-split : (x q : List ℕ) → protocol_of x ≡ Some q → (r : List ℕ) × (x ≡ q ++ (58 ∷ r))
@@ -145,9 +138,7 @@ permitted_by schemes x None g e h =
     ap (λ o. option_map_or (is_one_of schemes) o true) (scheme_of-none x e)
 permitted_by schemes x (Some q) g e h =
     let parts = protocol-split x q e in
-    ap (λ x. option_map_or (is_one_of schemes) (scheme_of (with_line_feeds x)) true) parts.1
-    ∙ ap (λ o. option_map_or (is_one_of schemes) o true)
-    (scheme_of-word q parts.0 (lowered-word q (one_of-passes is_word schemes (lowered q) g h))) ∙ h
+    grind (arith, scheme_of-word, lowered-word, one_of-passes)
 
 pub permitted-link : (value : List ℕ) → is_escaped value ≡ true →
     is_safe_value link_protocols value ≡ true →

@@ -1,7 +1,7 @@
 -- What stands in a line of text: strings, spans, links and what prints nothing print phrasing
 -- content.
 use Rattle.std.proofs.Common.{Bool, List, codes, false, refl, suc, sym, true, ℕ, ◌&&◌, ◌++◌, ◌||◌}
-use Rattle.std.proofs.Common.{◌∙◌, ◌∷◌, ◌≡◌, subst, [], not, cond, arith}
+use Rattle.std.proofs.Common.{◌∷◌, ◌≡◌, subst, [], not, cond, arith}
 use Rattle.std.proofs.lemmas.Bool.{and_parts, cond_both, not-true, or_parts}
 use Rattle.std.specs.Prelude.{None}
 use Rattle.md_base.specs.declared.event.Name.TheVariants as name_variants
@@ -36,7 +36,7 @@ use Rattle.md_safe.proofs.SpanSorts.{is_math, is_pair, pair-prints, shown-escape
 use Rattle.md_safe.proofs.SpanSorts.{autolink-prints, autolink_prefix, is_plain_at}
 use Rattle.md_safe.proofs.Spot.{target-title}
 use Rattle.md_safe.proofs.StringNodes.{is_text, text-node}
-use Rattle.md_safe.proofs.Tags.{Tagged, Turns, adds-flat, attribute}
+use Rattle.md_safe.proofs.Tags.{Tagged, adds-flat, attribute}
 use Rattle.md_safe.proofs.Texts.{Escaped}
 use Rattle.md_safe.specs.Contents.{Characters, Content, Phrasing}
 use Rattle.md_safe.specs.Links.{prints_link}
@@ -79,12 +79,7 @@ pair-blocks name = grind arith
 pair-node : (m : Claims) (t : At) (content : Content) (name : Name) → is_pair name ≡ true →
     SpanPrints m t content name
 pair-node m t content name is inner k a =
-    let own = and_parts _ _ (rw is at (pair-blocks name)) in
-    rw (pair-prints m.s.context t name is inner) (pair m t a.spans.spaced k.outside
-    (by_pair (λ tag. Turns (m.holds content) (m.holds content)
-    (60 ∷ (tag ++ (62 ∷ []))) (60 ∷ 47 ∷ (tag ++ (62 ∷ []))))
-    (plain_tag m (codes "em") refl a.spans.em) (plain_tag m (codes "strong") refl a.spans.strong)
-    (plain_tag m (codes "del") refl a.spans.del) name is) (a.own own.0 (not-true _ own.1)))
+    grind (arith, and_parts, pair-blocks, pair-prints, pair, by_pair, plain_tag, not-true)
 
 -- code or math
 code-node : (m : Claims) (t : At) (content : Content) (name : Name) → is_code name ≡ true →
@@ -162,14 +157,11 @@ inline-node m t content name is inner k own g = cases (is_hidden name)
     (λ h. rw (hidden-prints m.s.context t name h inner) (nothing m spans.spaced)) (λ h.
     let a = here h in
     either _ _ is (λ is. escaped (text-node m.s t Escaped name (λ x h. h k.escaping) is k.fit
-    inner)) (λ c. either _ _ c (λ is. either (is_pair name) _ is
-    (λ is. pair-node m t content name is inner k a) (λ c. either (is_code name) _ c
-    (λ is. code-node m t content name is inner k a)
-    (λ is. single-node m t content name is inner k a))) (λ c. either _ _ c
-    (λ is. autolink-node m t content name is inner k a) (λ c. either _ _ c (λ is. escaped
-    (leaf-escaped m.s t name k.escaping is k.fit inner)) (λ c. either _ _ c
-    (λ is. lie (sym h ∙ is)) (λ is. rw (silent-prints m.s.context t name is inner)
-    (a.own (silent-block name is).0 (silent-block name is).1)))))))
+    inner)) (λ c. either _ _ c (λ is. either (is_pair name) _ is (λ is. pair-node m t content name
+    is inner k a) (λ c. either (is_code name) _ c (λ is. code-node m t content name is inner k a) (λ
+    is. single-node m t content name is inner k a))) (λ c. either _ _ c (λ is. autolink-node m t
+    content name is inner k a)
+    (grind (arith, escaped, leaf-escaped, silent-prints, silent-block)))))
   where
     spans : AreSpans m.nested content
     spans = grind arith

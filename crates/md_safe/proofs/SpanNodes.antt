@@ -5,7 +5,7 @@ use Rattle.md_base.specs.declared.event.Name.TheVariants as name_variants
 use name_variants.{Link, Image, HardBreakEscape, HardBreakTrailing, GfmTaskListItemCheck}
 use name_variants.{GfmFootnoteCall}
 use Rattle.md_text.proofs.EncodeLaws.{is_escaped-encoded}
-use Rattle.md_meaning.specs.Meaning.At.{At, text_in}
+use Rattle.md_meaning.specs.Meaning.At.{At}
 use Rattle.md_meaning.specs.Meaning.Layout.{Piece, layout}
 use Rattle.md_meaning.specs.Meaning.Means.{prints}
 use Rattle.md_content.specs.Built.{is_autolink, Spans}
@@ -14,7 +14,7 @@ use Rattle.md_safe.proofs.Cases.{either}
 use Rattle.md_safe.proofs.Texts.{Escaped}
 use Rattle.md_safe.proofs.Laid.{adds-text, adds-nothing, adds-weaker, adds-alone}
 use Rattle.md_safe.proofs.SpanSorts.{is_pair, pair-prints, is_code, code-prints, code-text}
-use Rattle.md_safe.proofs.SpanSorts.{shown-escaped, is_plain_at, autolink-prints}
+use Rattle.md_safe.proofs.SpanSorts.{shown-escaped, autolink-prints}
 
 -- other spans that print something else than their children
 abbrev pub is_single : Name → Bool
@@ -36,25 +36,15 @@ is_shown name = is_pair name || (is_code name || is_single name)
 pub shown-in_image : (s : Setting) (t : At) (name : Name) → t.around.is_escaping ≡ true →
     t.around.in_image ≡ true → is_shown name ≡ true → (inner : List Piece) →
     Inside s t Spans name inner → Prints s Escaped (prints s.context t name inner)
-shown-in_image s t name e image is inner a = either (is_pair name) _ is (λ is. rw (
-  pair-prints
-      s.context t name is inner,
-  image,
-) (grind arith)) (λ c. either (is_code name) (is_single name) c
-    (λ is. rw (code-prints s.context t name is inner, image) (adds-text (shown-escaped t (layout
-    s.context.ending inner) (code-text s t Spans name e is inner a)))) (λ is. grind (
-      arith,
-      adds-text,
-      adds-alone,
-      adds-nothing,
-      adds-weaker,
-    )))
+shown-in_image s t name e image is inner a = either (is_pair name) _ is (grind (arith, pair-prints))
+    (λ c. either (is_code name) (is_single name) c (λ is.
+    rw (code-prints s.context t name is inner, image) (adds-text (shown-escaped t (layout
+    s.context.ending inner) (code-text s t Spans name e is inner a))))
+    (grind (arith, adds-text, adds-alone, adds-nothing, adds-weaker)))
 
 -- an autolink, which is plain there
 pub autolink-in_image : (s : Setting) (t : At) (name : Name) → t.around.in_image ≡ true →
     is_autolink name ≡ true → (inner : List Piece) → Prints s
     Escaped (prints s.context t name inner)
 autolink-in_image s t name image is inner =
-    let plain : is_plain_at t name ≡ true = grind arith in
-    rw (autolink-prints s.context t name is inner, plain)
-    (adds-text (is_escaped-encoded (text_in s.context.bytes t.place)))
+    grind (arith, autolink-prints, adds-text, is_escaped-encoded)

@@ -1,6 +1,5 @@
 -- A start tag switches to the mode "text" if it is `title`, and otherwise not.
-use Rattle.std.proofs.Common.{arith, ◌≡◌, ℕ, Bool, true, false, cond, List, refl, sym, ap, subst}
-use Rattle.std.proofs.Common.{codes}
+use Rattle.std.proofs.Common.{arith, ◌≡◌, ℕ, Bool, false, cond, List, refl, ap, codes}
 use Rattle.std.specs.Prelude.{Option, Some, None, bytes_eq}
 use Rattle.std.proofs.lemmas.Slice.Eq.{bytes_eq-Decides}
 use Rattle.md_safe.specs.Token.{StartTag, TokenAttribute}
@@ -82,8 +81,6 @@ pub switched :
     (parser next : Parser) (name : List ℕ) (attributes : List TokenAttribute) (flag : Bool) →
     step parser (StartTag name attributes flag) ≡ Some next →
     is_text next.mode ≡ bytes_eq name (codes "title")
-switched parser next name attributes flag e = cases (bytes_eq name (codes "title")) (λ same. rw same
-    ((subst (λ name. Tokenizes true (step parser (StartTag name attributes flag))) (sym
-    ((bytes_eq-Decides name (codes "title")).0 same)) (steps true (codes "title") attributes flag (λ
-    parser. grind arith) parser)).holds next e)) (λ none. rw none ((steps false name attributes flag
-    (λ parser. starts parser.mode name attributes parser refl none) parser).holds next e))
+switched parser next name attributes flag e = cases (bytes_eq name (codes "title"))
+    (grind (arith, bytes_eq-Decides, steps)) (λ none. rw none ((steps false name attributes flag (λ
+    parser. starts parser.mode name attributes parser refl none) parser).holds next e))

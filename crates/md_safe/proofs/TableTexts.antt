@@ -1,7 +1,7 @@
 -- Texts in a table wait as pending characters, and white space is inserted as it is.
 use Rattle.std.proofs.Common.{◌≡◌, ℕ, Bool, true, false, ◌&&◌, List, [], ◌∷◌, ◌++◌, refl, sym, ap}
-use Rattle.std.proofs.Common.{◌∙◌, map, append_assoc, append-nil, arith, eqb-true}
-use Rattle.std.specs.Prelude.{Option, Some, None, option_and_then}
+use Rattle.std.proofs.Common.{map, append_assoc, append-nil, arith, eqb-true}
+use Rattle.std.specs.Prelude.{Some}
 use Rattle.std.specs.List.{list_all}
 use Rattle.std.proofs.lemmas.Bool.{and_parts, and_from, not-true}
 use Rattle.md_base.proofs.Lies.{lie}
@@ -14,10 +14,9 @@ use Rattle.md_safe.specs.Tokens.{seen}
 use Rattle.md_safe.specs.Contents.{is_space}
 use Rattle.md_safe.specs.Node.{Open, Entry, Mode, InTable, InTableBody, InRow, InTableText, Parser}
 use Rattle.md_safe.specs.Node.{with_character}
-use Rattle.md_safe.specs.InTable.{is_tabular, say_all, end_table_text}
-use Rattle.md_safe.specs.Construction.{start, end, step, run, after_table_text}
+use Rattle.md_safe.specs.InTable.{is_tabular, say_all}
+use Rattle.md_safe.specs.Construction.{step, run}
 use Rattle.md_safe.specs.Built.{with_characters, at}
-use Rattle.md_safe.proofs.Steps.{here}
 use Rattle.md_safe.proofs.TreeSteps.{after-one, is_character, Position, parser_of, with_children}
 use Rattle.md_safe.proofs.TreeSteps.{seen-characters}
 
@@ -71,21 +70,7 @@ settled : (mode : Mode) → is_tables mode ≡ true →
     (created : ℕ) (bytes : List ℕ) → list_all is_space bytes ≡ true →
     Settles (waiting mode (node ∷ others) active created bytes) (at mode
     (record node { children = with_characters node.children bytes } ∷ others) active created)
-settled mode is node others active created bytes h = record {
-  starts = λ name attributes flag. by (λ p. start p.mode name attributes p);
-  ends = λ name. by (λ p. end p.mode name p);
-}
-  where
-    next : Parser
-    next = at mode (record node { children = with_characters node.children bytes } ∷ others)
-        active created
-
-    by : (tag : Parser → Option Parser) →
-        option_and_then tag (end_table_text mode
-        (waiting mode (node ∷ others) active created bytes)) ≡ after_table_text next tag
-    by tag =
-        ap (option_and_then tag) (here None h (ap (λ stack. Some (at mode stack active created))
-        (say-all bytes node others))) ∙ sym (grind arith)
+settled mode is node others active created bytes h = grind (arith, say-all)
 
 more-waits : (mode : Mode) (stack : List Open) (active : List Entry) (created : ℕ)
     (before bytes : List ℕ) → list_all is_character bytes ≡ true → run

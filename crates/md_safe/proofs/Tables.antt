@@ -174,20 +174,8 @@ cell-put : (name : List ℕ) → ((x : Position) → Starts InCell (Marker ∷ x
 cell-put name starts ends x attributes inner h c made =
     let row : Position = part InRow (codes "tr") x in
     let new : Position = inside InCell row name (seen_attributes attributes) (Marker ∷ x.active) in
-    let d = phrasing-done inner Phrasing refl h c new (record {
-      body = refl;
-      opened = tt;
-      made = later-created x.created (suc x.created) x.active (omega arith) made;
-      no_link = λ free. refl;
-    }) in
-    puts (starts x) (ends x) (record {
-      more = d.more;
-      last = parser_of (with_children new (put NoNode inner) (Marker ∷ x.active) d.more);
-      runs = d.runs ∙ ap (λ left. Some (parser_of
-          (with_children new (put NoNode inner) left d.more))) d.keeps;
-      settles = itself _;
-      later = d.later;
-    })
+    let d = phrasing-done inner Phrasing refl h c new (grind (arith, later-created)) in
+    puts (starts x) (ends x) (grind (arith, itself))
 
 -- a row, or a part of a table
 element-put : (mode : Mode) (parent : List ℕ) (inner-mode : Mode) (name : List ℕ) (held : Content) →
@@ -222,9 +210,7 @@ table-passes {x} {attributes} {inner} body made none resets h c =
     (later-created x.created (suc x.created) x.active (omega arith) made) _ (itself _)
     (λ text. refl) in
     let p = puts (λ those. start-in-body x body (codes "table") those false refl ∙ past _ none refl)
-    (λ those inner more. ap (λ mode. Some (parser_of (record (with_children x
-    (with_element x.node.children (codes "table") those inner) x.active more) { mode = mode })))
-    resets) d in
+    (grind arith) d in
     record {
       left = x.active;
       more = p.more;

@@ -1,7 +1,7 @@
 -- The name of a tag and those of its attributes, byte after byte; from `<` or `</` to the end of a
 -- tag, and on to the data state; and a run from there.
 use Rattle.std.proofs.Common.{◌≡◌, ℕ, ◌==◌, true, false, not, List, [], ◌∷◌, ◌++◌, refl, ap}
-use Rattle.std.proofs.Common.{append-nil, append_assoc, arith, Bool, ◌&&◌, sym, ◌∙◌}
+use Rattle.std.proofs.Common.{append-nil, append_assoc, arith, Bool, ◌&&◌, sym}
 use Rattle.std.specs.List.{list_all, list_any}
 use Rattle.std.proofs.lemmas.Bool.{and_parts, not-true}
 use Rattle.md_base.proofs.Lies.{lie}
@@ -107,9 +107,8 @@ attributes-lead :
 attributes-lead tag earlier [] r t g h = h
 attributes-lead tag earlier (a ∷ x) r t g h =
     let p = good_attribute a x g in
-    quiet refl (attribute-leads tag earlier a.name (with_line_feeds a.value)
-    (attributes_before (lined x) r) t p.0 (line_feeds-escaped a.value p.1)
-    (attributes-lead tag (attribute a.name (seen a.value) ∷ earlier) x r t p.3 h))
+    let later = attributes-lead tag (attribute a.name (seen a.value) ∷ earlier) x r t p.3 h in
+    quiet refl (grind (arith, attribute-leads, line_feeds-escaped, later))
 
 -- after the name: both states take what ends a tag alike
 after_name-leads :
@@ -150,9 +149,8 @@ kept-onto earlier (a ∷ x) g f =
     let p = good_attribute a x g in
     let u = and_parts _ _ f in
     let now = attribute a.name (seen a.value) in
-    kept-onto (now ∷ earlier) x p.3 (fresh-more now earlier x p.2 u.1) ∙ ap
-    (λ k. k ++ seen_attributes x) (past _ (not-true _ u.0) refl) ∙ append_assoc (kept earlier)
-    (now ∷ []) (seen_attributes x)
+    let later = kept-onto (now ∷ earlier) x p.3 (fresh-more now earlier x p.2 u.1) in
+    grind (arith, not-true, append_assoc, later)
 
 -- ---- whole tags
 

@@ -11,10 +11,8 @@ use Rattle.md_safe.specs.Token.{Token, Character, StartTag, TokenAttribute}
 use Rattle.md_safe.specs.Tokens.{seen}
 use Rattle.md_safe.proofs.EscapedCases.{IsPlain, by_escaped}
 use Rattle.md_safe.proofs.LineFeeds.{line_feeds-escaped}
-use Rattle.md_safe.proofs.Steps.{past}
 use Rattle.md_safe.specs.Node.{Nodes, Open, Entry, Marker, Formatting, Mode, Parser, with_character}
 use Rattle.md_safe.specs.Node.{Empty as NoNode}
-use Rattle.md_safe.specs.Stack.{say}
 use Rattle.md_safe.specs.Elements.{parts}
 use Rattle.md_safe.specs.InBody.{start_in_body, reconstructed}
 use Rattle.md_safe.specs.Construction.{step, run}
@@ -105,12 +103,8 @@ characters-run [] x is h o = refl
 characters-run (byte ∷ bytes) x is h o =
     let parts = and_parts (is_character byte) (list_all is_character bytes) h in
     let next = with_children x (with_character x.node.children byte) x.active x.created in
-    after-one (parser_of x) (parser_of next) (Character byte) (map Character bytes) (past _
-    (not-true (byte == 0) parts.0) ((grind arith) ∙ reconstructs x (λ parser. record parser {
-      stack
-          = say byte parser.stack;
-    }) o)) ∙ characters-run bytes next is parts.1 (same-open x.node
-    next.node.children x.others x.active o)
+    let held = same-open x.node next.node.children x.others x.active o in
+    grind (arith, after-one, not-true, reconstructs, characters-run bytes next is parts.1 held)
 
 abbrev AreRead : List ℕ → Type 0
 AreRead x = list_all is_character (read_back x) ≡ true
