@@ -1,6 +1,5 @@
 -- What the lengths ask of a document holds of each document of the grammar.
-use Rattle.std.proofs.Common.{◌≡◌, ℕ, ◌≤◌, true, List, length, arith, Option, None}
-use Rattle.std.proofs.Common.{lit≤}
+use Rattle.std.proofs.Common.{ℕ, ◌≤◌, List, length, arith, Option, None, lit≤}
 use Rattle.std.specs.Option.{option_map_or}
 use Rattle.md_base.specs.declared.event.Name.{Name}
 use Rattle.md_base.specs.declared.event.Name.TheVariants as name_variants
@@ -46,9 +45,6 @@ grammatical-sound bytes names document is =
     each around before _ start end children here inside = tt
 
 -- ---- line endings
-ending-few : (text : List ℕ) → is_line_ending text ≡ true → length text ≤ 2
-ending-few text h = grind arith
-
 -- the text of a line ending has at most two bytes
 abbrev HasShortEnding : List ℕ → Name → Point → Point → Forest → Type 0
 HasShortEnding bytes LineEnding start end children = length (text_in bytes (place start end)) ≤ 2
@@ -80,9 +76,9 @@ grammatical-ending options bytes names document is =
         AreFine bytes names children (inner_role (standing_of name) around before)
         (inner_before (standing_of name) before) → HasShortEnding bytes name start end children
     each around before LineEnding start end children here inside =
-        text_fits is_line_ending rule.LineEnding (λ text. length text ≤ 2) ending-few
+        text_fits is_line_ending rule.LineEnding (λ text. length text ≤ 2) (λ text h. grind arith)
         (text_between bytes start end) here.1
     each around before BlankLineEnding start end children here inside =
-        text_fits is_line_ending rule.LineEnding (λ text. length text ≤ 2) ending-few
+        text_fits is_line_ending rule.LineEnding (λ text. length text ≤ 2) (λ text h. grind arith)
         (text_between bytes start end) here.1
     each around before _ start end children here inside = tt
