@@ -1,10 +1,10 @@
 -- How many elements pieces leave open, wherever they are laid.
 use Rattle.std.specs.List.{list_all}
-use Rattle.std.proofs.Common.{◌≡◌, ℕ, ◌+◌, ◌≤◌, suc, max, Bool, true, false, cond, List, []}
-use Rattle.std.proofs.Common.{◌∷◌, ◌++◌, refl, arith}
+use Rattle.std.proofs.Common.{◌≡◌, ℕ, ◌+◌, ◌≤◌, suc, max, Bool, true, false, cond, List, [], ◌∷◌}
+use Rattle.std.proofs.Common.{◌++◌, refl, arith}
 use Rattle.md_text.proofs.HtmlNames.{no_angle, escaped-angle}
-use Rattle.md_meaning.specs.Meaning.Layout.{Piece, Text, Needed, Forced, laid_after}
-use Rattle.md_meaning.specs.Meaning.Layout.{layout, on_own_line}
+use Rattle.md_meaning.specs.Meaning.Layout.{Piece, Text, Needed, Forced, laid_after, layout}
+use Rattle.md_meaning.specs.Meaning.Layout.{on_own_line}
 use Rattle.md_safe.proofs.Texts.{Escaped}
 use Rattle.md_safe.proofs.Laid.{Adds, adds-weaker, laid-append}
 use Rattle.md_depth.proofs.Machine.{State, at, run, run-append, quiet, Leads, leads-quiet}

@@ -1,6 +1,6 @@
 -- Spans leave no element open, and open two at most beside what their children open.
-use Rattle.std.proofs.Common.{◌≡◌, ℕ, ◌≤◌, suc, Bool, true, not, cond}
-use Rattle.std.proofs.Common.{List, [], ◌∷◌, ◌++◌, refl, inl, inr, arith, codes}
+use Rattle.std.proofs.Common.{◌≡◌, ℕ, ◌≤◌, suc, Bool, true, not, cond, List, [], ◌∷◌, ◌++◌, refl}
+use Rattle.std.proofs.Common.{inl, inr, arith, codes}
 use Rattle.std.specs.Prelude.{Option, Some, None}
 use Rattle.std.specs.Fmt.{decimal}
 use Rattle.std.proofs.lemmas.Bool.{or_cases}
@@ -19,8 +19,8 @@ use Rattle.md_meaning.specs.Meaning.At.{Target, At, text_in, identifier_of}
 use Rattle.md_meaning.specs.Meaning.Layout.{Piece, layout, said}
 use Rattle.md_meaning.specs.Meaning.Means.{prints}
 use Rattle.md_meaning.specs.Meaning.Spans.{span, task_start, code, trimmed, without_escapes}
-use Rattle.md_meaning.specs.Meaning.Media.{href, src, title_attribute, anchor, picture}
-use Rattle.md_meaning.specs.Meaning.Media.{leads_to, autolink}
+use Rattle.md_meaning.specs.Meaning.Media.{href, src, title_attribute, anchor, picture, leads_to}
+use Rattle.md_meaning.specs.Meaning.Media.{autolink}
 use Rattle.md_meaning.specs.Meaning.Footnotes.{id_of, call_id, place_among, distinct, count_of}
 use Rattle.md_content.specs.Built.{Blocks, content_of, is_autolink}
 use Rattle.md_safe.proofs.Texts.{Escaped, pipes-escaped, trimmed-escaped, decimal-escaped}
@@ -31,8 +31,8 @@ use Rattle.md_safe.proofs.Elements.{IsDone}
 use Rattle.md_safe.proofs.Insides.{is_blocks}
 use Rattle.md_safe.proofs.Spot.{Setting, Prints, Inside, IsGoodTarget, target-title}
 use Rattle.md_safe.proofs.SpanNodes.{is_single, is_shown}
-use Rattle.md_safe.proofs.SpanSorts.{pair_tag, is_pair, by_pair, pair-prints, is_code}
-use Rattle.md_safe.proofs.SpanSorts.{is_math, code_opening, code-prints, code-text}
+use Rattle.md_safe.proofs.SpanSorts.{pair_tag, is_pair, by_pair, pair-prints, is_code, is_math}
+use Rattle.md_safe.proofs.SpanSorts.{code_opening, code-prints, code-text}
 use Rattle.md_depth.proofs.Machine.{Leads, ◌▹◌, leads-open, leads-close}
 use Rattle.md_depth.proofs.Moves as moves
 use Rattle.md_depth.proofs.Moves.{Moves, ◌▸◌, none, adds-quiet, more, laid, plain, part, IsOpening}
