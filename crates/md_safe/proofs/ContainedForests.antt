@@ -19,7 +19,6 @@ use Rattle.md_safe.proofs.Linking.{place_in, with_links, is_spans, inner_place, 
 use Rattle.md_safe.proofs.Linking.{IsLinked, linked-inside, unnested-parts}
 use Rattle.md_safe.proofs.Elements.{adds-empty_cells}
 use Rattle.std.specs.Prelude.{Option}
-use Rattle.md_base.specs.declared.event.Name.TheVariants as name_variants
 use Rattle.md_base.specs.NameTests.{is_transparent}
 use Rattle.md_meaning.specs.Meaning.At.{Footnote, At, Before}
 use Rattle.md_meaning.specs.Meaning.Nodes.{Outcome, node, before_next, outcome}

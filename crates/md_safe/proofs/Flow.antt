@@ -9,7 +9,8 @@ use Rattle.md_base.proofs.Lies.{lie}
 use Rattle.md_text.specs.Html.{Attribute, Forest, Empty, Text, Void, Element}
 use Rattle.md_safe.specs.Token.{StartTag, TokenAttribute}
 use Rattle.md_safe.specs.Tokens.{seen, seen_attributes}
-use Rattle.md_safe.specs.Contents.{Content, elements_in, is_contained}
+use Rattle.md_text.specs.Bytes.{is_one_of}
+use Rattle.md_safe.specs.Contents.{voids_in, Content, elements_in, is_contained}
 use Rattle.md_safe.specs.Node.{Nodes, Entry, with_element, Empty as NoNode}
 use Rattle.md_safe.specs.Elements.{headings}
 use Rattle.md_safe.specs.Stack.{is_among}
@@ -99,6 +100,11 @@ kind-passes {content} {held} {x} {name} {attributes} {inner} rule there h c insi
           })))
     ]
 
+-- a rule, besides a void tag of a span
+flow-void : (content : Content) (name : List ℕ) → is_flowing content ≡ true →
+    is_one_of (voids_in content) name ≡ true → (name ≡ codes "hr") ⊎ IsVoid name
+flow-void content name is h = grind (arith, or_cases, bytes_eq-Decides, void-named)
+
 flow-void-step : {x : Position} {name : List ℕ} (attributes : List TokenAttribute) →
     (name ≡ codes "hr") ⊎ IsVoid name → Here x true → HasNoParagraph (x.node ∷ x.others) → step
     (parser_of x) (StartTag name attributes true) ≡ Some (parser_of (with_children x
@@ -119,7 +125,7 @@ flow-done (Text bytes rest) content is h c x there =
 flow-done (Void name attributes rest) content is h c x there =
     let parts = and_parts _ _ c in
     let next : Nodes = with_element x.node.children name (seen_attributes attributes) NoNode in
-    void-done (grind (arith, flow-void-step, or_cases, bytes_eq-Decides, void-named)) (flow-done
+    void-done (grind (arith, flow-void-step, flow-void)) (flow-done
     rest content is h parts.1 (with_children x next x.active (suc x.created)) (there-after
     (keeps-all x.active) (omega arith) there))
 flow-done (Element name attributes inner rest) content is h c x there =

@@ -17,8 +17,8 @@ use Rattle.md_safe.proofs.Lists.{later-created, keeps-none}
 use Rattle.md_safe.proofs.TreeSteps.{Position, parser_of, with_children, within, after, after-one}
 use Rattle.md_safe.proofs.TreeSteps.{characters-run, same-open, seen-characters}
 use Rattle.md_safe.proofs.PhrasingNames.{void-named, Here, Done, void-step, Passed, is_free, found}
-use Rattle.md_safe.proofs.PhrasingRules.{ordinary-passes, formatting-passes, Rule, here-formatting}
-use Rattle.md_safe.proofs.PhrasingRules.{here-within, is_inline}
+use Rattle.md_safe.proofs.PhrasingRules.{rules, ordinary-passes, formatting-passes, Rule}
+use Rattle.md_safe.proofs.PhrasingRules.{here-formatting, here-within, is_inline}
 
 -- after what was inserted
 pub here-after : {x : Position} {children : Nodes} {left : List Entry} {more : ℕ} {free : Bool} →
@@ -112,7 +112,8 @@ phrasing-done (Void name attributes rest) content is h c x here =
 phrasing-done (Element name attributes inner rest) content is h c x here =
     let forests = element-parts name attributes inner rest h in
     let parts = and_parts _ _ c in
-    let held = found (Rule content) (elements_in false content) name inner (grind arith) parts.0 in
+    let held = found (Rule content) (elements_in false content) name inner (rules content is)
+    parts.0 in
     let passed : Passed x name attributes inner = span-passes held.1 here (λ y there. phrasing-done
     inner held.0 held.1.inline forests.0 held.2 y there) in
     let next : Nodes = with_element x.node.children name (seen_attributes attributes)

@@ -17,10 +17,10 @@ use Rattle.md_safe.proofs.Lists.{Keeps, keeps-twice, room, keeps-room, keeps-cre
 use Rattle.md_safe.proofs.Lists.{keeps-open, later-created, open-under, keeps-none}
 use Rattle.md_safe.proofs.Steps.{here, past}
 use Rattle.md_safe.proofs.TreeSteps.{Position, parser_of, element_of, within, reconstructs}
-use Rattle.md_safe.proofs.PhrasingNames.{Done, Passed, IsOrdinary, IsFormatting, full, passes}
+use Rattle.md_safe.proofs.PhrasingNames.{Each, Done, Passed, IsOrdinary, IsFormatting, full, passes}
 use Rattle.md_safe.proofs.PhrasingNames.{is_free, Here}
 use Rattle.std.proofs.lemmas.Bool.{or_left}
-use Rattle.md_safe.specs.Contents.{Content, Phrasing, Linked, Characters}
+use Rattle.md_safe.specs.Contents.{elements_in, Content, Phrasing, Linked, Characters}
 
 -- an ordinary element
 pub ordinary-passes : {x : Position} {name : List ℕ} {attributes : List Attribute}
@@ -95,6 +95,10 @@ pub record Rule (content : Content) (name : List ℕ) (held : Content) : Type 0 
   pub frees : is_free held ≡ true → (is_free content ≡ true) × (bytes_eq name (codes "a") ≡ false)
   pub links : bytes_eq name (codes "a") ≡ true → is_free content ≡ true
   pub no_item : bytes_eq name (codes "li") ≡ false
+
+pub rules : (content : Content) → is_inline content ≡ true →
+    Each (Rule content) (elements_in false content)
+rules content is = grind arith
 
 -- where the children of a formatting element are inserted
 pub here-formatting : {x : Position} {name : List ℕ} {those : List TokenAttribute}

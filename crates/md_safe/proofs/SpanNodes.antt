@@ -13,8 +13,8 @@ use Rattle.md_safe.proofs.Spot.{Setting, Prints, Inside}
 use Rattle.md_safe.proofs.Cases.{either}
 use Rattle.md_safe.proofs.Texts.{Escaped}
 use Rattle.md_safe.proofs.Laid.{adds-text, adds-nothing, adds-weaker, adds-alone}
-use Rattle.md_safe.proofs.SpanSorts.{is_pair, pair-prints, is_code, code-prints, code-text}
-use Rattle.md_safe.proofs.SpanSorts.{shown-escaped, autolink-prints}
+use Rattle.md_safe.proofs.SpanSorts.{pair-inside, is_pair, pair-prints, is_code, code-prints}
+use Rattle.md_safe.proofs.SpanSorts.{code-text, shown-escaped, autolink-prints}
 
 -- other spans that print something else than their children
 abbrev pub is_single : Name → Bool
@@ -36,7 +36,8 @@ is_shown name = is_pair name || (is_code name || is_single name)
 pub shown-in_image : (s : Setting) (t : At) (name : Name) → t.around.is_escaping ≡ true →
     t.around.in_image ≡ true → is_shown name ≡ true → (inner : List Piece) →
     Inside s t Spans name inner → Prints s Escaped (prints s.context t name inner)
-shown-in_image s t name e image is inner a = either (is_pair name) _ is (grind (arith, pair-prints))
+shown-in_image s t name e image is inner a = either (is_pair name) _ is
+    (grind (arith, pair-prints, pair-inside))
     (λ c. either (is_code name) (is_single name) c (λ is.
     rw (code-prints s.context t name is inner, image) (adds-text (shown-escaped t (layout
     s.context.ending inner) (code-text s t Spans name e is inner a))))

@@ -13,7 +13,7 @@ use Rattle.md_meaning.specs.Meaning.Media.{autolink}
 use Rattle.md_content.specs.Built.{Content, is_autolink}
 use Rattle.md_safe.specs.Links.{prints_link}
 use Rattle.md_safe.proofs.Texts.{Escaped, trimmed-escaped, pipes-escaped}
-use Rattle.md_safe.proofs.Spot.{Setting, Inside}
+use Rattle.md_safe.proofs.Spot.{Here, Prints, Setting, Inside}
 use Rattle.std.proofs.lemmas.Bool.{cond_both}
 
 -- spans whose tags stand around their children, and the names of these tags
@@ -47,6 +47,11 @@ pub pair-prints : (context : Context) (t : At) (name : Name) → is_pair name �
     (inner : List Piece) → prints context t name inner ≡ span t
     (said (60 ∷ (pair_tag name ++ (62 ∷ [])))) inner (said (60 ∷ 47 ∷ (pair_tag name ++ (62 ∷ []))))
 pair-prints context t name is inner = grind arith
+
+-- a content that is allowed in a pair of tags is allowed around it too
+pub pair-inside : (s : Setting) (t : At) (content : Content) (name : Name) → is_pair name ≡ true →
+    (inner : List Piece) → Inside s t content name inner → Prints s (Here s t content) inner
+pair-inside s t content name is inner a = grind arith
 
 pub code-prints : (context : Context) (t : At) (name : Name) → is_code name ≡ true →
     (inner : List Piece) → prints context t name inner ≡ code t
