@@ -3,7 +3,7 @@ use Rattle.std.proofs.Common.{ℕ, ◌≤◌, List, length, arith, Option, None,
 use Rattle.std.specs.Option.{option_map_or}
 use Rattle.md_base.specs.declared.event.Name.{Name}
 use Rattle.md_base.specs.declared.event.Name.TheVariants as name_variants
-use name_variants.{Link, Image, HeadingAtx, LineEnding, BlankLineEnding}
+use name_variants.{LineEnding, BlankLineEnding}
 use Rattle.md_base.specs.declared.event.Point.{Point}
 use Rattle.md_base.specs.declared.event.Position.{Position}
 use Rattle.md_base.specs.Place.{text_between}
@@ -30,19 +30,7 @@ use Rattle.md_length.specs.Sound.{IsSound}
 -- ---- targets and ranks
 pub grammatical-sound : (bytes : List ℕ) (names : List (List ℕ × List ℕ)) (document : Forest) →
     IsGrammatical bytes names document → Everywhere IsSound document
-grammatical-sound bytes names document is =
-    everywhere bytes names IsSound each document role.Flow None
-    (fine bytes names document role.Flow None is.shape.0 is.rules)
-  where
-    each : (around : Role) (before : Option Symbol) (name : Name) (start end : Point)
-        (children : Forest) → IsFine bytes names around before name start end children →
-        AreFine bytes names children (inner_role (standing_of name) around before)
-        (inner_before (standing_of name) before) → IsSound name start end children
-    each around before Link start end children here inside = λ missing. cc (here.1, missing)
-    each around before Image start end children here inside = λ missing. cc (here.1, missing)
-    each around before HeadingAtx start end children here inside =
-        (fit bytes names HeadingAtx around before start end children here inside).1
-    each around before _ start end children here inside = tt
+grammatical-sound bytes names document is = grind (arith, everywhere, fine, fit)
 
 -- ---- line endings
 -- the text of a line ending has at most two bytes

@@ -5,7 +5,6 @@ use Rattle.std.specs.Prelude.{if◌then◌else◌}
 use Rattle.std.specs.Option.{option_map_or}
 use Rattle.md_base.specs.Children.{or_else}
 use Rattle.md_base.specs.Tree.{Forest, Empty, Node}
-use Rattle.md_tree.specs.declared.mention.Referral.TheVariants as referral
 use Rattle.md_meaning.specs.declared.surroundings.Surroundings.{Surroundings}
 use Rattle.md_meaning.specs.Meaning.At.{Target, Context, Before, Found, target_in}
 use Rattle.md_meaning.specs.Meaning.Nodes.{outcome}

@@ -92,9 +92,7 @@ Comes xs ys = ((xs ≡ []) × (is_ordered ys ≡ true))
 
 comes : (xs ys : List Symbol) → is_ordered (xs ++ ys) ≡ true → (is_ordered xs ≡ true) × Comes xs ys
 comes [] ys h = (refl, inl (refl, h))
-comes (x ∷ xs) ys h =
-    let parts = all-parts in_table xs ys (and_parts _ _ h).1 in
-    (and_from _ _ (and_parts _ _ h).0 parts.0, inr (λ amount. (refl, refl), parts.1))
+comes (x ∷ xs) ys h = grind (arith, all-parts, and_parts, and_from)
 
 table-rows : (columns : List AlignKind) (forest : Forest) (around : Role) (before : Option Symbol)
     (k after : ℕ) (tail : List Event) → Fits Rows forest → AreShaped forest around before →
