@@ -130,11 +130,7 @@ solid d p name n e room built ready waits known below =
 -- what some blocks mean
 pub opens : (d : Document) (forest : Forest) (around : Surroundings) (before : Before) (n : ℕ) →
     Fits d around before n forest → Opens d n (outcome d.context around before forest)
-opens d Empty around before n f = record {
-  prints = none;
-  heading = tt;
-  texts = tt;
-}
+opens d Empty around before n f = grind (arith, none)
 opens d (Node name start end children rest) around before n f =
     let p : Place = place_at around before start end children rest in
     let t : At = at_of d p name in
@@ -150,12 +146,8 @@ opens d (Node name start end children rest) around before n f =
     f.built.0 f.built.1 f.ready.suits f.built.2 known.prints known.found in
     let below : (k : ℕ) → 2 * height children ≤ k → Waits k (inner_before p name).heading →
     is_blocks (content_inside Blocks name) ≡ true → Opens d k (inner_of d p name) =
-    λ k room waits is. opens d children (inner_around d p name) (inner_before p name) k (record {
-      built = rw (is_blocks-same (content_inside Blocks name) is) at f.built.2;
-      ready = rw (is_blocks-same (content_inside Blocks name) is) at within;
-      waits = waits;
-      room = room;
-    }) in
+    λ k room waits is. opens d children (inner_around d p name) (inner_before p name) k
+    (grind (arith, is_blocks-same)) in
     let kind = λ (b : Bool). is_blocks (cond b Blocks (content_of name Blocks)) in
     let one : Opens d n here = elim (cases_Bool (is_transparent name)) [
       | inl e ↦ grind (arith, through-node, append-nil)
