@@ -48,13 +48,7 @@ heading-tags : (rank : ℕ) → 1 ≤ rank → rank ≤ 6 →
     IsOpening (heading_tag (codes "<h") rank) × IsClosing (heading_tag (codes "</h") rank)
 unfolding digits
 heading-tags zero low high = absurd (omega arith)
-heading-tags (suc zero) low high = (λ l t. refl, λ l t. refl)
-heading-tags (suc (suc zero)) low high = (λ l t. refl, λ l t. refl)
-heading-tags (suc (suc (suc zero))) low high = (λ l t. refl, λ l t. refl)
-heading-tags (suc (suc (suc (suc zero)))) low high = (λ l t. refl, λ l t. refl)
-heading-tags (suc (suc (suc (suc (suc zero))))) low high = (λ l t. refl, λ l t. refl)
-heading-tags (suc (suc (suc (suc (suc (suc zero)))))) low high = (λ l t. refl, λ l t. refl)
-heading-tags (suc (suc (suc (suc (suc (suc (suc rank))))))) low high = absurd (omega arith)
+heading-tags rank low high = grind arith
 
 heading-moves : {e : List ℕ} {n m : ℕ} (rank : ℕ) → Escaped e → suc m ≤ n → 1 ≤ rank → rank ≤ 6 →
     {inner : List Piece} → Moves e m 0 0 inner → Moves e n 0 0 (heading rank inner)

@@ -6,7 +6,6 @@ use Rattle.std.proofs.Common.{append-nil, ◌≡◌, ℕ, suc, ◌+◌, Bool, tr
 use Rattle.std.proofs.Common.{◌++◌, refl, arith, codes, cond, ap, ◌∙◌, subst}
 use Rattle.std.specs.Fmt.{decimal}
 use Rattle.std.proofs.lemmas.Bool.{cond_both, or_parts}
-use Rattle.md_base.proofs.Lies.{lie}
 use Rattle.md_base.specs.declared.event.Name.{Name}
 use Rattle.md_base.specs.declared.event.Name.TheVariants as name_variants
 use name_variants.{HeadingSetextText, HeadingSetextUnderlineSequence, GfmFootnoteDefinition}
@@ -133,11 +132,7 @@ pub special-spent : (d : Document) (w : List ℕ) (p : Place) (name : Name) (wai
     is_special name ≡ true → IsAwaited waits name p.children → Waiting w waits m p.before.heading →
     BelowBlocks d w p name false 0 → Costs d w p.before m (waits_past waits name) (here_of d p name)
 special-spent d w p HeadingSetextText waits m is awaited h b = setext_text d w p m (b refl)
-special-spent d w p HeadingSetextUnderlineSequence waits m is awaited h b =
-    underline d w p m (rw (awaited refl).0 at h) (b refl)
-special-spent d w p GfmFootnoteCall waits m is awaited h b = call d w p m (b refl)
-special-spent d w p GfmFootnoteDefinition waits m is awaited h b = footnote d w p m (b refl)
-special-spent d w p _ waits m is awaited h b = lie is
+special-spent d w p name waits m is awaited h b = grind (arith, underline, call, footnote)
 
 -- what is known where some nodes stand: blocks, each underline where a heading waits for it
 pub record Fits (d : Document) (around : Surroundings) (before : Before) (waits : Bool)

@@ -4,8 +4,8 @@ use Rattle.std.specs.Prelude.{Option}
 use Rattle.md_base.proofs.Lies.{lie}
 use Rattle.md_base.specs.declared.event.Name.{Name}
 use Rattle.md_base.specs.declared.event.Name.TheVariants as name_variants
-use name_variants.{Other, BlockQuotePrefix, SpaceOrTab, HeadingSetextText, DefinitionTitleString}
-use name_variants.{GfmFootnoteDefinition, Resource, ResourceTitleString}
+use name_variants.{HeadingSetextText, DefinitionTitleString, GfmFootnoteDefinition}
+use name_variants.{ResourceTitleString}
 use Rattle.md_base.specs.Is.{is as named}
 use Rattle.md_base.specs.NameTests.{is_transparent}
 use Rattle.md_meaning.specs.Meaning.At.{Defined, Footnote, Found, At}
@@ -87,11 +87,7 @@ found-node {s} {content} {inner} t ResourceTitleString i = record {
       i.before) (i.suits.escaped (grind arith));
   resource = tt;
 }
-found-node t Resource i = record { heading = λ _. tt; title = tt; resource = i.found.title }
-found-node t (Other number) i = i.found
-found-node t BlockQuotePrefix i = i.found
-found-node t SpaceOrTab i = i.found
-found-node t _ i = record { heading = λ _. tt; title = tt; resource = tt }
+found-node t name i = grind arith
 
 -- the text of a footnote that is the node
 pub note-node : {s : Setting} {content : Content} {inner : List Piece} (t : At) (name : Name) →

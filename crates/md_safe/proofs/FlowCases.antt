@@ -45,7 +45,7 @@ use Rattle.md_safe.proofs.RawElements.{IsInfo, IsRaw, adds-raw, code-end, code_t
 use Rattle.md_safe.proofs.SpanCases.{Spanning, inline-node, is_inline}
 use Rattle.md_safe.proofs.Tags.{Turns, adds-flat, attribute, framed-forced, framed-needed}
 use Rattle.md_safe.proofs.Tags.{framed-text, turns-two}
-use Rattle.md_safe.specs.Contents.{Cells, Characters, Content, Flow, Items, Linked, Parts, Phrasing}
+use Rattle.md_safe.specs.Contents.{Cells, Characters, Content, Flow, Items, Parts, Phrasing}
 use Rattle.md_safe.specs.Contents.{Preformatted, Rows, held_in}
 use Rattle.md_safe.specs.Placed.{may_stand, sort_of, is_inner}
 
@@ -237,9 +237,4 @@ pub solid-node : (m : Claims) (t : At) (content : Content) (name : Name) →
     content (prints m.s.context t name inner)
 solid-node m t Flow name solid whole stands inner k a g = flow-node m t name solid whole stands
     inner k a
-solid-node m t Phrasing name solid whole stands inner k a g = spans-node m t Phrasing name solid
-    whole stands inner k a (g refl)
-solid-node m t Linked name solid whole stands inner k a g = spans-node m t Linked name solid whole
-    stands inner k a (g refl)
-solid-node m t content name solid whole stands inner k a g = inner-node m t content name refl stands
-    inner k a
+solid-node m t content name solid whole stands inner k a g = grind (arith, spans-node, inner-node)

@@ -1,13 +1,11 @@
 -- Blocks with tags or raw text; lines of code and HTML print escaped texts.
 use Rattle.std.proofs.Common.{◌≡◌, ℕ, ◌≤◌, Bool, true, false, cond, List, ◌||◌, arith}
 use Rattle.std.proofs.lemmas.Bool.{or_cases}
-use Rattle.md_base.proofs.Lies.{lie}
 use Rattle.md_base.specs.declared.event.Name.{Name}
 use Rattle.md_base.specs.declared.event.Name.TheVariants as name_variants
-use name_variants.{LineEnding, BlankLineEnding, BlockQuote, ListOrdered, ListUnordered, ListItem}
-use name_variants.{CodeIndented, CodeFenced, CodeFlowChunk, MathFlow, MathFlowChunk, HtmlFlow}
-use name_variants.{HtmlFlowData, HtmlTextData, HeadingAtx, HeadingSetextUnderlineSequence}
-use name_variants.{Paragraph, ThematicBreak}
+use name_variants.{LineEnding, BlockQuote, ListOrdered, ListUnordered, ListItem, CodeIndented}
+use name_variants.{CodeFenced, MathFlow, HtmlFlow, HtmlFlowData, HtmlTextData, HeadingAtx}
+use name_variants.{HeadingSetextUnderlineSequence, Paragraph, ThematicBreak}
 use Rattle.md_text.proofs.EncodeLaws.{is_escaped-encoded}
 use Rattle.md_meaning.specs.Meaning.At.{Context, At}
 use Rattle.md_meaning.specs.Meaning.Layout.{Piece}
@@ -74,11 +72,8 @@ html-escaped s t e = adds-text (encoded-escaped t.around.is_escaping (html s.con
 pub line-escaped : (s : Setting) (t : At) (name : Name) → is_line name ≡ true → IsFitAt s t name →
     (inner : List Piece) → Prints s Escaped (prints s.context t name inner)
 line-escaped s t LineEnding is fit inner = line_ending-escaped s t fit
-line-escaped s t BlankLineEnding is fit inner = adds-when escaped_beside t.is_last
-    (adds-needed escaped_beside s.ending)
-line-escaped s t CodeFlowChunk is fit inner = grind (arith, adds-text, is_escaped-encoded)
-line-escaped s t MathFlowChunk is fit inner = grind (arith, adds-text, is_escaped-encoded)
-line-escaped s t _ is fit inner = lie is
+line-escaped s t name is fit inner =
+    grind (arith, adds-when, escaped_beside, adds-needed, adds-text, is_escaped-encoded)
 
 pub leaf-escaped : (s : Setting) (t : At) (name : Name) → t.around.is_escaping ≡ true →
     is_leaf name ≡ true → IsFitAt s t name → (inner : List Piece) →

@@ -2,8 +2,7 @@
 -- known of each element that stands in flow content or in a list.
 use Rattle.std.proofs.Common.{◌≡◌, ℕ, true, false, List, ◌∷◌, ◌++◌, refl, codes, ◌⊎◌, Bool, arith}
 use Rattle.std.specs.Prelude.{Some, bytes_eq}
-use Rattle.md_base.proofs.Lies.{lie}
-use Rattle.md_text.specs.Html.{Attribute, Forest, Empty, Text, Void, Element}
+use Rattle.md_text.specs.Html.{Attribute, Forest, Empty}
 use Rattle.md_safe.specs.Token.{Token, EndTag, TokenAttribute}
 use Rattle.md_safe.specs.Tokens.{seen_attributes, tokens}
 use Rattle.md_safe.specs.Contents.{Preformatted, is_contained, Content, Flow, Phrasing, Items}
@@ -76,9 +75,7 @@ pre-begins : (inner : Forest) (p : Parser) (ys : List Token) →
     run (record p { skips_line_feed = true }) (tokens inner ++ (EndTag (codes "pre") ∷ ys))
     ≡ run (record p { skips_line_feed = false }) (tokens inner ++ (EndTag (codes "pre") ∷ ys))
 pre-begins Empty p ys c = refl
-pre-begins (Text bytes rest) p ys c = lie c
-pre-begins (Void name attributes rest) p ys c = refl
-pre-begins (Element name attributes inner rest) p ys c = refl
+pre-begins inner p ys c = grind arith
 
 pub pre-passes : {x : Position} {attributes : List Attribute} {inner : Forest} →
     is_body x.mode ≡ true → HasNoParagraph (x.node ∷ x.others) →

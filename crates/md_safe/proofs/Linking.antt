@@ -1,9 +1,7 @@
 -- What stands in a link, where links may stand in links and where not; and none does where a
 -- document has no link in a link.
-use Rattle.std.proofs.Common.{◌≡◌, ◌⊎◌, inl, Bool, true, false, not, ◌&&◌, ◌||◌, cond, sym, ◌∙◌}
-use Rattle.std.proofs.Common.{arith}
+use Rattle.std.proofs.Common.{◌≡◌, ◌⊎◌, Bool, true, false, not, ◌&&◌, ◌||◌, cond, arith}
 use Rattle.std.proofs.lemmas.Bool.{or_parts, or_left, or_right}
-use Rattle.md_base.proofs.Lies.{lie}
 use Rattle.md_base.specs.declared.event.Name.{Name}
 use Rattle.md_base.specs.declared.event.Name.TheVariants.{Image, Link}
 use Rattle.md_base.specs.declared.event.Point.{Point}
@@ -16,7 +14,6 @@ use Rattle.md_text.specs.declared.options.CompileOptions.{CompileOptions}
 use Rattle.md_safe.specs.Contents.{Content, Phrasing, Linked}
 use Rattle.md_safe.specs.Links.{prints_link, has_nested_link}
 use Rattle.md_safe.specs.Placed.{place_of, place_inside}
-use Rattle.md_safe.proofs.Cases.{cases}
 
 -- spans without links
 abbrev pub is_linked : Content → Bool
@@ -60,9 +57,7 @@ IsLinked nested content around =
 linked-place : (nested : Bool) (content : Content) (name : Name) →
     is_linked (place_in nested content name) ≡ true →
     (is_linked content ≡ true) ⊎ ((named Link name ≡ true) × (nested ≡ false))
-linked-place nested content Link h = grind arith
-linked-place nested content name h = cases (is_linked content) (λ e. inl e) (λ e. lie (sym (grind
-    arith) ∙ (rw e at h)))
+linked-place nested content name h = grind arith
 
 pub linked-inside : (nested : Bool) (options : CompileOptions) (loose : Bool) (content : Content)
     (name : Name) (around : Surroundings) → IsLinked nested content around →

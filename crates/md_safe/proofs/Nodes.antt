@@ -5,7 +5,7 @@ use Rattle.std.proofs.Common.{refl, ap, inl, inr, append-nil, codes}
 use Rattle.md_base.proofs.Lies.{lie}
 use Rattle.md_base.specs.declared.event.Name.{Name}
 use Rattle.md_base.specs.declared.event.Name.TheVariants as name_variants
-use name_variants.{CodeFencedFenceInfo, CodeFencedFenceMeta, MathFlowFenceMeta}
+use name_variants.{CodeFencedFenceInfo}
 use Rattle.md_text.proofs.EscapedLemmas.{escaped-append}
 use Rattle.md_base.specs.NameTests.{is_transparent}
 use Rattle.md_pattern.specs.Looseness.{is_loose}
@@ -69,9 +69,7 @@ info_or_meta-node : (s : Setting) (t : At) (name : Name) → t.around.is_escapin
     Inside s t InfoAndMeta name inner → Prints s (Here s t (content_past InfoAndMeta name)) rest →
     Prints s (IsInfo code_tag) (prints s.context t name inner ++ rest)
 info_or_meta-node s t CodeFencedFenceInfo e is inner rest a b = info-node s _ e a b
-info_or_meta-node s t CodeFencedFenceMeta e is inner rest a b = in_code-nil s b
-info_or_meta-node s t MathFlowFenceMeta e is inner rest a b = in_code-nil s b
-info_or_meta-node s t _ e is inner rest a b = lie is
+info_or_meta-node s t name e is inner rest a b = grind (arith, in_code-nil)
 
 done-node : (s : Setting) (t : At) (name : Name) → may_stand Done name ≡ true →
     (inner rest : List Piece) → Prints s IsNil rest → Prints s

@@ -2,7 +2,6 @@
 use Rattle.std.proofs.Common.{arith, ◌≡◌, ℕ, Bool, true, false, not, ◌&&◌, cond, List, [], ◌∷◌}
 use Rattle.std.proofs.Common.{refl}
 use Rattle.std.proofs.lemmas.Bool.{cond_both, and_from}
-use Rattle.md_base.proofs.Lies.{lie}
 use Rattle.md_base.specs.declared.event.Name.{Name}
 use Rattle.md_base.specs.declared.event.Name.TheVariants as name_variants
 use name_variants.{LineEnding, CharacterReferenceMarker, CharacterReferenceMarkerNumeric}
@@ -12,7 +11,7 @@ use Rattle.md_text.specs.Laws.{is_line_ends}
 use Rattle.md_meaning.specs.Meaning.At.{At, text_in}
 use Rattle.md_meaning.specs.Meaning.Layout.{Piece, said}
 use Rattle.md_meaning.specs.Meaning.Means.{prints}
-use Rattle.md_meaning.specs.Meaning.Spans.{escaped, is_dropped, line_ending, reference}
+use Rattle.md_meaning.specs.Meaning.Spans.{escaped, is_dropped, line_ending}
 use Rattle.md_content.specs.Built.{Content, is_string}
 use Rattle.md_safe.proofs.Spot.{NodeAdds, Setting, IsFitAt, Here, Prints, IsNarrow, encoded-escaped}
 use Rattle.md_safe.proofs.Texts.{Escaped, line_ends-escaped}
@@ -55,9 +54,7 @@ other-node : (s : Setting) (t : At) (holds : List ℕ → Type 0) (name : Name) 
     IsFitAt s t name → (inner : List Piece) → Prints s holds (prints s.context t name inner)
 other-node s t holds LineEnding n is fit inner = adds-weaker (λ x h. n x (λ _. h))
     (line_ending-escaped s t fit)
-other-node s t holds CharacterReferenceValue n is fit inner = data-node s t holds n
-    (reference s.context t)
-other-node s t holds _ n is fit inner = lie is
+other-node s t holds name n is fit inner = grind (arith, data-node)
 
 pub text-node : (s : Setting) (t : At) (holds : List ℕ → Type 0) (name : Name) →
     IsNarrow t.around.is_escaping holds → is_text name ≡ true → IsFitAt s t name →
