@@ -1,7 +1,7 @@
 -- Blocks leave no element open, and open two at most beside what their children open.
 use Rattle.std.specs.List.{list_any, flat_map}
-use Rattle.std.proofs.Common.{◌≡◌, ℕ, ◌+◌, ◌≤◌, zero, suc, Bool, true, not, cond, List, []}
-use Rattle.std.proofs.Common.{◌∷◌, ◌++◌, refl, arith, codes, drop}
+use Rattle.std.proofs.Common.{◌≡◌, ℕ, ◌+◌, ◌≤◌, zero, suc, Bool, true, not, cond, List, [], ◌∷◌}
+use Rattle.std.proofs.Common.{◌++◌, refl, arith, codes, drop}
 use Rattle.std.specs.Prelude.{Some, None, bytes_eq, count_by, slice_get}
 use Rattle.std.specs.Option.{option_map_or}
 use Rattle.std.specs.Fmt.{digits}
@@ -22,8 +22,8 @@ use Rattle.md_meaning.specs.Meaning.Inherited.{is_tight}
 use Rattle.md_meaning.specs.Meaning.Finds.{number_in_list}
 use Rattle.md_meaning.specs.Meaning.Layout.{Piece, Text, layout}
 use Rattle.md_meaning.specs.Meaning.Means.{prints}
-use Rattle.md_meaning.specs.Meaning.Blocks.{without_zeros, ends_in_line, heading_tag}
-use Rattle.md_meaning.specs.Meaning.Blocks.{heading, atx_rank, underline_rank, code_end, runs_out}
+use Rattle.md_meaning.specs.Meaning.Blocks.{without_zeros, ends_in_line, heading_tag, heading}
+use Rattle.md_meaning.specs.Meaning.Blocks.{atx_rank, underline_rank, code_end, runs_out}
 use Rattle.md_meaning.specs.Meaning.Blocks.{is_unclosed, fenced}
 use Rattle.md_meaning.specs.Meaning.Spans.{is_at}
 use Rattle.md_meaning.specs.Meaning.Tables.{align_attribute, cell_of}
@@ -48,13 +48,7 @@ heading-tags : (rank : ℕ) → 1 ≤ rank → rank ≤ 6 →
     IsOpening (heading_tag (codes "<h") rank) × IsClosing (heading_tag (codes "</h") rank)
 unfolding digits
 heading-tags zero low high = absurd (omega arith)
-heading-tags (suc zero) low high = (λ l t. refl, λ l t. refl)
-heading-tags (suc (suc zero)) low high = (λ l t. refl, λ l t. refl)
-heading-tags (suc (suc (suc zero))) low high = (λ l t. refl, λ l t. refl)
-heading-tags (suc (suc (suc (suc zero)))) low high = (λ l t. refl, λ l t. refl)
-heading-tags (suc (suc (suc (suc (suc zero))))) low high = (λ l t. refl, λ l t. refl)
-heading-tags (suc (suc (suc (suc (suc (suc zero)))))) low high = (λ l t. refl, λ l t. refl)
-heading-tags (suc (suc (suc (suc (suc (suc (suc rank))))))) low high = absurd (omega arith)
+heading-tags rank low high = grind arith
 
 heading-moves : {e : List ℕ} {n m : ℕ} (rank : ℕ) → Escaped e → suc m ≤ n → 1 ≤ rank → rank ≤ 6 →
     {inner : List Piece} → Moves e m 0 0 inner → Moves e n 0 0 (heading rank inner)

@@ -1,7 +1,7 @@
 -- The text of blocks leaves no element open, and opens at most twice as many as the nesting of the
 -- nodes: one induction over them. Other contents are known to open none.
-use Rattle.std.proofs.Common.{◌≡◌, ℕ, ◌-◌, ◌*◌, ◌≤◌, suc, Bool, true, false, ◌||◌, cond, List}
-use Rattle.std.proofs.Common.{[], ◌∷◌, ◌++◌, refl, ap, ◌∙◌, arith, append-nil, inl, inr}
+use Rattle.std.proofs.Common.{◌≡◌, ℕ, ◌-◌, ◌*◌, ◌≤◌, suc, Bool, true, false, ◌||◌, cond, List, []}
+use Rattle.std.proofs.Common.{◌∷◌, ◌++◌, refl, ap, ◌∙◌, arith, append-nil, inl, inr}
 use Rattle.std.specs.Prelude.{Option, Some, None, unwrap_or}
 use Rattle.std.proofs.lemmas.Bool.{cond_both, cases_Bool}
 use Rattle.md_base.specs.declared.event.Name.{Name}
@@ -85,11 +85,6 @@ own d p name = record {
   text = layout d.context.ending (inner_of d p name).pieces;
 }
 
--- a transparent node has the meaning of its children
-through : (d : Document) (p : Place) (name : Name) (n : ℕ) → is_transparent name ≡ true →
-    Opens d n (inner_of d p name) → Opens d n (here_of d p name)
-through d p name n is b = grind (arith, through-node, append-nil)
-
 -- the heading that a node is found to be
 heading-here : (t : At) (name : Name) (n : ℕ) (x : List ℕ) → is_transparent name ≡ false →
     (is_blocks (content_of name Blocks) ≡ true → Waits n x) → WaitsIn n (found_at t name x).heading
@@ -135,11 +130,7 @@ solid d p name n e room built ready waits known below =
 -- what some blocks mean
 pub opens : (d : Document) (forest : Forest) (around : Surroundings) (before : Before) (n : ℕ) →
     Fits d around before n forest → Opens d n (outcome d.context around before forest)
-opens d Empty around before n f = record {
-  prints = none;
-  heading = tt;
-  texts = tt;
-}
+opens d Empty around before n f = grind (arith, none)
 opens d (Node name start end children rest) around before n f =
     let p : Place = place_at around before start end children rest in
     let t : At = at_of d p name in
@@ -155,16 +146,11 @@ opens d (Node name start end children rest) around before n f =
     f.built.0 f.built.1 f.ready.suits f.built.2 known.prints known.found in
     let below : (k : ℕ) → 2 * height children ≤ k → Waits k (inner_before p name).heading →
     is_blocks (content_inside Blocks name) ≡ true → Opens d k (inner_of d p name) =
-    λ k room waits is. opens d children (inner_around d p name) (inner_before p name) k (record {
-      built = rw (is_blocks-same (content_inside Blocks name) is) at f.built.2;
-      ready = rw (is_blocks-same (content_inside Blocks name) is) at within;
-      waits = waits;
-      room = room;
-    }) in
+    λ k room waits is. opens d children (inner_around d p name) (inner_before p name) k
+    (grind (arith, is_blocks-same)) in
     let kind = λ (b : Bool). is_blocks (cond b Blocks (content_of name Blocks)) in
     let one : Opens d n here = elim (cases_Bool (is_transparent name)) [
-      | inl e ↦
-          through d p name n e (below n (omega (arith, f.room)) (rw e f.waits) (ap kind e))
+      | inl e ↦ grind (arith, through-node, append-nil)
       | inr e ↦
           solid d p name n e (omega (arith, f.room)) f.built f.ready f.waits known
           (λ is. below (n - 2) (omega (arith, f.room)) (rw e (leads-quiet [] refl))

@@ -1,26 +1,15 @@
 -- A text inserted before an end tag of another one opens at most as many elements as it does alone,
 -- in addition to those open there.
-use Rattle.std.proofs.Common.{◌≡◌, ℕ, ◌+◌, ◌-◌, ◌≤◌}
-use Rattle.std.proofs.Common.{List, [], ◌∷◌, ◌++◌, refl, ap, sym, ◌∙◌, arith}
-use Rattle.md_depth.proofs.Machine.{Out, Bad, State, at, to, Action}
-use Rattle.md_depth.proofs.Machine.{act, action, step, run, run-append, Leads}
-
--- no fewer are open at most than before
-act-top : (action : Action) (s : State) → s.top ≤ (act action s).top
-act-top action s = grind arith
+use Rattle.std.proofs.Common.{◌≡◌, ℕ, ◌+◌, ◌-◌, ◌≤◌, List, [], ◌∷◌, ◌++◌, refl, ap, sym, ◌∙◌, arith}
+use Rattle.md_depth.proofs.Machine.{Out, Bad, State, at, to, step, run, run-append, Leads}
 
 top-grows : (s : State) (x : List ℕ) → s.top ≤ (run s x).top
 top-grows s [] = omega arith
-top-grows s (byte ∷ x) = grind (arith, act-top, top-grows (step s byte) x)
-
--- at most as many are open as before
-act-below : (action : Action) (s : State) → s.level ≤ s.top →
-    (act action s).level ≤ (act action s).top
-act-below action s low = grind arith
+top-grows s (byte ∷ x) = grind (arith, top-grows (step s byte) x)
 
 below-top : (s : State) (x : List ℕ) → s.level ≤ s.top → (run s x).level ≤ (run s x).top
 below-top s [] low = low
-below-top s (byte ∷ x) low = below-top (step s byte) x (act-below (action s.spot byte) s low)
+below-top s (byte ∷ x) low = below-top (step s byte) x (grind arith)
 
 -- two `<` in a row stay
 bad-stays : (x : List ℕ) (l t : ℕ) → (run (to Bad (at l t)) x).spot ≡ Bad
@@ -31,19 +20,10 @@ bad-stays (byte ∷ x) l t = bad-stays x l t
 abbrev raise : ℕ → State → State
 raise t s = record { spot = s.spot; level = s.level; top = t }
 
-act-raised : (t : ℕ) (action : Action) (s : State) → (act action s).top ≤ t →
-    act action (raise t s) ≡ raise t (act action s)
-act-raised t action s few = grind arith
-
 run-raised : (t : ℕ) (s : State) (x : List ℕ) → (run s x).top ≤ t →
     run (raise t s) x ≡ raise t (run s x)
 run-raised t s [] few = refl
-run-raised t s (byte ∷ x) few =
-    grind (arith, act-raised, top-grows, run-raised t (step s byte) x)
-
--- if a text continues with `<` and ends as required, no tag has begun
-begins-out : (s : State) (z : List ℕ) → (run s (60 ∷ z)).spot ≡ Out → s.spot ≡ Out
-begins-out s z ends = grind (arith, bad-stays z s.level s.top)
+run-raised t s (byte ∷ x) few = grind (arith, top-grows, run-raised t (step s byte) x)
 
 -- a text that stands before `<` in another one
 pub leads-put : (n k : ℕ) (y w z : List ℕ) → Leads 0 0 n (y ++ (60 ∷ z)) → Leads 0 0 k w →
@@ -55,7 +35,7 @@ leads-put n k y w z f g = record {
       let here : State = run begun y in
       let whole : run here (60 ∷ z) ≡ begun =
       sym (run-append begun y (60 ∷ z)) ∙ f.leads l low (omega arith) in
-      let out : here.spot ≡ Out = begins-out here z (ap (λ s. s.spot) whole) in
+      let out : here.spot ≡ Out = grind (arith, bad-stays) in
       let all : (run here (60 ∷ z)).top ≡ low = ap (λ s. s.top) whole in
       let most : here.top ≡ low =
       omega (arith, top-grows begun y, top-grows here (60 ∷ z), all) in

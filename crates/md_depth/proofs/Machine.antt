@@ -1,8 +1,8 @@
 -- The number of open elements in a text, byte by byte: a tag begins with `<`, an end tag with `</`,
 -- and a void tag with `<br`, `<hr` or `<i`. No other part of a tag has a `<`.
 use Rattle.std.specs.List.{list_all}
-use Rattle.std.proofs.Common.{◌≡◌, ℕ, ◌+◌, ◌≤◌, ◌==◌, zero, suc, max, Bool, true, false, cond}
-use Rattle.std.proofs.Common.{List, [], ◌∷◌, ◌++◌, refl, arith}
+use Rattle.std.proofs.Common.{◌≡◌, ℕ, ◌+◌, ◌≤◌, ◌==◌, zero, suc, max, Bool, true, false, cond, List}
+use Rattle.std.proofs.Common.{[], ◌∷◌, ◌++◌, refl, arith}
 use Rattle.md_text.proofs.HtmlNames.{no_angle}
 
 -- the state of reading a text: anywhere, after `<`, after `<b`, after `<h`, or after `<` twice

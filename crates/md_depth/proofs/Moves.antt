@@ -1,10 +1,10 @@
 -- How many elements pieces leave open, wherever they are laid.
 use Rattle.std.specs.List.{list_all}
-use Rattle.std.proofs.Common.{◌≡◌, ℕ, ◌+◌, ◌≤◌, suc, max, Bool, true, false, cond, List, []}
-use Rattle.std.proofs.Common.{◌∷◌, ◌++◌, refl, arith}
+use Rattle.std.proofs.Common.{◌≡◌, ℕ, ◌+◌, ◌≤◌, suc, max, Bool, true, false, cond, List, [], ◌∷◌}
+use Rattle.std.proofs.Common.{◌++◌, refl, arith}
 use Rattle.md_text.proofs.HtmlNames.{no_angle, escaped-angle}
-use Rattle.md_meaning.specs.Meaning.Layout.{Piece, Text, Needed, Forced, laid_after}
-use Rattle.md_meaning.specs.Meaning.Layout.{layout, on_own_line}
+use Rattle.md_meaning.specs.Meaning.Layout.{Piece, Text, Needed, Forced, laid_after, layout}
+use Rattle.md_meaning.specs.Meaning.Layout.{on_own_line}
 use Rattle.md_safe.proofs.Texts.{Escaped}
 use Rattle.md_safe.proofs.Laid.{Adds, adds-weaker, laid-append}
 use Rattle.md_depth.proofs.Machine.{State, at, run, run-append, quiet, Leads, leads-quiet}
@@ -32,15 +32,10 @@ pub none : {e : List ℕ} {n a : ℕ} → Moves e n a a []
 none = record { moves = λ s text l t few before. before }
 
 pub forced : {e : List ℕ} {n a : ℕ} → Escaped e → Moves e n a a (Forced ∷ [])
-forced {e} {n} {a} h = record {
-  moves = λ s text l t few before. rw (run-append, before) (quiet e (escaped-angle e h) (l + a) t);
-}
+forced {e} {n} {a} h = grind (arith, run-append, quiet, escaped-angle)
 
 pub needed : {e : List ℕ} {n a : ℕ} → Escaped e → Moves e n a a (Needed ∷ [])
-needed {e} {n} {a} h = record {
-  moves = λ s text l t few before.
-      grind (arith, run-append s text e, before, quiet e (escaped-angle e h) (l + a) t);
-}
+needed {e} {n} {a} h = grind (arith, run-append, quiet, escaped-angle)
 
 -- one or the other
 pub choose : {e : List ℕ} {n a b : ℕ} (test : Bool) {xs ys : List Piece} → Moves e n a b xs →
@@ -51,11 +46,7 @@ choose false f g = g
 -- pieces that add a text without `<`
 pub adds-quiet : {e : List ℕ} {n a : ℕ} (pieces : List Piece) →
     Adds e (λ x. list_all no_angle x ≡ true) pieces → Moves e n a a pieces
-adds-quiet {e} {n} {a} pieces adds = record {
-  moves = λ s text l t few before.
-      let r = adds.to text in
-      rw (r.grown, run-append, before) (quiet r.added r.it_holds (l + a) t);
-}
+adds-quiet {e} {n} {a} pieces adds = grind (arith, run-append, quiet)
 
 pub adds-escaped : {e : List ℕ} {n a : ℕ} (pieces : List Piece) → Adds e Escaped pieces →
     Moves e n a a pieces

@@ -1,9 +1,8 @@
 -- A node among blocks leaves no element open, and opens two at most beside what its children open.
-use Rattle.std.proofs.Common.{◌≡◌, ℕ, ◌≤◌, suc, Bool, true, false, not, ◌||◌, List, refl, sym}
-use Rattle.std.proofs.Common.{◌∙◌, ap, arith}
+use Rattle.std.proofs.Common.{◌≡◌, ℕ, ◌≤◌, suc, Bool, true, false, not, ◌||◌, List, refl, sym, ◌∙◌}
+use Rattle.std.proofs.Common.{ap, arith, inl, inr}
 use Rattle.md_base.proofs.Lies.{lie}
 use Rattle.std.proofs.lemmas.Bool.{cases_Bool}
-use Rattle.std.proofs.Common.{inl, inr}
 use Rattle.md_base.specs.declared.event.Name.{Name}
 use Rattle.md_base.specs.NameTests.{is_transparent}
 use Rattle.md_meaning.specs.Meaning.At.{At}
@@ -15,9 +14,9 @@ use Rattle.md_safe.proofs.Texts.{Escaped}
 use Rattle.md_safe.proofs.Spot.{Setting, IsFitAt, IsGoodTarget, Inside}
 use Rattle.md_safe.proofs.StringNodes.{is_text, text-node}
 use Rattle.md_safe.proofs.SpanNodes.{is_shown}
-use Rattle.md_safe.proofs.FlowNodes.{is_flow, is_leaf, leaf-escaped}
-use Rattle.md_safe.proofs.BlockNodes.{is_hidden, hidden-prints, is_silent, silent-prints, is_marked}
-use Rattle.md_safe.proofs.BlockNodes.{silent-block, is_tabular}
+use Rattle.md_safe.proofs.FlowNodes.{is_flow, leaf-escaped}
+use Rattle.md_safe.proofs.BlockNodes.{hidden-prints, is_silent, silent-prints, is_marked}
+use Rattle.md_safe.proofs.BlockNodes.{silent-block}
 use Rattle.md_depth.proofs.Machine.{Leads}
 use Rattle.md_depth.proofs.Moves.{Moves, none, more, adds-escaped}
 use Rattle.md_depth.proofs.SpanMoves.{Room, Below, span-moves, autolink-moves}
@@ -47,9 +46,5 @@ node-moves s t m n room name e solid whole fit head good inner a below =
           pick (is_shown name) _ c (λ is. span-moves s t m n room name e is good inner a below)
           (λ c. pick (is_autolink name) _ c (λ is. autolink-moves s t m n room name is inner) (λ c.
           pick (is_flow name) _ c (λ is. flow-moves s t m n room name is fit head inner a below)
-          (λ c. pick (is_leaf name) _ c (λ is. adds-escaped (prints s.context t name inner)
-          (leaf-escaped s t name e is fit inner)) (λ c.
-          pick (is_hidden name) (is_tabular name) c
-          (λ is. rw (hidden-prints s.context t name is inner) none)
-          (λ is. table-moves s t m n room name is inner below))))))))
+          (grind (arith, pick, adds-escaped, leaf-escaped, hidden-prints, none, table-moves)))))))
     ]

@@ -3,8 +3,8 @@
 use Rattle.std.specs.Str.{bytes_eq}
 use Rattle.std.specs.List.{list_all}
 use Rattle.std.specs.Cmp.Lexicographic.{bytes_decides}
-use Rattle.std.proofs.Common.{◌≡◌, ℕ, ◌+◌, ◌≤◌, suc, max, true, ◌&&◌, List, []}
-use Rattle.std.proofs.Common.{◌∷◌, ◌++◌, refl, ap, ◌∙◌, subst, arith, inl, inr}
+use Rattle.std.proofs.Common.{◌≡◌, ℕ, ◌+◌, ◌≤◌, suc, max, true, ◌&&◌, List, [], ◌∷◌, ◌++◌, refl, ap}
+use Rattle.std.proofs.Common.{◌∙◌, subst, arith, inl, inr}
 use Rattle.std.proofs.lemmas.Bool.{and_parts, or_cases}
 use Rattle.std.proofs.lemmas.List.Folds.{list_all-append}
 use Rattle.md_base.proofs.Lies.{lie}
@@ -40,17 +40,6 @@ Opens name = (l t : ℕ) → run (to Begun (at l t)) name ≡ at (suc l) (max t 
 abbrev Voids : List ℕ → Type 0
 Voids name = (l t : ℕ) → run (to Begun (at l t)) name ≡ at l (max t (suc l))
 
-elements-open : Each Opens elements
-elements-open = grind arith
-
-tags-void : Each Voids void_tags
-tags-void = grind arith
-
--- the parts of a text without `<`
-parts : (x y : List ℕ) → list_all no_angle (x ++ y) ≡ true →
-    (list_all no_angle x ≡ true) × (list_all no_angle y ≡ true)
-parts x y h = grind (arith, list_all-append)
-
 -- some text without `<`, and then another
 past : (x y : List ℕ) (l t : ℕ) → list_all no_angle x ≡ true →
     run (at l t) (x ++ y) ≡ run (at l t) y
@@ -62,14 +51,12 @@ tag : (name : List ℕ) (attributes : List Attribute) (end rest : List ℕ) (l t
     list_all no_angle (name ++ (written_attributes attributes ++ end)) ≡ true →
     run (at l t) (60 ∷ (name ++ (written_attributes attributes ++ (end ++ rest))))
     ≡ run (at level top) rest
-tag name attributes end rest l t level top after h = grind (arith, parts, run-append, past)
-
-levels-open : (l t inner rest : ℕ) →
-    max (max (max t (suc l)) (suc l + inner)) (l + rest) ≡ max t (l + max (suc inner) rest)
-levels-open l t inner rest = omega arith
-
-levels-void : (l t rest : ℕ) → max (max t (suc l)) (l + rest) ≡ max t (l + max 1 rest)
-levels-void l t rest = omega arith
+tag name attributes end rest l t level top after h = grind (
+  arith,
+  list_all-append,
+  run-append,
+  past,
+)
 
 -- the text of a forest opens as many elements as nest in it, and closes them
 pub opens : (forest : Forest) → is_forest forest ≡ true → (l t : ℕ) → l ≤ t →
@@ -82,11 +69,9 @@ opens (Text bytes rest) h l t low =
 opens (Void name attributes rest) h l t low =
     let p = and_parts _ _ h in
     let end : List ℕ = 32 ∷ 47 ∷ 62 ∷ [] in
-    tag name attributes end (written rest) l t l (max t (suc l))
-    (of-tag Voids void_tags name attributes tags-void p.0 l t)
-    (tag-angle name attributes end (void-tidy name attributes p.0) refl)
-    ∙ opens rest p.1 l (max t (suc l)) (omega arith)
-    ∙ ap (λ top. at l top) (levels-void l t (levels rest))
+    tag name attributes end (written rest) l t l (max t (suc l)) (of-tag Voids void_tags name
+    attributes (grind arith) p.0 l t) (tag-angle name attributes end (void-tidy name attributes p.0)
+    refl) ∙ opens rest p.1 l (max t (suc l)) (omega arith) ∙ ap (λ top. at l top) (omega arith)
 opens (Element name attributes inner rest) h l t low =
     let p = and_parts _ _ h in
     let q = and_parts _ _ p.0 in
@@ -95,13 +80,11 @@ opens (Element name attributes inner rest) h l t low =
     let close : List ℕ = 60 ∷ 47 ∷ (name ++ (62 ∷ written rest)) in
     let letters : list_all no_angle name ≡ true = name-angle name (and_parts _ _ tidy.0).1 in
     let top : ℕ = max (max t (suc l)) (suc l + levels inner) in
-    tag name attributes end (written inner ++ close) l t (suc l) (max t (suc l))
-    (of-tag Opens elements name attributes elements-open q.0 l t)
-    (tag-angle name attributes end tidy refl)
-    ∙ run-append (at (suc l) (max t (suc l))) (written inner) close
-    ∙ ap (λ s. run s close) (opens inner q.1 (suc l) (max t (suc l)) (omega arith))
-    ∙ past name (62 ∷ written rest) l top letters ∙ opens rest p.1 l top (omega arith)
-    ∙ ap (λ top. at l top) (levels-open l t (levels inner) (levels rest))
+    tag name attributes end (written inner ++ close) l t (suc l) (max t (suc l)) (of-tag Opens
+    elements name attributes (grind arith) q.0 l t) (tag-angle name attributes end tidy refl) ∙
+    run-append (at (suc l) (max t (suc l))) (written inner) close ∙ ap (λ s. run s close) (opens
+    inner q.1 (suc l) (max t (suc l)) (omega arith)) ∙ past name (62 ∷ written rest) l top letters ∙
+    opens rest p.1 l top (omega arith) ∙ ap (λ top. at l top) (omega arith)
 
 -- a text in which no more are open has a reading that nests no deeper
 pub levels-kept : (n : ℕ) (x : List ℕ) (forest : Forest) → IsReading x forest → Leads 0 0 n x →

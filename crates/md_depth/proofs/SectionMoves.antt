@@ -1,23 +1,21 @@
 -- The section of footnotes leaves no element open, and opens five at most beside what the texts of
 -- footnotes open.
-use Rattle.std.proofs.Common.{◌≡◌, ℕ, ◌+◌, ◌-◌, ◌≤◌, ◌==◌, zero, suc, true, not}
-use Rattle.std.proofs.Common.{List, [], ◌∷◌, ◌++◌, length, take, drop, refl, ap, sym, ◌∙◌}
-use Rattle.std.proofs.Common.{arith, append_assoc, codes, length-drop}
+use Rattle.std.proofs.Common.{◌≡◌, ℕ, ◌+◌, ◌-◌, ◌≤◌, ◌==◌, zero, suc, true, not, List, [], ◌∷◌}
+use Rattle.std.proofs.Common.{◌++◌, length, take, drop, refl, ap, sym, ◌∙◌, arith, append_assoc}
+use Rattle.std.proofs.Common.{codes, length-drop, inl, inr}
 use Rattle.std.specs.Prelude.{None, option_map, bytes_eq, string_bytes}
 use Rattle.std.specs.List.{flat_map}
 use Rattle.std.specs.Fmt.{decimal}
 use Rattle.std.proofs.lemmas.List.{take-append-drop, drop-append-le}
 use Rattle.std.proofs.lemmas.Slice.Eq.{bytes_eq-Decides}
 use Rattle.std.proofs.lemmas.Bool.{cases_Bool}
-use Rattle.std.proofs.Common.{inl, inr}
 use Rattle.md_text.specs.declared.options.CompileOptions.{CompileOptions}
 use Rattle.md_text.proofs.EncodeLaws.{is_escaped-encoded}
 use Rattle.md_meaning.specs.Meaning.At.{Footnote, Context}
 use Rattle.md_meaning.specs.Meaning.Layout.{Piece, Text}
-use Rattle.md_meaning.specs.Meaning.Footnotes.{option_or, id_of, call_id, backreference}
-use Rattle.md_meaning.specs.Meaning.Footnotes.{backreferences, unended_length, body, item}
-use Rattle.md_meaning.specs.Meaning.Footnotes.{section_start, section, distinct, place_among}
-use Rattle.md_meaning.specs.Meaning.Footnotes.{count_of}
+use Rattle.md_meaning.specs.Meaning.Footnotes.{option_or, id_of, call_id, backreference, body, item}
+use Rattle.md_meaning.specs.Meaning.Footnotes.{backreferences, unended_length, section_start}
+use Rattle.md_meaning.specs.Meaning.Footnotes.{section, distinct, place_among, count_of}
 use Rattle.md_meaning.specs.FootnoteHeading.{tag_of, attributes_of}
 use Rattle.md_safe.proofs.Texts.{Escaped, decimal-escaped}
 use Rattle.md_safe.proofs.Calls.{label-escaped, id-escaped, call_id-escaped}

@@ -1,6 +1,6 @@
 -- Spans leave no element open, and open two at most beside what their children open.
-use Rattle.std.proofs.Common.{◌≡◌, ℕ, ◌≤◌, suc, Bool, true, not, cond}
-use Rattle.std.proofs.Common.{List, [], ◌∷◌, ◌++◌, refl, inl, inr, arith, codes}
+use Rattle.std.proofs.Common.{◌≡◌, ℕ, ◌≤◌, suc, Bool, true, not, cond, List, [], ◌++◌, refl, inl}
+use Rattle.std.proofs.Common.{inr, arith, codes}
 use Rattle.std.specs.Prelude.{Option, Some, None}
 use Rattle.std.specs.Fmt.{decimal}
 use Rattle.std.proofs.lemmas.Bool.{or_cases}
@@ -19,8 +19,8 @@ use Rattle.md_meaning.specs.Meaning.At.{Target, At, text_in, identifier_of}
 use Rattle.md_meaning.specs.Meaning.Layout.{Piece, layout, said}
 use Rattle.md_meaning.specs.Meaning.Means.{prints}
 use Rattle.md_meaning.specs.Meaning.Spans.{span, task_start, code, trimmed, without_escapes}
-use Rattle.md_meaning.specs.Meaning.Media.{href, src, title_attribute, anchor, picture}
-use Rattle.md_meaning.specs.Meaning.Media.{leads_to, autolink}
+use Rattle.md_meaning.specs.Meaning.Media.{href, src, title_attribute, anchor, picture, leads_to}
+use Rattle.md_meaning.specs.Meaning.Media.{autolink}
 use Rattle.md_meaning.specs.Meaning.Footnotes.{id_of, call_id, place_among, distinct, count_of}
 use Rattle.md_content.specs.Built.{Blocks, content_of, is_autolink}
 use Rattle.md_safe.proofs.Texts.{Escaped, pipes-escaped, trimmed-escaped, decimal-escaped}
@@ -31,8 +31,8 @@ use Rattle.md_safe.proofs.Elements.{IsDone}
 use Rattle.md_safe.proofs.Insides.{is_blocks}
 use Rattle.md_safe.proofs.Spot.{Setting, Prints, Inside, IsGoodTarget, target-title}
 use Rattle.md_safe.proofs.SpanNodes.{is_single, is_shown}
-use Rattle.md_safe.proofs.SpanSorts.{pair_tag, is_pair, by_pair, pair-prints, is_code}
-use Rattle.md_safe.proofs.SpanSorts.{is_math, code_opening, code-prints, code-text}
+use Rattle.md_safe.proofs.SpanSorts.{is_pair, by_pair, pair-prints, is_code, is_math, code_opening}
+use Rattle.md_safe.proofs.SpanSorts.{code-prints, code-text}
 use Rattle.md_depth.proofs.Machine.{Leads, ◌▹◌, leads-open, leads-close}
 use Rattle.md_depth.proofs.Moves as moves
 use Rattle.md_depth.proofs.Moves.{Moves, ◌▸◌, none, adds-quiet, more, laid, plain, part, IsOpening}
@@ -128,15 +128,7 @@ Below s m name inner = is_blocks (content_of name Blocks) ≡ true → Moves s.c
 pair-moves : (s : Setting) (t : At) (m n : ℕ) → Room m n → (name : Name) → is_pair name ≡ true →
     (inner : List Piece) → Below s m name inner →
     Moves s.context.ending n 0 0 (prints s.context t name inner)
-pair-moves s t m n room name is inner below =
-    let e : List ℕ = s.context.ending in
-    let tag : List ℕ = pair_tag name in
-    rw (pair-prints s.context t name is inner) (around e m n room t.around.in_image
-    (60 ∷ (tag ++ (62 ∷ []))) (60 ∷ 47 ∷ (tag ++ (62 ∷ [])))
-    (by_pair (λ tag. IsOpening (60 ∷ (tag ++ (62 ∷ [])))) (λ l t. refl) (λ l t. refl)
-    (λ l t. refl) name is)
-    (by_pair (λ tag. IsClosing (60 ∷ 47 ∷ (tag ++ (62 ∷ [])))) (λ l t. refl) (λ l t. refl)
-    (λ l t. refl) name is) inner (below (grind arith)))
+pair-moves s t m n room name is inner below = grind (arith, pair-prints, around, by_pair)
 
 single-moves : (s : Setting) (t : At) (m n : ℕ) → Room m n → (name : Name) →
     is_single name ≡ true → IsGoodTarget t.found.resource → (inner : List Piece) →
@@ -144,9 +136,7 @@ single-moves : (s : Setting) (t : At) (m n : ℕ) → Room m n → (name : Name)
     Moves s.context.ending n 0 0 (prints s.context t name inner)
 single-moves s t m n room Link is good inner a below =
     let f : Leads 0 0 m (layout s.context.ending inner) = laid (below refl) in
-    choose t.around.in_image (kept f (omega arith))
-    (anchor-moves s.context.ending m n room s.context.options (leads_to s.context t)
-    (target-title s t good) (layout s.context.ending inner) f)
+    grind (arith, choose, kept, anchor-moves, target-title)
 single-moves s t m n room Image is good inner a below =
     let label : List ℕ = layout s.context.ending inner in
     let h : Escaped label = adds-alone a in

@@ -1,6 +1,6 @@
 -- How long a footnote call is.
-use Rattle.std.proofs.Common.{ℕ, suc, ◌+◌, ◌*◌, ◌^◌, ◌≤◌, ◌<◌, List, [], ◌∷◌, length, arith}
-use Rattle.std.proofs.Common.{codes, lit≤, lit<, Option, string_bytes, ◌-◌}
+use Rattle.std.proofs.Common.{ℕ, suc, ◌+◌, ◌*◌, ◌^◌, ◌≤◌, ◌<◌, List, [], ◌∷◌, length, arith, codes}
+use Rattle.std.proofs.Common.{lit≤, lit<, Option, string_bytes, ◌-◌}
 use Rattle.std.specs.Prelude.{option_map, String}
 use Rattle.std.specs.declared.alloc.Global.{Global}
 use Rattle.std.specs.Fmt.{decimal}

@@ -1,7 +1,7 @@
 -- The cells of tables' rows are bounded by what work counts for them: after a table's columns are
 -- known, each row counts all of them, and its head has one row before.
-use Rattle.std.proofs.Common.{◌≡◌, ℕ, ◌+◌, ◌*◌, ◌≤◌, Bool, true, false, List, ◌∷◌}
-use Rattle.std.proofs.Common.{◌++◌, length, refl, ◌∙◌, arith, append_assoc}
+use Rattle.std.proofs.Common.{◌≡◌, ℕ, ◌+◌, ◌*◌, ◌≤◌, Bool, true, false, List, ◌∷◌, ◌++◌, length}
+use Rattle.std.proofs.Common.{refl, ◌∙◌, arith, append_assoc}
 use Rattle.std.specs.Prelude.{if◌then◌else◌}
 use Rattle.std.proofs.lemmas.List.{length-append}
 use Rattle.md_base.specs.declared.event.AlignKind.{AlignKind}
@@ -11,8 +11,7 @@ use name_variants.{GfmTable}
 use Rattle.md_base.specs.Is.{is}
 use Rattle.md_base.specs.Tree.{Forest, Empty, Node, flatten, exiting}
 use Rattle.md_pattern.specs.Alignments.{alignments}
-use Rattle.md_steps.specs.Content.{Content, Blocks, Rows, Fits}
-use Rattle.md_steps.specs.Content.{content_inside, content_after_node}
+use Rattle.md_steps.specs.Content.{Content, Blocks, Rows, Fits, content_inside, content_after_node}
 use Rattle.md_steps.proofs.Staying.{node-same}
 use Rattle.md_length.specs.Costs.{nodes}
 use Rattle.md_length.proofs.Pieces.{either-number}

@@ -1,8 +1,7 @@
 -- The target of a definition takes no more than its nodes may print, and that no more than what is
 -- read in the definition and its events.
-use Rattle.std.proofs.Common.{◌≡◌, ℕ, suc, ◌*◌, ◌≤◌, Bool, true, ◌&&◌, List, [], ◌∷◌, ◌++◌}
-use Rattle.std.proofs.Common.{length, map, drop, refl, ap, ◌∙◌, arith}
-use Rattle.std.proofs.Common.{bytes_eq, append_assoc, append-nil}
+use Rattle.std.proofs.Common.{◌≡◌, ℕ, suc, ◌*◌, ◌≤◌, Bool, true, ◌&&◌, List, [], ◌∷◌, ◌++◌, length}
+use Rattle.std.proofs.Common.{map, drop, refl, ap, ◌∙◌, arith, bytes_eq, append_assoc, append-nil}
 use Rattle.std.specs.Prelude.{if◌then◌else◌, find}
 use Rattle.std.specs.Option.{option_map_or}
 use Rattle.md_base.specs.declared.event.Event.{Event}
@@ -14,8 +13,8 @@ use Rattle.md_base.specs.Children.{is_empty}
 use Rattle.md_base.specs.NameTests.{is_link_definition}
 use Rattle.md_base.specs.Tree.{Forest, Empty, Node, flatten, exiting}
 use Rattle.md_meaning.specs.declared.surroundings.Surroundings.{Surroundings}
-use Rattle.md_meaning.specs.Meaning.At.{Context, Before, Defined, target_in}
-use Rattle.md_meaning.specs.Meaning.At.{identifier_of, nothing_found}
+use Rattle.md_meaning.specs.Meaning.At.{Context, Before, Defined, target_in, identifier_of}
+use Rattle.md_meaning.specs.Meaning.At.{nothing_found}
 use Rattle.md_meaning.specs.Meaning.Before.{before_children}
 use Rattle.md_meaning.specs.Meaning.Layout.{when}
 use Rattle.md_meaning.specs.Meaning.Nodes.{outcome}

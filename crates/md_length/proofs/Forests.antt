@@ -1,7 +1,7 @@
 -- What some nodes print, and what is kept of their texts, is no longer than what the nodes may
 -- print and what they use.
-use Rattle.std.proofs.Common.{◌≡◌, ℕ, ◌+◌, ◌^◌, ◌≤◌, ◌<◌, Bool, true, false, ◌&&◌, List}
-use Rattle.std.proofs.Common.{length, refl, ap, arith, Option, None, unwrap_or}
+use Rattle.std.proofs.Common.{◌≡◌, ℕ, ◌+◌, ◌^◌, ◌≤◌, ◌<◌, Bool, true, false, ◌&&◌, List, length}
+use Rattle.std.proofs.Common.{refl, ap, arith, Option, None, unwrap_or}
 use Rattle.std.specs.Prelude.{if◌then◌else◌, is_some}
 use Rattle.std.proofs.lemmas.List.{length-append}
 use Rattle.md_base.specs.Children.{is_empty, or_else}

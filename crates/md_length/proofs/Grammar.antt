@@ -1,10 +1,9 @@
 -- What the lengths ask of a document holds of each document of the grammar.
-use Rattle.std.proofs.Common.{◌≡◌, ℕ, ◌≤◌, true, List, length, arith, Option, None}
-use Rattle.std.proofs.Common.{lit≤}
+use Rattle.std.proofs.Common.{ℕ, ◌≤◌, List, length, arith, Option, None, lit≤}
 use Rattle.std.specs.Option.{option_map_or}
 use Rattle.md_base.specs.declared.event.Name.{Name}
 use Rattle.md_base.specs.declared.event.Name.TheVariants as name_variants
-use name_variants.{Link, Image, HeadingAtx, LineEnding, BlankLineEnding}
+use name_variants.{LineEnding, BlankLineEnding}
 use Rattle.md_base.specs.declared.event.Point.{Point}
 use Rattle.md_base.specs.declared.event.Position.{Position}
 use Rattle.md_base.specs.Place.{text_between}
@@ -31,24 +30,9 @@ use Rattle.md_length.specs.Sound.{IsSound}
 -- ---- targets and ranks
 pub grammatical-sound : (bytes : List ℕ) (names : List (List ℕ × List ℕ)) (document : Forest) →
     IsGrammatical bytes names document → Everywhere IsSound document
-grammatical-sound bytes names document is =
-    everywhere bytes names IsSound each document role.Flow None
-    (fine bytes names document role.Flow None is.shape.0 is.rules)
-  where
-    each : (around : Role) (before : Option Symbol) (name : Name) (start end : Point)
-        (children : Forest) → IsFine bytes names around before name start end children →
-        AreFine bytes names children (inner_role (standing_of name) around before)
-        (inner_before (standing_of name) before) → IsSound name start end children
-    each around before Link start end children here inside = λ missing. cc (here.1, missing)
-    each around before Image start end children here inside = λ missing. cc (here.1, missing)
-    each around before HeadingAtx start end children here inside =
-        (fit bytes names HeadingAtx around before start end children here inside).1
-    each around before _ start end children here inside = tt
+grammatical-sound bytes names document is = grind (arith, everywhere, fine, fit)
 
 -- ---- line endings
-ending-few : (text : List ℕ) → is_line_ending text ≡ true → length text ≤ 2
-ending-few text h = grind arith
-
 -- the text of a line ending has at most two bytes
 abbrev HasShortEnding : List ℕ → Name → Point → Point → Forest → Type 0
 HasShortEnding bytes LineEnding start end children = length (text_in bytes (place start end)) ≤ 2
@@ -80,9 +64,9 @@ grammatical-ending options bytes names document is =
         AreFine bytes names children (inner_role (standing_of name) around before)
         (inner_before (standing_of name) before) → HasShortEnding bytes name start end children
     each around before LineEnding start end children here inside =
-        text_fits is_line_ending rule.LineEnding (λ text. length text ≤ 2) ending-few
+        text_fits is_line_ending rule.LineEnding (λ text. length text ≤ 2) (λ text h. grind arith)
         (text_between bytes start end) here.1
     each around before BlankLineEnding start end children here inside =
-        text_fits is_line_ending rule.LineEnding (λ text. length text ≤ 2) ending-few
+        text_fits is_line_ending rule.LineEnding (λ text. length text ≤ 2) (λ text h. grind arith)
         (text_between bytes start end) here.1
     each around before _ start end children here inside = tt

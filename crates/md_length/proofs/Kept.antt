@@ -1,20 +1,16 @@
 -- What of nodes is kept to be printed elsewhere, and the target of a link or an image.
-use Rattle.std.proofs.Common.{◌≡◌, ℕ, ◌+◌, ◌*◌, ◌≤◌, Bool, true, List, [], ◌∷◌, ◌++◌, length}
-use Rattle.std.proofs.Common.{refl, arith, Option, unwrap_or}
-use Rattle.std.specs.Prelude.{if◌then◌else◌, is_some}
+use Rattle.std.proofs.Common.{◌≡◌, ℕ, ◌+◌, ◌*◌, ◌≤◌, Bool, List, [], ◌∷◌, ◌++◌, length, refl, arith}
+use Rattle.std.proofs.Common.{Option}
+use Rattle.std.specs.Prelude.{if◌then◌else◌}
 use Rattle.std.specs.Option.{option_map_or}
 use Rattle.md_base.specs.Children.{or_else}
 use Rattle.md_base.specs.Tree.{Forest, Empty, Node}
-use Rattle.md_tree.specs.declared.mention.Referral.TheVariants as referral
-use Rattle.md_tree.specs.Rules.{target_of}
 use Rattle.md_meaning.specs.declared.surroundings.Surroundings.{Surroundings}
-use Rattle.md_meaning.specs.Meaning.At.{Target, Context, At, Before, Found}
-use Rattle.md_meaning.specs.Meaning.At.{target_in, identifier_of}
-use Rattle.md_meaning.specs.Meaning.Media.{target_defined}
+use Rattle.md_meaning.specs.Meaning.At.{Target, Context, Before, Found, target_in}
 use Rattle.md_meaning.specs.Meaning.Nodes.{outcome}
 use Rattle.md_length.specs.Costs.{nodes}
 use Rattle.md_length.proofs.Pieces.{either-some}
-use Rattle.md_length.specs.Uses.{weight, led, called, sum_of}
+use Rattle.md_length.specs.Uses.{weight, called, sum_of}
 
 -- ---- what is kept of nodes
 abbrev pub title_length : Option (List ℕ) → ℕ
@@ -74,9 +70,3 @@ calls-few context around before forest =
     counted (call ∷ calls) = omega (arith, counted calls)
 
 -- ---- the target of a link or an image
-pub media-leads : (context : Context) (at : At) (resource : Option Target) →
-    (target_of at.children referral.Missing ≡ referral.Missing → ⊥) →
-    (target_of at.children referral.Missing ≡ referral.Resource → is_some resource ≡ true) →
-    weight (unwrap_or resource (target_defined context (identifier_of context.bytes at.children)))
-    ≤ led context at.children + option_map_or weight resource 0
-media-leads context at resource some found = grind arith

@@ -29,10 +29,6 @@ abbrev left_identifier : List ℕ → Referral → List ℕ
 left_identifier bytes left =
     elim left [ referral.Label at ↦ unwrap_or (identifier_at bytes at) [] | _ ↦ [] ]
 
-referred-short : (bytes : List ℕ) (left : Referral) →
-    length (left_identifier bytes left) ≤ 12 * label_span left
-referred-short bytes left = grind (arith, identifier-short)
-
 labels-left : (bytes : List ℕ) (forest : Forest) (left : Referral) →
     called (λ identifier. length identifier) bytes forest
     + 12 * label_span (target_of forest left) ≤ 12 * lengths forest + 12 * label_span left
@@ -40,11 +36,12 @@ labels-left bytes Empty left = omega arith
 labels-left bytes (Node name start end children rest) left =
     grind (
       arith,
-      referred-short,
+      identifier-short,
       labels-left bytes children left,
-      labels-left bytes children referral.Missing,
-      labels-left bytes rest
-          (target_after (standing_of name) left (target_of children) (place start end)),
+      labels-left bytes children
+          referral.Missing,
+      labels-left bytes rest (target_after (standing_of name) left (target_of
+          children) (place start end)),
     )
 
 pub labels-short : (bytes : List ℕ) (forest : Forest) →

@@ -90,10 +90,7 @@ record IsRead (forward : Bool) (forest : Forest) (index depth : ℕ) (after : Li
 nodes-read : (forward : Bool) (forest : Forest) (index depth : ℕ) (after : List Event) →
     (forward ≡ true → GoesForward index (flatten forest ++ after)) →
     IsRead forward forest index depth after
-nodes-read forward Empty index depth after goes = record {
-  read = grind (arith, mul-zero);
-  ordered = λ e. (omega arith, goes e);
-}
+nodes-read forward Empty index depth after goes = grind (arith, mul-zero)
 nodes-read forward (Node name start end children rest) index depth after goes =
     let is : Bool = is_read name in
     let inner : ℕ = inside is depth in
@@ -104,23 +101,7 @@ nodes-read forward (Node name start end children rest) index depth after goes =
     (λ e. rw split at (goes e).1) in
     let in_rest : IsRead forward rest end.index depth after =
     nodes-read forward rest end.index depth after (λ e. (in_children.ordered e).1.1) in
-    record {
-      read = rw split (node-read forward is depth index start.index
-          (last_index start.index children) end.index (last_index end.index rest)
-          (lengths children) (lengths rest) _
-          (read_from end.index depth later) (read_from (last_index end.index rest) depth after)
-          (λ e. (
-            (goes e).0,
-            (in_children.ordered e).0,
-            (in_children.ordered e).1.0,
-            (in_rest.ordered e).0,
-          ))
-          (rw (exit_depth is depth) at in_children.read) in_rest.read);
-      ordered = λ e. (
-        omega (arith, goes e, in_children.ordered e, in_rest.ordered e),
-        (in_rest.ordered e).1,
-      );
-    }
+    grind (arith, node-read, exit_depth)
 
 whole-read : (forward : Bool) (document : Forest) →
     (forward ≡ true → GoesForward 0 (flatten document)) →

@@ -1,7 +1,6 @@
 -- What a node prints, and what is kept of it, is no longer than what it may print, what it uses
 -- and what its children may.
-use Rattle.std.proofs.Common.{◌≡◌, ℕ, ◌+◌, ◌*◌, ◌≤◌, Bool, true, false, arith, length}
-use Rattle.std.proofs.Common.{unwrap_or}
+use Rattle.std.proofs.Common.{◌≡◌, ℕ, ◌+◌, ◌*◌, ◌≤◌, Bool, true, false, arith, length, unwrap_or}
 use Rattle.std.specs.Prelude.{if◌then◌else◌, is_some}
 use Rattle.std.proofs.lemmas.Fmt.{length-decimal-le}
 use Rattle.md_base.specs.declared.event.Name.{Name}
@@ -22,7 +21,7 @@ use Rattle.md_length.specs.Uses.{used, call_cost}
 use Rattle.md_length.proofs.Pieces.{size}
 use Rattle.md_length.proofs.Prints.{IsShort}
 use Rattle.md_length.proofs.Strings.{notes, notes-append}
-use Rattle.md_length.proofs.Kept.{kept, held, target-kept, media-leads}
+use Rattle.md_length.proofs.Kept.{kept, held, target-kept}
 
 -- what is known of a node and of what its children print
 pub record Known (context : Context) (at : At) (waits : Bool) (content : Content) (inner : Outcome)
@@ -58,4 +57,4 @@ pub node-short : (context : Context) (at : At) (waits : Bool) (content : Content
     Known context at waits content inner name spent →
     IsNodeShort context at waits inner name spent
 node-short context at waits content inner name spent known =
-    grind (arith, notes-append, media-leads, length-decimal-le, target-kept)
+    grind (arith, notes-append, length-decimal-le, target-kept)

@@ -1,8 +1,7 @@
 -- The numbers of lists are no longer than what is read, and the nodes.
 use Rattle.std.proofs.Common.{ℕ, ◌+◌, ◌≤◌, List, length, arith, Option}
 use Rattle.std.specs.Option.{option_map_or}
-use Rattle.md_base.specs.declared.event.Name.TheVariants.{ListItemPrefix}
-use Rattle.md_base.specs.declared.event.Name.TheVariants.{ListItemValue}
+use Rattle.md_base.specs.declared.event.Name.TheVariants.{ListItemPrefix, ListItemValue}
 use Rattle.md_base.specs.declared.event.Position.{Position}
 use Rattle.md_base.specs.Tree.{Forest, Empty, Node}
 use Rattle.md_tree.specs.Rules.{place}

@@ -5,9 +5,8 @@ use Rattle.std.proofs.lemmas.Grind.{common_steps}
 use Rattle.std.proofs.lemmas.Bool.Decides.{nat_tests}
 use Rattle.std.proofs.lemmas.List.{length-replicate}
 use Rattle.md_base.specs.declared.event.Point.{Point}
-use Rattle.md_base.specs.Place.{bytes_between}
-use Rattle.md_base.specs.Place.{text_between, serialized_between, label_between}
-use Rattle.md_base.specs.Reference.{named, numbered, decoded}
+use Rattle.md_base.specs.Place.{bytes_between, text_between, serialized_between, label_between}
+use Rattle.md_base.specs.Reference.{named, decoded}
 use Rattle.md_length.specs.Costs.{span}
 use Rattle.md_length.specs.Longest.{longest}
 use Rattle.md_length.proofs.Pieces.{sizes, bytes-append}
@@ -41,12 +40,8 @@ named-short : (names : List (List ℕ × List ℕ)) (name : List ℕ) →
 named-short [] name = lit≤ tt
 named-short (entry ∷ names) name = grind (arith, named-short names name)
 
-numbered-short : (radix : ℕ) (digits : List ℕ) →
-    length (unwrap_or (numbered radix digits) []) ≤ 4
-numbered-short radix digits = grind (arith, character-short)
-
 -- the text of a reference
 pub decoded-short : (names : List (List ℕ × List ℕ)) (marker : ℕ) (value : List ℕ) →
     length (unwrap_or (decoded names marker value) []) ≤ 4 + longest names
 decoded-short names marker value =
-    omega (sizes, named-short names value, numbered-short 10 value, numbered-short 16 value)
+    omega (sizes, named-short names value, character-short)

@@ -1,6 +1,6 @@
 -- What a node prints beyond what its children print is no longer than a unit, its own text and, of
 -- a few names, what else is used there.
-use Rattle.std.proofs.Common.{ℕ, ◌+◌, ◌*◌, ◌≤◌, List, [], ◌++◌, length, arith, codes}
+use Rattle.std.proofs.Common.{ℕ, ◌+◌, ◌*◌, ◌≤◌, List, ◌++◌, length, arith, codes}
 use Rattle.std.specs.Prelude.{slice_get, count_by}
 use Rattle.std.specs.Fmt.{decimal}
 use Rattle.std.proofs.lemmas.List.{length-drop}
@@ -10,9 +10,6 @@ use Rattle.md_base.specs.declared.event.Name.{Name}
 use Rattle.md_base.specs.declared.event.Name.TheVariants as name_variants
 use name_variants.{ListOrdered, HeadingAtx, HeadingSetextUnderlineSequence, Link, Image}
 use name_variants.{GfmTableRow, GfmTableCell, GfmFootnoteCall, GfmTaskListItemCheck}
-use Rattle.md_text.specs.Encode.{encoded}
-use Rattle.md_base.specs.Place.{serialized_between}
-use Rattle.std.proofs.Common.{unwrap_or, true}
 use Rattle.md_meaning.specs.Meaning.At.{Context, At}
 use Rattle.md_meaning.specs.Meaning.Blocks.{atx_rank}
 use Rattle.md_meaning.specs.Meaning.Footnotes.{call}
@@ -20,15 +17,14 @@ use Rattle.md_meaning.specs.Meaning.Layout.{Piece, layout, said}
 use Rattle.md_meaning.specs.Meaning.Means.{prints}
 use Rattle.md_meaning.specs.Meaning.Media.{leads_to}
 use Rattle.md_meaning.specs.Meaning.Spans.{task_start}
-use Rattle.md_length.specs.Costs.{span, unit, own}
+use Rattle.md_length.specs.Costs.{unit, own}
 use Rattle.md_length.specs.Uses.{weight, number_length}
 use Rattle.md_length.proofs.Pieces.{size, size-append, sizes, layout-short}
 use Rattle.md_length.proofs.Places.{serialized-short}
 use Rattle.md_length.proofs.Texts.{encoded-short}
-use Rattle.md_length.proofs.PrintedTexts.{line_ending-short, escaped-short, raw-short}
-use Rattle.md_length.proofs.PrintedTexts.{reference-short}
-use Rattle.md_length.proofs.PrintedTexts.{anchor-short, picture-short, autolink-short, number-short}
-use Rattle.md_length.proofs.PrintedTexts.{rank-one, code-short, cell-short, filled-short}
+use Rattle.md_length.proofs.PrintedTexts.{line_ending-short, escaped-short, raw-short, anchor-short}
+use Rattle.md_length.proofs.PrintedTexts.{reference-short, picture-short, autolink-short, rank-one}
+use Rattle.md_length.proofs.PrintedTexts.{number-short, code-short, cell-short, filled-short}
 
 -- what is printed at a node beside its own text and what its children print
 abbrev pub extra : Context → At → Name → ℕ
@@ -46,13 +42,6 @@ extra context at name = elim name [
 abbrev pub IsShort : Context → At → List Piece → Name → Type 0
 IsShort context at inner name = size (prints context at name inner)
     ≤ size inner + (unit context.names + 42 * own name at.place) + extra context at name
-
--- a line of code
-chunk-short : (context : Context) (at : At) →
-    length (encoded true
-    (unwrap_or (serialized_between context.bytes at.place.start at.place.end) []))
-    ≤ 48 + 6 * span at.place.start at.place.end
-chunk-short context at = grind (arith, encoded-short, serialized-short)
 
 pub prints-short : (context : Context) (at : At) (inner : List Piece) (name : Name) →
     length context.ending ≤ 2 → IsShort context at inner name
@@ -76,9 +65,11 @@ prints-short context at inner _ few =
       raw-short context at,
       reference-short context at,
       line_ending-short context at,
-      chunk-short context at,
+      encoded-short,
+      serialized-short,
       number-short,
-      rank-one context at,
+      rank-one context
+          at,
       autolink-short,
       code-short,
       filled-short,

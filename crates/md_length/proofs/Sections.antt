@@ -6,8 +6,8 @@ use Rattle.std.specs.List.{flat_map}
 use Rattle.std.proofs.lemmas.List.{length-take, length-drop}
 use Rattle.md_text.specs.declared.options.CompileOptions.{CompileOptions}
 use Rattle.md_meaning.specs.Meaning.At.{Footnote, Context}
-use Rattle.md_meaning.specs.Meaning.Footnotes.{distinct, place_among, count_of}
-use Rattle.md_meaning.specs.Meaning.Footnotes.{backreferences, item, section_start, section}
+use Rattle.md_meaning.specs.Meaning.Footnotes.{distinct, place_among, count_of, backreferences}
+use Rattle.md_meaning.specs.Meaning.Footnotes.{item, section_start, section}
 use Rattle.md_meaning.proofs.Identifiers.{distinct-apart}
 use Rattle.md_length.specs.Uses.{back_cost, item_cost, sum_of}
 use Rattle.md_length.specs.Bound.{for_document}

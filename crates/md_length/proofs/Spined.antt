@@ -1,6 +1,6 @@
 -- A table's head comes before its body, and a head has one row, by their spines.
-use Rattle.std.proofs.Common.{◌≡◌, ℕ, ◌+◌, Bool, true, false, ◌&&◌, List, [], ◌∷◌, ◌++◌, refl}
-use Rattle.std.proofs.Common.{ap, ◌∙◌, subst, arith}
+use Rattle.std.proofs.Common.{◌≡◌, ℕ, ◌+◌, Bool, true, false, ◌&&◌, List, [], ◌∷◌, ◌++◌, refl, ap}
+use Rattle.std.proofs.Common.{◌∙◌, subst, arith}
 use Rattle.std.specs.Prelude.{if◌then◌else◌}
 use Rattle.std.specs.List.{list_all}
 use Rattle.md_pattern.specs.declared.kinds.Class.TheVariants.{Only}
@@ -10,7 +10,7 @@ use Rattle.md_pattern.specs.declared.kinds.Symbol.{Symbol}
 use Rattle.md_pattern.specs.declared.kinds.Symbol.TheVariants as symbol
 use Rattle.md_pattern.specs.declared.kinds.Role.TheVariants as role
 use Rattle.md_pattern.specs.Pattern.{pattern_of}
-use Rattle.md_pattern.specs.Spine.{IsTail, IsGrouped, Matches}
+use Rattle.md_pattern.specs.Spine.{IsGrouped, Matches}
 use Rattle.md_content.proofs.Letters.{fits-all, grouped-all}
 use Rattle.md_content.proofs.LoneSymbols.{once-is, follows}
 
@@ -51,12 +51,6 @@ no-rows : (amount : ℕ) (symbols : List Symbol) → list_all after_row symbols 
 no-rows amount [] h = refl
 no-rows amount (seen ∷ symbols) h = grind (arith, no-rows amount symbols)
 
--- these symbols begin no group
-tails : (test : Symbol → Bool) → test symbol.ReferenceMarker ≡ false →
-    test symbol.SetextText ≡ false → (first : Symbol) (tail : List Symbol) → test first ≡ true →
-    IsTail first tail → list_all test tail ≡ true
-tails test mark text first tail h is = grind arith
-
 -- what may come after the head, and after its row
 abbrev head_followers : List Item
 head_followers =
@@ -74,14 +68,13 @@ table-ordered symbols match =
     let one = once-is symbol.TableHead head_followers fit.0 fit.1 match.0 fit.4 fit.3 fit.2 fit.5 in
     let next = follows symbol.TableHead one.others symbols refl
     (subst (λ firsts. IsGrouped firsts symbols) one.are match.1) in
-    ap is_ordered next.are
-    ∙ grouped-all in_table (tails in_table refl refl) one.others next.others next.grouped
+    ap is_ordered next.are ∙ grouped-all in_table (grind arith) one.others next.others next.grouped
     (fits-all in_table head_followers one.others one.fit refl)
 
 pub head-letters : (symbols : List Symbol) → Matches role.TableHead symbols →
     list_all in_head symbols ≡ true
 head-letters symbols match =
-    grouped-all in_head (tails in_head refl refl) match.0 symbols match.1
+    grouped-all in_head (grind arith) match.0 symbols match.1
     (fits-all in_head (pattern_of role.TableHead) match.0 match.2 refl)
 
 pub head-row : (amount : ℕ) (symbols : List Symbol) → Matches role.TableHead symbols →
@@ -94,6 +87,7 @@ head-row amount symbols match =
     omega (
       arith,
       ap (for_rows amount) next.are,
-      no-rows amount next.others (grouped-all after_row (tails after_row refl refl) one.others
-          next.others next.grouped (fits-all after_row row_followers one.others one.fit refl)),
+      no-rows amount next.others (grouped-all after_row (grind
+          arith) one.others next.others next.grouped (fits-all after_row row_followers one.others
+          one.fit refl)),
     )

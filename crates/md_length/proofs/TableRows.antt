@@ -1,7 +1,6 @@
 -- The rows of a table: the columns are known before each but the one of its head.
-use Rattle.std.proofs.Common.{◌≡◌, ◌⊎◌, inl, inr, ℕ, ◌+◌, ◌*◌, ◌≤◌, Bool, true, List, []}
-use Rattle.std.proofs.Common.{◌∷◌, ◌++◌, length, refl, ap, ◌∙◌, subst, arith, append_assoc}
-use Rattle.std.proofs.Common.{Option}
+use Rattle.std.proofs.Common.{◌≡◌, ◌⊎◌, inl, inr, ℕ, ◌+◌, ◌*◌, ◌≤◌, Bool, true, List, [], ◌∷◌, ◌++◌}
+use Rattle.std.proofs.Common.{length, refl, ap, ◌∙◌, subst, arith, append_assoc, Option}
 use Rattle.std.specs.Prelude.{if◌then◌else◌}
 use Rattle.std.specs.List.{list_all}
 use Rattle.std.proofs.Math.Nat.{add-zero}
@@ -12,8 +11,7 @@ use Rattle.md_base.specs.declared.event.AlignKind.{AlignKind}
 use Rattle.md_base.specs.declared.event.Event.{Event}
 use Rattle.md_base.specs.declared.event.Name.{Name}
 use Rattle.md_base.specs.declared.event.Name.TheVariants as name_variants
-use name_variants.{GfmTableRow, GfmTableHead}
-use name_variants.{GfmTableDelimiterCellValue}
+use name_variants.{GfmTableRow, GfmTableHead, GfmTableDelimiterCellValue}
 use Rattle.md_base.specs.Is.{is}
 use Rattle.md_base.specs.NameTests.{leads_to_values}
 use Rattle.md_base.specs.Tree.{Forest, Empty, Node, flatten, entering, exiting}
@@ -24,14 +22,13 @@ use Rattle.md_pattern.specs.declared.kinds.Role.TheVariants as role
 use Rattle.md_pattern.specs.Spine.{spine, shown, Matches}
 use Rattle.md_pattern.specs.Shape.{AreShaped, IsStanding, inner_role, inner_before}
 use Rattle.md_pattern.specs.Standing.{standing_of}
-use Rattle.md_steps.specs.Content.{Rows, Fits, is_allowed}
-use Rattle.md_steps.specs.Content.{content_inside, content_after_node}
+use Rattle.md_steps.specs.Content.{Rows, Fits, is_allowed, content_inside, content_after_node}
 use Rattle.md_steps.proofs.Staying.{node-stays}
 use Rattle.md_length.specs.Uses.{cells, columns_in}
 use Rattle.md_length.specs.Work.{is_column, cells as counted}
 use Rattle.md_length.proofs.Cells.{values, aligned-few, rows-counted, no-cells}
-use Rattle.md_length.proofs.Spined.{in_table, in_head, is_ordered, for_rows}
-use Rattle.md_length.proofs.Spined.{for_rows-append, table-ordered, head-letters, head-row}
+use Rattle.md_length.proofs.Spined.{in_table, in_head, is_ordered, for_rows, for_rows-append}
+use Rattle.md_length.proofs.Spined.{table-ordered, head-letters, head-row}
 
 -- what a node shows of its children, and the columns that it gives to the table around it
 abbrev shows : Name → Forest → List Symbol
@@ -95,9 +92,7 @@ Comes xs ys = ((xs ≡ []) × (is_ordered ys ≡ true))
 
 comes : (xs ys : List Symbol) → is_ordered (xs ++ ys) ≡ true → (is_ordered xs ≡ true) × Comes xs ys
 comes [] ys h = (refl, inl (refl, h))
-comes (x ∷ xs) ys h =
-    let parts = all-parts in_table xs ys (and_parts _ _ h).1 in
-    (and_from _ _ (and_parts _ _ h).0 parts.0, inr (λ amount. (refl, refl), parts.1))
+comes (x ∷ xs) ys h = grind (arith, all-parts, and_parts, and_from)
 
 table-rows : (columns : List AlignKind) (forest : Forest) (around : Role) (before : Option Symbol)
     (k after : ℕ) (tail : List Event) → Fits Rows forest → AreShaped forest around before →

@@ -1,6 +1,6 @@
 -- How long the texts are that are printed of what is read: escaped, as URLs, and as identifiers.
-use Rattle.std.proofs.Common.{ℕ, zero, suc, ◌+◌, ◌-◌, ◌*◌, ◌≤◌, Bool, true}
-use Rattle.std.proofs.Common.{List, [], ◌∷◌, length, arith, lit≤, filter}
+use Rattle.std.proofs.Common.{ℕ, zero, suc, ◌+◌, ◌-◌, ◌*◌, ◌≤◌, Bool, true, List, [], ◌∷◌, length}
+use Rattle.std.proofs.Common.{arith, lit≤, filter}
 use Rattle.std.specs.Prelude.{if◌then◌else◌, encode_utf8, encode_utf8_all}
 use Rattle.std.specs.List.{flat_map, slice_split, join_with_byte, onto_first}
 use Rattle.std.specs.Str.{chars, chars_after, continuation_len, lead_bits}
@@ -11,7 +11,7 @@ use Rattle.std.proofs.lemmas.Str.{length-encode}
 use Rattle.ucd_case.specs.CaseFolding.{full_fold}
 use Rattle.caseless.specs.Caseless.{default_case_fold}
 use Rattle.caseless.proofs.CaselessLemmas.{full_folding_short, full_fold-none, full_fold-some}
-use Rattle.md_base.specs.Identifier.{collapsed, normalized}
+use Rattle.md_base.specs.Identifier.{normalized}
 use Rattle.md_text.specs.Encode.{encoded_byte, encoded}
 use Rattle.md_text.specs.Url.{hex_digit, percent, stays, sanitized}
 use Rattle.md_text.specs.Filter.{tag_filtered}
@@ -99,9 +99,6 @@ split-total test [] = (lit≤ tt, lit≤ tt)
 split-total test (b ∷ text) =
     grind (arith, onto-total b (slice_split test text), split-total test text)
 
-collapsed-short : (text : List ℕ) → length (collapsed text) ≤ length text
-collapsed-short text = grind (arith, joined-short, filter-total, split-total)
-
 -- an identifier has at most twelve bytes for each of its label
 pub normalized-short : (text : List ℕ) → length (normalized text) ≤ 12 * length text
 unfolding default_case_fold
@@ -111,5 +108,7 @@ normalized-short text =
       spelled-short,
       flat_map-short full_fold 3 folded_one-short,
       chars-short,
-      collapsed-short,
+      joined-short,
+      filter-total,
+      split-total,
     )

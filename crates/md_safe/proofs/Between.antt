@@ -38,13 +38,7 @@ line_feeds-apart (b ∷ c ∷ x) r h = grind (arith, one-append, line_feeds-apar
 pub line_feeds-split : (x r : List ℕ) → splits_newline x (10 ∷ r) ≡ true →
     with_line_feeds (x ++ (10 ∷ r)) ≡ with_line_feeds x ++ with_line_feeds r
 line_feeds-split [] r h = cc
-line_feeds-split (b ∷ []) r h = by (b == 13) h
-  where
-    by : (return : Bool) → (return && true) ≡ true →
-        cond return (10 ∷ with_line_feeds r) (b ∷ 10 ∷ with_line_feeds r)
-        ≡ cond return (10 ∷ []) (b ∷ []) ++ with_line_feeds r
-    by true h = refl
-    by false h = cc
+line_feeds-split (b ∷ []) r h = grind arith
 line_feeds-split (b ∷ c ∷ x) r h = grind (arith, one-append, line_feeds-split (c ∷ x) r h)
 
 pub alone : (text after : List ℕ) (emits : List Token) → EndsInDataState text emits →
@@ -99,13 +93,6 @@ pub join : (before text : List ℕ) (earlier emits : List Token) → EndsInDataS
     EndsInDataState (before ++ text) (earlier ++ emits)
 join before text earlier emits h k n after = grind (arith, line_feeds-apart, append_assoc, leads-on)
 
--- a text that ends so, and one with a reading
-joined : (before text : List ℕ) (earlier : List Token) (f : Forest) →
-    EndsInDataState before earlier →
-    IsReading text f → splits_newline before text ≡ false →
-    EndsInDataState (before ++ text) (earlier ++ tokens f)
-joined before text earlier f h reading n = grind (arith, join, reading-ends)
-
 pub between : (before text after : List ℕ) (earlier : List Token) (f : Forest) →
     EndsInDataState before earlier →
     IsReading text f → splits_newline before text ≡ false →
@@ -113,15 +100,15 @@ pub between : (before text after : List ℕ) (earlier : List Token) (f : Forest)
     Tokenizes Data (with_line_feeds (before ++ (text ++ after))) (earlier ++ tokens f)
     (with_line_feeds after)
 between before text after earlier f h reading n m = rw append_assoc at (alone (before ++ text) after
-    (earlier ++ tokens f) (joined before text earlier f h reading n) m)
+    (earlier ++ tokens f) (grind (arith, join, reading-ends)) m)
 
 pub between-tokenized : (before text after : List ℕ) (earlier later : List Token) (f : Forest) →
     EndsInDataState before earlier → IsReading text f → splits_newline before text ≡ false →
     splits_newline (before ++ text) after ≡ false → IsTokenized after later →
     IsTokenized (before ++ (text ++ after)) (earlier ++ (tokens f ++ later))
 between-tokenized before text after earlier later f h reading n m k = simp append_assoc at
-    (tokenized (before ++ text) after (earlier ++ tokens f) later (joined before text earlier f h
-    reading n) m k)
+    (tokenized (before ++ text) after (earlier ++ tokens f) later
+    (grind (arith, join, reading-ends)) m k)
 
 -- the rest would be emitted, and isn't
 lost : (p : Token → Bool) (input mid : List ℕ) (t u all : List Token) → IsRun Data mid u →

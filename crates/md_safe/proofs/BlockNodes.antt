@@ -2,10 +2,9 @@
 use Rattle.std.proofs.Common.{◌≡◌, Bool, true, false, not, ◌||◌, List, [], arith}
 use Rattle.md_base.specs.declared.event.Name.{Name}
 use Rattle.md_base.specs.declared.event.Name.TheVariants as name_variants
-use name_variants.{GfmFootnoteDefinition, GfmFootnoteDefinitionPrefix, Definition}
-use name_variants.{CodeFencedFenceMeta, MathFlowFenceMeta, HeadingSetextText, GfmTable}
-use name_variants.{GfmTableHead, GfmTableBody, GfmTableRow, GfmTableCell, Frontmatter, Link}
-use name_variants.{Resource, ReferenceString}
+use name_variants.{GfmFootnoteDefinition, GfmFootnoteDefinitionPrefix, Definition, GfmTable, Link}
+use name_variants.{CodeFencedFenceMeta, MathFlowFenceMeta, HeadingSetextText, GfmTableHead}
+use name_variants.{GfmTableBody, GfmTableRow, GfmTableCell, Frontmatter, Resource, ReferenceString}
 use Rattle.md_text.proofs.HtmlJoin.{nothing}
 use Rattle.md_base.specs.Is.{is as named}
 use Rattle.md_base.specs.NameTests.{is_transparent, is_delimiter_row}

@@ -16,14 +16,9 @@ use Rattle.md_safe.proofs.Texts.{Escaped, decimal-escaped}
 use Rattle.md_safe.proofs.Laid.{Adds}
 use Rattle.md_safe.proofs.Tags.{IsTest, attribute, Tagged, adds-flat}
 
--- a text of the options, escaped
-option-escaped : (text : Option (List ℕ)) (unset : List ℕ) → Escaped unset →
-    Escaped (option_or text unset)
-option-escaped text unset h = grind (arith, is_escaped-encoded)
-
 pub label-escaped : (options : CompileOptions) →
     Escaped (option_or (option_map string_bytes options.gfm_footnote_label) (codes "Footnotes"))
-label-escaped options = grind (arith, option-escaped)
+label-escaped options = grind (arith, is_escaped-encoded)
 
 -- the required prefix of ids, and their prefix
 abbrev pub prefix_given : CompileOptions → Option (List ℕ)
@@ -35,7 +30,7 @@ id_prefix options = option_or (prefix_given options) (codes "user-content-")
 pub id-escaped : (options : CompileOptions) (kind identifier : List ℕ) (number : ℕ) → Escaped kind →
     Escaped (id_of options kind identifier number)
 id-escaped options kind identifier number h =
-    grind (arith, decimal-escaped, sanitized-escaped, escaped-append, option-escaped)
+    grind (arith, decimal-escaped, sanitized-escaped, escaped-append, is_escaped-encoded)
 
 pub call_id-escaped : (options : CompileOptions) (identifier : List ℕ) (number occurrence : ℕ) →
     Escaped (call_id options identifier number occurrence)
@@ -59,13 +54,6 @@ call_text v w n =
     ++ (codes "\" data-footnote-ref=\"\" aria-describedby=\"footnote-label\">"
     ++ (n ++ codes "</a></sup>")))))
 
-pub call-regrouped : (v w n : List ℕ)
-    → codes "<sup>" ++ ((codes "<a href=\"#" ++ (v ++ (codes "\" id=\""
-    ++ (w ++ (codes "\" data-footnote-ref=\"\" aria-describedby=\"footnote-label\">"
-    ++ (n ++ codes "</a>")))))) ++ codes "</sup>")
-    ≡ call_text v w n
-call-regrouped v w n = simp append_assoc
-
 call-read : {test : Attribute → Bool} {Q R : List ℕ → Type 0} {options : CompileOptions} →
     IsTest test options → Tagged test Q R (codes "a") → Tagged test R R (codes "sup") →
     (v w n : List ℕ) → Escaped v → test (attribute (codes "id") w) ≡ true → Escaped w → Q n →
@@ -74,14 +62,9 @@ call-read {test = test} {R = R} known a sup v w n h passes g r =
     let link = known.anchor v in
     let ref = known.other (codes "data-footnote-ref") [] refl in
     let described = known.other (codes "aria-describedby") (codes "footnote-label") refl in
-    subst R (call-regrouped v w n) (sup.tag [] _ refl refl (a.tag (attribute (codes "href") (35 ∷ v)
-    ∷ attribute (codes "id") w ∷ attribute (codes "data-footnote-ref") [] ∷ attribute (codes
-    "aria-describedby") (codes "footnote-label") ∷ []) n (a_call v w h g) (rw (
-      link,
-      passes,
-      ref,
-      described,
-    ) refl) r))
+    subst R (simp append_assoc) (sup.tag [] _ refl refl (a.tag (attribute (codes "href") (35 ∷ v) ∷
+    attribute (codes "id") w ∷ attribute (codes "data-footnote-ref") [] ∷ attribute (codes
+    "aria-describedby") (codes "footnote-label") ∷ []) n (a_call v w h g) (grind arith) r))
 
 -- the tags of a call
 abbrev pub call_tags : CompileOptions → List ℕ → ℕ → ℕ → List Piece
@@ -132,8 +115,7 @@ backreference-read {test = test} {Q = Q} {options = options} known inside a sup 
     sup.tag [] (decimal occurrence) refl refl (inside.text (decimal occurrence)
     (decimal-escaped occurrence))) in
     let id : Escaped v = call_id-escaped options identifier number occurrence in
-    let label : Escaped t = option-escaped
-    (option_map string_bytes options.gfm_footnote_back_label) (codes "Back to content") refl in
+    let label : Escaped t = grind (arith, is_escaped-encoded) in
     let link = known.anchor v in
     let back = known.other (codes "data-footnote-backref") [] refl in
     let named = known.other (codes "aria-label") t refl in

@@ -1,9 +1,9 @@
 -- The content model allows the meaning of a document's nodes: what pieces add to a text stands as
 -- some content; one induction over blocks, in addition to that of `Forests`, which covers strings,
 -- code and images.
-use Rattle.std.proofs.Common.{◌≡◌, ℕ, Bool, true, List, [], ◌++◌, refl, false, sym, ◌||◌, cond}
-use Rattle.std.proofs.Common.{ap, ◌∙◌, subst, append-nil, arith}
-use Rattle.md_meaning.specs.Meaning.Layout.{Piece, layout}
+use Rattle.std.proofs.Common.{◌≡◌, ℕ, Bool, true, List, [], ◌++◌, refl, false, sym, ◌||◌, cond, ap}
+use Rattle.std.proofs.Common.{◌∙◌, subst, append-nil, arith}
+use Rattle.md_meaning.specs.Meaning.Layout.{Piece}
 use Rattle.md_safe.proofs.Laid.{Adds, adds-append, adds-weaker, adds-nothing, adds-needed}
 use Rattle.md_safe.specs.Contents.{Content, Phrasing, Flow}
 use Rattle.md_safe.proofs.Stands.{Stands, stands-join, stands-nothing, stands-white, takes-white}
@@ -16,17 +16,12 @@ use Rattle.md_safe.proofs.Insides.{is_blocks, is_blocks-same}
 use Rattle.md_content.specs.Built.{content_of, Blocks, is_part, is_source, may_stand}
 use Rattle.md_content.specs.Built.{content_inside, IsBuilt}
 use Rattle.md_safe.proofs.Linking.{place_in, with_links, is_spans, inner_place, inner-place-with}
-use Rattle.md_safe.proofs.Linking.{IsLinked, linked-inside, unnested-inside}
-use Rattle.md_safe.proofs.Linking.{unlinked-here, unlinked-spans, unnested-parts}
+use Rattle.md_safe.proofs.Linking.{IsLinked, linked-inside, unnested-parts}
 use Rattle.md_safe.proofs.Elements.{adds-empty_cells}
 use Rattle.std.specs.Prelude.{Option}
-use Rattle.md_base.proofs.Lies.{lie}
-use Rattle.md_base.specs.declared.event.Name.TheVariants as name_variants
-use name_variants.{GfmFootnoteDefinition}
-use Rattle.md_base.specs.Is.{is as named}
 use Rattle.md_base.specs.NameTests.{is_transparent}
-use Rattle.md_meaning.specs.Meaning.At.{Footnote, At, Before, identifier_of}
-use Rattle.md_meaning.specs.Meaning.Nodes.{Outcome, found_at, node, before_next, outcome}
+use Rattle.md_meaning.specs.Meaning.At.{Footnote, At, Before}
+use Rattle.md_meaning.specs.Meaning.Nodes.{Outcome, node, before_next, outcome}
 use Rattle.md_safe.proofs.Findings.{AreTexts, AreFound, texts-append}
 use Rattle.md_safe.specs.Placed.{sort_of, may_stand as may_place, IsPlaced}
 use Rattle.md_safe.proofs.Cases.{OnSome, on-later, on-either, cases}
@@ -103,31 +98,11 @@ IsHeading nested found = OnSome (Stands nested Phrasing) found
 abbrev pub AreFlow : (nested : Bool) → List Footnote → Type 0
 AreFlow nested footnotes = AreTexts (Stands nested Flow) footnotes
 
--- what a node that isn't transparent adds to the spine
-pub heading-found : (nested : Bool) (d : Document) (content : Content) (name : Name) (t : At)
-    (inner : Outcome) → is_transparent name ≡ false → may_place (with_links content) (sort_of name)
-    ≡ true → Own nested d content name inner.pieces → IsHeading nested (found_at t
-    name (layout d.context.ending inner.pieces)).heading
-heading-found nested d content name t inner solid stands a = grind arith
-
--- the text of a footnote
-pub note-found : (nested : Bool) (d : Document) (content : Content) (name : Name)
-    (inner : Outcome) → named GfmFootnoteDefinition name ≡ true →
-    may_place (with_links content) (sort_of name) ≡ true → Own nested d content name inner.pieces →
-    Stands nested Flow (layout d.context.ending inner.pieces)
-note-found nested d content name inner is stands a = grind arith
-
 -- what nodes mean, where their content stands
 pub record Means (nested : Bool) (d : Document) (content : Content) (means : Outcome) : Type 0 where
   pub prints : Prints nested d content means.pieces
   pub heading : IsHeading nested means.found.heading
   pub texts : AreFlow nested means.footnotes
-
--- a transparent node
-through : {nested : Bool} {d : Document} {content : Content} {inner : Outcome} (name : Name)
-    (t : At) → is_transparent name ≡ true → t.found ≡ inner.found → Means nested d content inner →
-    Means nested d content (node d.context t name inner)
-through name t is same m = grind (arith, through-node, append-nil)
 
 -- what is known where some nodes stand
 pub record Fits (nested : Bool) (d : Document) (around : Surroundings) (before : Before)
@@ -152,15 +127,11 @@ solid-means : {nested : Bool} {d : Document} {content : Content} {name : Name} {
 solid-means {nested = nested} {d = d} {content = content} {name = name} {t = t} white inner solid
     whole stands k own none g =
     let own-prints : Own nested d content name inner.pieces = λ is. (own (same ∙ is)).prints in
-    let noted : Footnote = record {
-      identifier = identifier_of d.context.bytes t.children;
-      text = layout d.context.ending inner.pieces;
-    } in
     record {
       prints = solid-node (standing nested d white) t content name solid whole stands inner.pieces k
           own-prints g;
-      heading = heading-found nested d content name t inner solid stands own-prints;
-      texts = grind (arith, texts-append, inner-texts, cond_both, note-found);
+      heading = grind arith;
+      texts = grind (arith, texts-append, inner-texts, cond_both);
     }
   where
     same : is_blocks (content_inside Blocks name) ≡ is_blocks (content_of name Blocks)
@@ -181,10 +152,9 @@ any-node : (nested : Bool) (d : Document) (white : IsWhite d.context.ending) (co
     (is_spans content ≡ true → Spanning t content name) → Means nested d
     content (node d.context t name inner)
 any-node nested d white content name t inner same k stands placed own none g =
-    cases (is_transparent name)
-    (λ e. through name t e same (rw e at (own (rw e refl))))
-    (λ e. solid-means white inner e (not_part _ (second _ _ e stands)) (second _ _ e placed) (k e)
-    (λ is. rw e at (own is)) none g)
+    cases (is_transparent name) (λ e. grind (arith, through-node, append-nil)) (λ e. solid-means
+    white inner e (not_part _ (second _ _ e stands)) (second _ _ e placed) (k e) (λ is. rw e at (own
+    is)) none g)
 
 pub means : (nested : Bool) (d : Document) (forest : Forest) (around : Surroundings)
     (before : Before) (content : Content) → Fits nested d around before content forest →
@@ -215,8 +185,7 @@ means nested d (Node name start end children rest) around before content f =
           (λ _. f.heading) (λ _. stands-nothing);
       linked = linked-inside nested d.context.options (is_loose children) content name around
           f.linked;
-      unnested = λ no. unnested-inside d.context.options (is_loose children) name around start end
-          children rest is (f.unnested no);
+      unnested = λ no. grind arith;
     }) in
     let one : Means nested d content here = any-node nested d f.white content name t inner refl
     (λ solid. record {
@@ -227,14 +196,8 @@ means nested d (Node name start end children rest) around before content f =
       ids = λ call value. refl;
       heading = λ is. f.heading;
       within = inside-means t Blocks name solid f.built.0 f.built.1 f.built.2 known;
-    }) f.built.0 f.placed.0 own
-    (λ none. no_footnotes d (content_inside Blocks name) children around' before' none f.built.2)
-    (λ is. record {
-      spans = is;
-      free = λ prints. unlinked-here nested content name around start end children rest is prints
-          f.linked f.unnested;
-      plain = λ no. unlinked-spans content is (λ linked. lie (sym no ∙ (f.linked linked).1));
-    }) in
+    }) f.built.0 f.placed.0 own (λ none. no_footnotes d (content_inside Blocks name) children
+    around' before' none f.built.2) (grind arith) in
     let later : Means nested d content others = means nested d rest around next content (record {
       white = f.white;
       built = rw (after-blocks name children) at f.built.3;
@@ -247,9 +210,4 @@ means nested d (Node name start end children rest) around before content f =
       unnested = λ no. (unnested-parts name around.in_link start end children rest
           (f.unnested no)).1;
     }) in
-    record {
-      prints = lays-both one.prints later.prints;
-      heading = grind (arith, on-later);
-      texts = texts-append (Stands nested Flow) here.footnotes others.footnotes one.texts
-          later.texts;
-    }
+    grind (arith, lays-both, on-later, texts-append)

@@ -1,7 +1,7 @@
 -- The section of footnotes is flow content: its heading, its items and their ways back, which the
 -- last paragraph of flow content takes before its end.
-use Rattle.std.proofs.Common.{◌≡◌, ℕ, Bool, ◌==◌, true, List, [], ◌∷◌, ◌++◌, refl, sym, ap}
-use Rattle.std.proofs.Common.{◌∙◌, subst, append_assoc, append-nil, codes, arith}
+use Rattle.std.proofs.Common.{◌≡◌, ℕ, Bool, ◌==◌, true, List, [], ◌∷◌, ◌++◌, refl, sym, ap, ◌∙◌}
+use Rattle.std.proofs.Common.{subst, append_assoc, append-nil, codes, arith}
 use Rattle.std.proofs.lemmas.Bool.{and_parts, and_from}
 use Rattle.md_base.proofs.Lies.{lie}
 use Rattle.md_text.specs.Laws.{is_line_ends}
@@ -11,20 +11,18 @@ use Rattle.md_text.proofs.HtmlReading.{all-any}
 use Rattle.std.specs.List.{list_all}
 use Rattle.md_text.proofs.HtmlPut.{IsMade, made-before}
 use Rattle.md_safe.specs.Contents.{Content, Flow, Phrasing, held_in, is_contained, Items}
-use Rattle.md_safe.proofs.Stands.{Stands, stands-join, stands-nothing, stands-text, turns-tag}
-use Rattle.md_safe.proofs.Stands.{is_held, stands-tag, takes-white, IsWhite}
-use Rattle.md_safe.proofs.Stands.{white_beside, Opens, stands-wider}
+use Rattle.md_safe.proofs.Stands.{stands-join, stands-nothing, is_held, white_beside, stands-wider}
+use Rattle.md_safe.proofs.Stands.{Stands, stands-text, turns-tag, stands-tag, takes-white, IsWhite}
 use Rattle.std.specs.Prelude.{None}
 use Rattle.md_meaning.specs.Meaning.At.{Footnote}
-use Rattle.md_meaning.specs.Meaning.Footnotes.{body, item, section, distinct, place_among, count_of}
+use Rattle.md_meaning.specs.Meaning.Footnotes.{body, item, section, distinct, place_among}
 use Rattle.md_meaning.specs.Meaning.Footnotes.{backreferences}
 use Rattle.md_safe.proofs.Texts.{Escaped}
 use Rattle.md_safe.proofs.Laid.{adds-all, adds-text, adds-needed}
 use Rattle.md_safe.proofs.Tags.{attribute, Turns}
 use Rattle.md_safe.proofs.Calls.{id-escaped, label-escaped, backreferences-read}
 use Rattle.md_safe.proofs.Section.{adds-body, heading_label_of, heading_text, turn-after}
-use Rattle.md_safe.proofs.Section.{item-turns, note_id, texts-among, text_among, backs_of}
-use Rattle.md_safe.proofs.Section.{adds-item, adds-section}
+use Rattle.md_safe.proofs.Section.{item-turns, note_id, texts-among, adds-item, adds-section}
 use Rattle.md_safe.proofs.Costs.{Document, read_in}
 use Rattle.md_safe.proofs.ContainedForests.{lays-white, lays-both, Prints, AreFlow}
 use Rattle.md_safe.proofs.Linking.{in_link}
@@ -67,15 +65,6 @@ cut-after nested x front f rest y stands whole c = record {
   made = ap (λ w. front ++ w) c.made ∙ sym (append_assoc front c.front _);
 }
 
-void-whole : (name : List ℕ) (attributes : List Attribute) (rest : Forest) →
-    written (Void name attributes rest) ≡ written (Void name attributes Empty) ++ written rest
-void-whole name attributes rest = simp append_assoc
-
-element-whole : (name : List ℕ) (attributes : List Attribute) (children rest : Forest) →
-    written (Element name attributes children rest)
-    ≡ (opening_tag name attributes ++ written children ++ closing_tag name) ++ written rest
-element-whole name attributes children rest = simp append_assoc
-
 -- the text of a forest that is contained stands
 stands-forest : (nested : Bool) (content : Content) (f : Forest) → is_forest f ≡ true →
     is_contained nested content f ≡ true →
@@ -89,15 +78,15 @@ cuts nested x = record {
       (stands-text escaped refl) refl (later contained);
   voids = λ name attributes rest y tag later contained. (let parts = and_parts _ _ contained in
       cut-after nested x (written (Void name attributes Empty)) (Void name attributes rest) rest y
-      (stands-forest nested Flow (Void name attributes Empty) (and_from _ _ tag refl)
-      (and_from _ _ parts.0 refl)) (void-whole name attributes rest) (later parts.1));
+      (stands-forest nested Flow (Void name attributes Empty) (and_from _ _ tag refl) (and_from _ _
+      parts.0 refl)) (simp append_assoc) (later parts.1));
   rests = λ name attributes children rest y tag forest later contained. (let parts = and_parts _ _
       contained in
       cut-after nested x (opening_tag name attributes ++ written children ++ closing_tag name)
-      (Element name attributes children rest) rest y (subst (Stands nested Flow) (element-whole name
-      attributes children Empty ∙ append-nil _) (stands-forest nested Flow
-      (Element name attributes children Empty) (and_from _ _ (and_from _ _ tag forest) refl)
-      (and_from _ _ parts.0 refl))) (element-whole name attributes children rest) (later parts.1));
+      (Element name attributes children rest) rest y (subst (Stands nested Flow) ((simp
+      append_assoc) ∙ append-nil _) (stands-forest nested Flow (Element name attributes children
+      Empty) (and_from _ _ (and_from _ _ tag forest) refl) (and_from _ _ parts.0 refl))) (simp
+      append_assoc) (later parts.1));
   insides = λ name attributes children rest tag forest rests contained. (let parts = and_parts _ _
       contained in
       record {
@@ -112,7 +101,7 @@ cuts nested x = record {
         forest = forest;
         rest_forest = rests;
         rest_contained = parts.1;
-        whole = element-whole name attributes children rest;
+        whole = simp append_assoc;
         made = refl;
       });
 }
@@ -136,12 +125,6 @@ same-end [] (n ∷ b) c d x e f = not_both n (first_of e) (first_of f)
 same-end (m ∷ a) [] c d x e f = not_both m (sym (first_of e)) (sym (first_of f))
 same-end (m ∷ a) (n ∷ b) c d x e f = same-end a b c d x (rest_of e) (rest_of f)
 
--- the element whose end that is, is a paragraph
-paragraph-name : (nested : Bool) (name : List ℕ) (children : Forest) (endings rest : List ℕ) →
-    112 ∷ 62 ∷ endings ≡ name ++ (62 ∷ rest) → is_held nested Flow name children ≡ true →
-    name ≡ codes "p"
-paragraph-name nested name children endings rest e h = grind arith
-
 pub paragraph-takes : (nested : Bool) (before endings x : List ℕ) → is_line_ends endings ≡ true →
     Stands nested Flow (before ++ codes "</p>" ++ endings) → Stands nested Phrasing (32 ∷ x) →
     Stands nested Flow (before ++ (32 ∷ x) ++ codes "</p>" ++ endings)
@@ -160,8 +143,7 @@ paragraph-takes nested before endings x h s r =
     let ends : 47 ∷ 112 ∷ 62 ∷ endings ≡ close ++ written cut.rest = same-end before front
     (47 ∷ 112 ∷ 62 ∷ endings) (close ++ written cut.rest) x left right in
     let later : 112 ∷ 62 ∷ endings ≡ (cut.name ++ (62 ∷ [])) ++ written cut.rest = rest_of ends in
-    let is : cut.name ≡ codes "p" = paragraph-name nested cut.name cut.children endings
-    (written cut.rest) (later ∙ append_assoc cut.name (62 ∷ []) (written cut.rest)) cut.held in
+    let is : cut.name ≡ codes "p" = grind arith in
     let inside : Stands nested Phrasing (written cut.children) = stands-forest nested Phrasing
     cut.children cut.forest (rw is at cut.held) in
     subst (Stands nested Flow) (sym cut.made) (stands-join cut.front _ cut.front_stands (stands-join
@@ -173,20 +155,12 @@ paragraph-takes nested before endings x h s r =
     (written cut.children ++ (32 ∷ x)) (stands-join (written cut.children) (32 ∷ x) inside r)))
     (stands-forest nested Flow cut.rest cut.rest_forest cut.rest_contained)))
 
-sup-opens : (nested : Bool) → Opens nested (in_link nested) (in_link nested) (codes "sup")
-sup-opens nested = grind arith
-
--- an escaped text in a link
-linked-text : (nested : Bool) (x : List ℕ) → Escaped x → Stands nested (in_link nested) x
-linked-text nested x h = grind (arith, stands-text)
-
 pub backreferences-stand : (nested : Bool) (d : Document) (identifier : List ℕ) (number count : ℕ) →
     Stands nested Phrasing (backreferences d.context.options identifier number count)
-backreferences-stand nested d identifier number count = backreferences-read (read_in d).test
-    (record { text = linked-text nested; both = stands-join })
-    (record { text = λ x h. stands-text h refl; both = stands-join })
-    (stands-tag (in_link nested) refl) (stands-tag (in_link nested) (sup-opens nested)) identifier
-    number count
+backreferences-stand nested d identifier number count = backreferences-read (read_in d).test (record
+    { text = grind (arith, stands-text); both = stands-join })
+    (grind (arith, stands-text, stands-join)) (stands-tag (in_link nested) refl) (stands-tag
+    (in_link nested) (grind arith)) identifier number count
 
 -- a footnote's text
 body-prints : (nested : Bool) (d : Document) → IsWhite d.context.ending → (x back : List ℕ) →
@@ -203,10 +177,8 @@ item-prints nested d w footnotes h identifier =
     let number : ℕ = place_among (distinct d.context.calls) identifier in
     adds-item white_beside (takes-white refl) (takes-white refl) d.context w footnotes identifier
     (item-turns (turns-tag Flow refl) (note_id d.context identifier) refl (id-escaped
-    d.context.options (codes "fn-") identifier number refl)) (body-prints nested d w
-    (text_among footnotes identifier) (backs_of d.context identifier) (texts-among
-    (Stands nested Flow) stands-nothing footnotes identifier h) (backreferences-stand nested d
-    identifier number (count_of d.context.calls identifier)))
+    d.context.options (codes "fn-") identifier number refl))
+    (grind (arith, body-prints, texts-among, stands-nothing, backreferences-stand))
 
 -- the section's tag and its heading
 heading-turns : (nested : Bool) (label : List ℕ) → Escaped label → Turns (Stands nested Flow)
@@ -225,10 +197,8 @@ pub section-prints : (nested : Bool) (d : Document) → IsWhite d.context.ending
     d.context.options.gfm_footnote_label_tag_name ≡ None →
     d.context.options.gfm_footnote_label_attributes ≡ None → (footnotes : List Footnote) →
     AreFlow nested footnotes → Prints nested d Flow (section d.context footnotes)
-section-prints nested d w no_tag no_attributes footnotes h = adds-section white_beside
-    (takes-white refl) (takes-white refl) (takes-white refl) d.context w
-    ((turns-tag Items {name = codes "ol"} refl).tag [] refl refl) (heading-turns nested
-    (heading_label_of d.context.options)
-    (label-escaped d.context.options)) no_tag no_attributes stands-nothing footnotes (adds-all
-    (record { none = stands-nothing; both = stands-join }) (item-prints nested d w footnotes h)
-    (distinct d.context.calls))
+section-prints nested d w no_tag no_attributes footnotes h = adds-section white_beside (takes-white
+    refl) (takes-white refl) (takes-white refl) d.context w ((turns-tag Items {name = codes "ol"}
+    refl).tag [] refl refl) (heading-turns nested (heading_label_of d.context.options)
+    (label-escaped d.context.options)) no_tag no_attributes stands-nothing footnotes
+    (grind (arith, adds-all, stands-nothing, stands-join, item-prints))

@@ -1,6 +1,5 @@
 -- What holds of the text of each content, in which surroundings it stands and after which names.
-use Rattle.std.proofs.Common.{◌≡◌, ℕ, Bool, true, false, cond, List, [], ◌∷◌, ◌++◌, refl, ap}
-use Rattle.std.proofs.Common.{arith}
+use Rattle.std.proofs.Common.{◌≡◌, ℕ, Bool, true, false, cond, List, [], ◌∷◌, ◌++◌, refl, ap, arith}
 use Rattle.std.specs.List.{list_any}
 use Rattle.std.proofs.lemmas.Bool.{cond_both}
 use Rattle.md_base.specs.declared.event.Name.{Name}
@@ -46,10 +45,6 @@ abbrev pub is_first : Content → Bool
 is_first FirstFence = true
 is_first FirstMathFence = true
 is_first _ = false
-
-pub holds-nothing : (p : Claim) (escaping in_image : Bool) (content : Content) →
-    is_first content ≡ false → Holds p escaping in_image content []
-holds-nothing p escaping in_image content h = grind arith
 
 -- what stays after each name stays after nodes
 pub stays-after : (Q : Content → Type 0) → ((content : Content) (name : Name) → Q content → Q

@@ -1,7 +1,7 @@
 -- How often an id stands in what is printed: what is claimed of texts and of footnotes. What a node
 -- costs: how often an id stands in what it prints, as often as calls have it at most.
-use Rattle.std.proofs.Common.{◌≡◌, ℕ, ◌+◌, ◌≤◌, Bool, true, false, List, [], ◌∷◌, ◌++◌}
-use Rattle.std.proofs.Common.{refl, subst, arith, codes, append-nil}
+use Rattle.std.proofs.Common.{append_assoc, ◌≡◌, ℕ, ◌+◌, ◌≤◌, Bool, true, false, List, [], ◌∷◌}
+use Rattle.std.proofs.Common.{◌++◌, refl, subst, arith, codes, append-nil}
 use Rattle.std.specs.Prelude.{unwrap_or}
 use Rattle.md_text.specs.References.{read_back}
 use Rattle.md_text.specs.Html.{Attribute, is_tag, elements, any_attribute}
@@ -15,7 +15,7 @@ use Rattle.md_text.specs.declared.options.CompileOptions.{CompileOptions}
 use Rattle.md_meaning.specs.Meaning.At.{Footnote, Context, Before, At, identifier_of}
 use Rattle.md_safe.proofs.Tags.{Claim, reading, IsTest, attribute}
 use Rattle.md_safe.proofs.Texts.{Escaped}
-use Rattle.md_safe.proofs.Calls.{a_call, call_text, call-regrouped}
+use Rattle.md_safe.proofs.Calls.{a_call, call_text}
 use Rattle.md_base.specs.declared.event.Name.{Name}
 use Rattle.md_base.specs.declared.event.Name.TheVariants as name_variants
 use name_variants.{GfmFootnoteDefinition, GfmFootnoteCall}
@@ -103,8 +103,7 @@ counts-call w v id n h g k =
     (a_call v id h g) own (counts-plain w n (text (is_without w) n k)) in
     let outer : Counts w (0 + (hit + 0)) (codes "<sup>" ++ (link ++ codes "</sup>")) =
     counted-element w (hit + 0) 0 (codes "sup") [] link refl (omega arith) inner in
-    counts-more w _ _ _ (omega arith) (subst (Counts w (0 + (hit + 0))) (call-regrouped v id n)
-    outer)
+    counts-more w _ _ _ (omega arith) (subst (Counts w (0 + (hit + 0))) (simp append_assoc) outer)
 
 -- the heading of the section has its id
 pub counts-heading : (w label : List ℕ) → Escaped label → Counts w
@@ -242,8 +241,3 @@ pub through-node : (context : Context) (t : At) (name : Name) (inner : Outcome) 
       slurps = (node context t name inner).slurps;
     }
 through-node context t name inner is same = grind arith
-
-pub through-spent : (d : Document) (w : List ℕ) (p : Place) (name : Name) (waits : Bool) (m : ℕ) →
-    is_transparent name ≡ true → Below d w p name waits m →
-    Costs d w p.before m (waits_after waits p.children) (here_of d p name)
-through-spent d w p name waits m is b = grind (arith, through-node, append-nil)

@@ -2,22 +2,21 @@
 -- often an id stands in what nodes mean: at most so often as calls in them have it. The induction
 -- is over blocks alone and adds what each node costs; of other contents that of `Forests.antt` is
 -- enough.
-use Rattle.std.proofs.Common.{◌≡◌, ℕ, suc, ◌+◌, Bool, true, false, not, List, [], ◌∷◌, ◌++◌, refl}
-use Rattle.std.proofs.Common.{arith, codes, cond, ap, ◌∙◌, subst}
+use Rattle.std.proofs.Common.{append-nil, ◌≡◌, ℕ, suc, ◌+◌, Bool, true, false, not, List, [], ◌∷◌}
+use Rattle.std.proofs.Common.{◌++◌, refl, arith, codes, cond, ap, ◌∙◌, subst}
 use Rattle.std.specs.Fmt.{decimal}
-use Rattle.std.proofs.lemmas.Bool.{cond_both, or_parts, cond_both}
-use Rattle.md_base.proofs.Lies.{lie}
+use Rattle.std.proofs.lemmas.Bool.{cond_both, or_parts}
 use Rattle.md_base.specs.declared.event.Name.{Name}
 use Rattle.md_base.specs.declared.event.Name.TheVariants as name_variants
 use name_variants.{HeadingSetextText, HeadingSetextUnderlineSequence, GfmFootnoteDefinition}
 use name_variants.{GfmFootnoteCall}
-use Rattle.md_base.specs.Tree.{Forest, Forest, Empty, Node}
+use Rattle.md_base.specs.Tree.{Forest, Empty, Node}
 use Rattle.md_base.specs.Children.{spine_names, or_else}
 use Rattle.md_text.specs.References.{read_back}
 use Rattle.md_text.proofs.HtmlIds.{occurs, Counts, counts-more, counts-join}
 use Rattle.md_meaning.specs.Meaning.At.{identifier_of, Before, At}
 use Rattle.md_meaning.specs.Meaning.Footnotes.{distinct, place_among, count_of, id_of, call_id}
-use Rattle.md_meaning.specs.Meaning.Layout.{Piece, layout}
+use Rattle.md_meaning.specs.Meaning.Layout.{Piece}
 use Rattle.md_meaning.specs.Meaning.Blocks.{underline_rank}
 use Rattle.md_meaning.specs.Meaning.Spans.{is_at}
 use Rattle.md_content.specs.Underlined.{is_underline, waits_past, waits_after, IsUnderlined}
@@ -26,13 +25,13 @@ use Rattle.md_safe.proofs.Texts.{decimal-escaped}
 use Rattle.md_safe.proofs.Laid.{Adds, adds-nothing, adds-text, adds-alone, adds-append}
 use Rattle.md_safe.proofs.Tags.{adds-flat}
 use Rattle.md_safe.proofs.Calls.{id-escaped, call_id-escaped, call_tags}
-use Rattle.md_safe.proofs.Insides.{is_blocks, is_blocks, is_blocks-same}
+use Rattle.md_safe.proofs.Insides.{is_blocks, is_blocks-same}
 use Rattle.md_safe.proofs.Spot.{Setting}
 use Rattle.md_safe.proofs.FlowNodes.{setext-fits}
-use Rattle.md_safe.proofs.Costs.{counts-call, Waiting, texts-append, Document, Costs, Place}
-use Rattle.md_safe.proofs.Costs.{inner_of, here_of, Below, cost-least, counts-none, no-footnote}
-use Rattle.md_safe.proofs.Costs.{counted_in, at_of, cost-parts, read_in, due-append, inner_around}
-use Rattle.md_safe.proofs.Costs.{inner_before, through-spent, place_at}
+use Rattle.md_safe.proofs.Costs.{through-node, counts-call, Waiting, texts-append, Document, Costs}
+use Rattle.md_safe.proofs.Costs.{Place, inner_of, here_of, Below, cost-least, counts-none}
+use Rattle.md_safe.proofs.Costs.{no-footnote, counted_in, at_of, cost-parts, read_in, due-append}
+use Rattle.md_safe.proofs.Costs.{inner_around, inner_before, place_at}
 use Rattle.md_safe.proofs.PlainCosts.{is_special, Stands, IsPlain, around-blocks, around-others}
 use Rattle.md_safe.proofs.FlowCases.{heading-node}
 use Rattle.md_safe.proofs.ReadingNodes.{reads}
@@ -71,16 +70,7 @@ footnote d w p m b = record {
   notes = b.notes + b.body;
   prints = adds-nothing (counts-none w);
   heading = tt;
-  texts = texts-append w b.notes b.body (inner_of d p GfmFootnoteDefinition).footnotes (record {
-    identifier = identifier_of d.context.bytes p.children;
-    text = layout d.context.ending (inner_of d p GfmFootnoteDefinition).pieces;
-  } ∷ []) b.texts (
-    b.body,
-    0,
-    omega arith,
-    adds-alone b.prints,
-    tt,
-  );
+  texts = grind (arith, texts-append, adds-alone);
   few = omega (b.few, cost-least d w p GfmFootnoteDefinition, arith);
 }
 
@@ -142,11 +132,7 @@ pub special-spent : (d : Document) (w : List ℕ) (p : Place) (name : Name) (wai
     is_special name ≡ true → IsAwaited waits name p.children → Waiting w waits m p.before.heading →
     BelowBlocks d w p name false 0 → Costs d w p.before m (waits_past waits name) (here_of d p name)
 special-spent d w p HeadingSetextText waits m is awaited h b = setext_text d w p m (b refl)
-special-spent d w p HeadingSetextUnderlineSequence waits m is awaited h b =
-    underline d w p m (rw (awaited refl).0 at h) (b refl)
-special-spent d w p GfmFootnoteCall waits m is awaited h b = call d w p m (b refl)
-special-spent d w p GfmFootnoteDefinition waits m is awaited h b = footnote d w p m (b refl)
-special-spent d w p _ waits m is awaited h b = lie is
+special-spent d w p name waits m is awaited h b = grind (arith, underline, call, footnote)
 
 -- what is known where some nodes stand: blocks, each underline where a heading waits for it
 pub record Fits (d : Document) (around : Surroundings) (before : Before) (waits : Bool)
@@ -181,11 +167,8 @@ node-spent : {d : Document} {w : List ℕ} {p : Place} {name : Name} {waits : Bo
     (waits_past waits name)) (here_of d p name)
 node-spent {d} {w} {p} {name} {waits} {m} k h awaited b = cond_both (is_transparent name)
     (waits_after waits p.children) (waits_past waits name) (λ after. Costs d w p.before m after
-    (here_of d p name))
-    (λ e. through-spent d w p name waits m e (subst (λ t. Below d w p name (cond t waits false)
-    (cond t m 0)) e (b (ap (λ b. is_blocks (cond b Blocks (content_of name Blocks))) e))))
-    (λ e. solid-spent waits (k e) awaited h (subst (λ t. BelowBlocks d w p name (cond t waits false)
-    (cond t m 0)) e b))
+    (here_of d p name)) (λ e. grind (arith, through-node, append-nil)) (λ e. solid-spent waits (k e)
+    awaited h (subst (λ t. BelowBlocks d w p name (cond t waits false) (cond t m 0)) e b))
 
 pub spent : (d : Document) (w : List ℕ) (forest : Forest) (around : Surroundings) (before : Before)
     (waits : Bool) (m : ℕ) → Fits d around before waits forest → Waiting w waits m before.heading →
@@ -214,23 +197,11 @@ spent d w (Node name start end children rest) around before waits m f h =
     (content_inside Blocks name) f.built.2 within in
     let own : AreFound (read_in d) Blocks here.found = found-at t name (inner_of d p name).pieces
     f.built.0 f.built.1 f.ready.suits f.built.2 known.prints known.found in
-    let k : is_transparent name ≡ false → Stands d p name = λ solid. record {
-      solid = solid;
-      whole = not_part _ (second _ _ solid f.built.0);
-      stands = f.built.0;
-      fit = f.built.1;
-      built = f.built.2;
-      ready = f.ready;
-      within = within;
-      known = known;
-    } in
+    let k : is_transparent name ≡ false → Stands d p name = grind (arith, not_part, second) in
     let one : Costs d w before m waits' here = node-spent k h f.underlined.0 (λ is. spent d w
     children (inner_around d p name) (inner_before p name) (cond (is_transparent name) waits false)
-    (cond (is_transparent name) m 0) (record {
-      built = rw (is_blocks-same (content_inside Blocks name) is) at f.built.2;
-      ready = rw (is_blocks-same (content_inside Blocks name) is) at within;
-      underlined = f.underlined.1;
-    }) (heading-inside (is_transparent name) waits m before.heading h)) in
+    (cond (is_transparent name) m 0) (grind (arith, is_blocks-same)) (heading-inside (is_transparent
+    name) waits m before.heading h)) in
     let later : Costs d w next one.left (waits_after waits' rest) others = spent d w rest around
     next waits' one.left (record {
       built = rw (after-blocks name children) at f.built.3;

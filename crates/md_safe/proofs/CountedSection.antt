@@ -4,7 +4,6 @@ use Rattle.std.proofs.Common.{refl, sym, ap, subst, arith, append_assoc, codes, 
 use Rattle.std.specs.Prelude.{Some, find}
 use Rattle.std.specs.Option.{option_map_or}
 use Rattle.std.proofs.lemmas.Bool.{or_parts, cond_both}
-use Rattle.md_text.specs.Html.{any_attribute}
 use Rattle.md_text.proofs.HtmlJoin.{join}
 use Rattle.md_base.specs.Tree.{Forest}
 use Rattle.md_text.specs.References.{read_back}
@@ -28,8 +27,8 @@ use Rattle.md_safe.proofs.Calls.{label-escaped, id-escaped}
 use Rattle.md_safe.proofs.Spot.{Setting, Prints}
 use Rattle.md_safe.proofs.Section.{turn-after, li_id, item-prints, section-around, text_among}
 use Rattle.md_safe.proofs.Section.{heading_label_of}
-use Rattle.md_safe.proofs.Costs.{counts-heading, TextsCount, Document, counted_in, read_in}
-use Rattle.md_safe.proofs.Costs.{counts-none, Costs}
+use Rattle.md_safe.proofs.Costs.{counts-heading, TextsCount, Document, counted_in, counts-none}
+use Rattle.md_safe.proofs.Costs.{Costs}
 use Rattle.md_safe.proofs.BlockNodes.{holds-none}
 use Rattle.md_safe.proofs.CountedForest.{spent}
 use Rattle.md_safe.proofs.NumberedIds.{ids_after}
@@ -82,13 +81,7 @@ for-one w m k footnote footnotes (identifier ∷ others) apart own h =
       for-others w h.1 footnote footnotes others
           (subst (λ x. is_in x others ≡ false)
           (sym (same footnote.identifier identifier e)) apart.0) h.4,
-    )) (λ _. (
-      h.0,
-      m + h.1,
-      omega (h.2, arith),
-      h.3,
-      for-one w m h.1 footnote footnotes others apart.1 own h.4,
-    ))
+    )) (grind (arith, for-one w m h.1 footnote footnotes others apart.1 own h.4))
 
 texts-for : (w : List ℕ) (n : ℕ) (footnotes : List Footnote) (identifiers : List (List ℕ)) →
     Apart identifiers →
@@ -163,17 +156,8 @@ pub document-counts : (d : Document) (w : List ℕ) (document : Forest) →
     nothing_before document).footnotes))
 document-counts d w document keeps built underlined called =
     let all : Outcome = outcome d.context outermost nothing_before document in
-    let b : Costs d w nothing_before 0 (waits_after false document) all = spent d w document
-    outermost nothing_before false 0 (record {
-      built = built;
-      ready = record {
-        suits = blocks-suit;
-        follows = tt;
-        whole = λ _. record { both = join any_attribute; ids = λ value. refl };
-        heading = λ _. holds-none (read_in d);
-      };
-      underlined = underlined;
-    }) tt in
+    let b : Costs d w nothing_before 0 (waits_after false document) all =
+    grind (arith, spent, blocks-suit, join, holds-none) in
     let noted : ℕ = occurs w (note_ids d.context.options d.context.calls (distinct d.context.calls))
     in
     let rest : ℕ = occurs w label_id + (noted + b.notes) in

@@ -1,15 +1,14 @@
 -- The tags of blocks, of code, of tasks, of lists and of cells around what they hold: each keeps
 -- the claim.
-use Rattle.std.proofs.Common.{◌≡◌, ◌⊎◌, ℕ, ◌≤◌, ◌<◌, ◌==◌, Bool, true, false, not, cond, List}
-use Rattle.std.proofs.Common.{[], ◌∷◌, ◌++◌, refl, ap, inl, inr, arith}
-use Rattle.std.proofs.Common.{append_assoc, codes}
-use Rattle.std.specs.Prelude.{Option, Some, None, bytes_eq, Option, Some, None}
+use Rattle.std.proofs.Common.{◌≡◌, ◌⊎◌, ℕ, ◌≤◌, ◌==◌, Bool, true, false, not, cond, List, [], ◌∷◌}
+use Rattle.std.proofs.Common.{◌++◌, refl, ap, inl, inr, arith, append_assoc, codes}
+use Rattle.std.specs.Prelude.{Option, Some, None, bytes_eq}
 use Rattle.std.specs.Option.{option_map_or}
-use Rattle.std.specs.List.{list_all, flat_map, list_all}
+use Rattle.std.specs.List.{list_all, flat_map}
 use Rattle.std.specs.Fmt.{decimal}
 use Rattle.std.proofs.lemmas.Bool.{agree_below}
 use Rattle.md_base.specs.declared.event.Position.{Position}
-use Rattle.md_text.specs.Html.{Attribute, Attribute}
+use Rattle.md_text.specs.Html.{Attribute}
 use Rattle.md_text.specs.declared.options.CompileOptions.{CompileOptions}
 use Rattle.md_meaning.specs.Meaning.Layout.{Piece, Text, Needed, Forced, said, on_own_line, when}
 use Rattle.md_meaning.specs.Meaning.At.{Context, At, text_in}
@@ -17,9 +16,9 @@ use Rattle.md_meaning.specs.Meaning.Finds.{number_in_list}
 use Rattle.md_meaning.specs.Meaning.Blocks.{list_start, without_zeros}
 use Rattle.md_content.specs.Built.{is_digit}
 use Rattle.md_safe.proofs.Texts.{Escaped, zeros-escaped}
-use Rattle.md_safe.proofs.Tags.{IsTest, attribute, IsFramed, Turns, TurnsTag}
-use Rattle.md_safe.proofs.Tags.{Single, Takes, adds-turned, adds-flat, framed-text}
-use Rattle.md_safe.proofs.Tags.{framed-needed, framed-forced, adds-framed_flat, Tagged}
+use Rattle.md_safe.proofs.Tags.{IsTest, attribute, IsFramed, Turns, TurnsTag, Single, Takes}
+use Rattle.md_safe.proofs.Tags.{adds-turned, adds-flat, framed-text, framed-needed, framed-forced}
+use Rattle.md_safe.proofs.Tags.{adds-framed_flat, Tagged}
 use Rattle.md_safe.proofs.Laid.{Adds, adds-append, adds-needed, IsBeside, adds-all, adds-nothing}
 use Rattle.md_base.specs.declared.event.AlignKind.{AlignKind}
 use Rattle.md_base.specs.declared.event.AlignKind.TheVariants as align

@@ -1,6 +1,6 @@
 -- The nodes of code and math in lines print what may stand there: fences, and lines between them.
 use Rattle.std.proofs.Common.{◌≡◌, ℕ, Bool, true, false, not, List, [], ◌∷◌, ◌++◌, refl, sym, arith}
-use Rattle.std.proofs.Common.{ap, ◌∙◌, inl, append_assoc, append-nil, codes}
+use Rattle.std.proofs.Common.{ap, append_assoc, append-nil, codes}
 use Rattle.std.specs.List.{list_any}
 use Rattle.md_base.proofs.Lies.{lie}
 use Rattle.md_base.specs.declared.event.Name.{Name}
@@ -11,8 +11,7 @@ use Rattle.md_meaning.specs.Meaning.At.{Context, At}
 use Rattle.md_meaning.specs.Meaning.Before.{is_first_fence}
 use Rattle.md_meaning.specs.Meaning.Layout.{Piece, said, when}
 use Rattle.md_meaning.specs.Meaning.Means.{prints}
-use Rattle.md_content.specs.Built.{Content, FirstFence, FirstMathFence, Chunks, InfoAndMeta}
-use Rattle.md_content.specs.Built.{MetaAlone, Nothing, is_line, is_fence, is_code_fence}
+use Rattle.md_content.specs.Built.{Content, FirstFence, FirstMathFence, Chunks, is_code_fence}
 use Rattle.md_content.specs.Built.{is_math_fence, may_stand, content_of}
 use Rattle.md_safe.proofs.Texts.{Escaped}
 use Rattle.md_safe.proofs.Laid.{adds-append, adds-text, adds-weaker}
@@ -22,7 +21,6 @@ use Rattle.md_safe.proofs.Insides.{allowed_inside}
 use Rattle.md_safe.proofs.Following.{same_fence}
 use Rattle.md_safe.proofs.Spot.{Setting, IsFitAt, Prints, Inside}
 use Rattle.md_safe.proofs.FlowNodes.{line-escaped}
-use Rattle.md_safe.proofs.Cases.{either}
 
 abbrev pub IsNil : List ℕ → Type 0
 IsNil x = x ≡ []
@@ -44,15 +42,6 @@ fence-prints : (context : Context) (t : At) (name : Name) → fence_name name �
     (is_first_fence t) (said (codes ">"))
 fence-prints context t name is inner = grind arith
 
-in-code : (name : Name) → is_code_fence name ≡ true → content_of name FirstFence ≡ InfoAndMeta
-in-code name is = grind arith
-
-in-math : (name : Name) → is_math_fence name ≡ true → content_of name FirstMathFence ≡ MetaAlone
-in-math name is = grind arith
-
-in-chunks : (name : Name) → fence_name name ≡ true → content_of name Chunks ≡ Nothing
-in-chunks name is = grind arith
-
 -- the pieces of the children, if the content of the node is known
 pub inside-is : (s : Setting) (t : At) (content allowed_inside : Content) (name : Name)
     (inner : List Piece) →
@@ -66,29 +55,17 @@ pub code_fence-node : (s : Setting) (t : At) (name : Name) →
     (inner rest : List Piece) → Inside s t FirstFence name inner → Prints s Escaped rest →
     Prints s (IsRaw code_tag) (prints s.context t name inner ++ rest)
 code_fence-node s t name e is inner rest a b =
-    rw (fence-prints s.context t name ((allowed_inside FirstFence name is).fence refl) inner)
-    (begun s (list_any fence_name t.before.spine) (raw code_tag) e (inside-is s t FirstFence
-    InfoAndMeta name inner (in-code name is) a) b)
+    grind (arith, fence-prints, allowed_inside, begun, raw, inside-is)
 
 pub math_fence-node : (s : Setting) (t : At) (name : Name) →
     list_any fence_name t.before.spine ≡ false → is_math_fence name ≡ true →
     (inner rest : List Piece) → Inside s t FirstMathFence name inner → Prints s Escaped rest →
     Prints s (IsRaw math_tag) (prints s.context t name inner ++ rest)
 math_fence-node s t name e is inner rest a b =
-    rw (fence-prints s.context t name ((allowed_inside FirstMathFence name is).fence refl) inner)
-    (begun s (list_any fence_name t.before.spine) (λ x y f h. raw math_tag x y (inl f) h) e
-    (inside-is s t FirstMathFence MetaAlone name inner (in-math name is) a) b)
-
--- a later fence prints nothing
-closed : (s : Setting) (has_fence : Bool) {inner : List Piece} → has_fence ≡ true →
-    Prints s IsNil inner → Prints s Escaped (inner ++ when (not has_fence) (said (codes ">")))
-closed s has_fence e a = grind (arith, append-nil, adds-weaker)
+    grind (arith, fence-prints, allowed_inside, begun, raw, inside-is)
 
 pub line-node : (s : Setting) (t : At) (name : Name) → list_any fence_name t.before.spine ≡ true →
     may_stand Chunks name ≡ true → IsFitAt s t name → (inner : List Piece) →
     Inside s t Chunks name inner → Prints s Escaped (prints s.context t name inner)
-line-node s t name e is fit inner a = either (is_line name) (is_fence name) is
-    (λ is. line-escaped s t name is fit inner) (λ is.
-    let fence : fence_name name ≡ true = sym (same_fence name) ∙ is in
-    rw (fence-prints s.context t name fence inner) (closed s (list_any fence_name t.before.spine) e
-    (inside-is s t Chunks Nothing name inner (in-chunks name fence) a)))
+line-node s t name e is fit inner a =
+    grind (arith, line-escaped, same_fence, fence-prints, append-nil, adds-weaker)

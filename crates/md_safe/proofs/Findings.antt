@@ -1,12 +1,11 @@
 -- What is found where a node stands is good: a heading's text, titles, and the texts of footnotes.
 use Rattle.std.proofs.Common.{◌≡◌, ℕ, Bool, true, ◌||◌, List, [], ◌∷◌, ◌++◌, arith}
 use Rattle.std.specs.Prelude.{Option}
-use Rattle.std.proofs.lemmas.Bool.{or_left, or_right}
 use Rattle.md_base.proofs.Lies.{lie}
 use Rattle.md_base.specs.declared.event.Name.{Name}
 use Rattle.md_base.specs.declared.event.Name.TheVariants as name_variants
-use name_variants.{Other, BlockQuotePrefix, SpaceOrTab, HeadingSetextText, DefinitionTitleString}
-use name_variants.{GfmFootnoteDefinition, Resource, ResourceTitleString}
+use name_variants.{HeadingSetextText, DefinitionTitleString, GfmFootnoteDefinition}
+use name_variants.{ResourceTitleString}
 use Rattle.md_base.specs.Is.{is as named}
 use Rattle.md_base.specs.NameTests.{is_transparent}
 use Rattle.md_meaning.specs.Meaning.At.{Defined, Footnote, Found, At}
@@ -15,7 +14,7 @@ use Rattle.md_meaning.specs.Meaning.Nodes.{found_at}
 use Rattle.md_content.specs.Built.{Content, may_stand, content_inside, IsBuilt}
 use Rattle.md_safe.proofs.Media.{IsEscapedTitle}
 use Rattle.md_safe.proofs.Contents.{Holds}
-use Rattle.md_safe.proofs.Insides.{is_blocks, asks_escaping, Suits, is_blocks-same}
+use Rattle.md_safe.proofs.Insides.{is_blocks, Suits, is_blocks-same}
 use Rattle.md_safe.proofs.Spot.{Setting, AreTitles, IsGoodTarget, IsFitAt}
 use Rattle.md_safe.proofs.FlowNodes.{Reads}
 use Rattle.md_safe.proofs.Nodes.{inside-alone, Before as PrintsBefore}
@@ -27,17 +26,6 @@ blocks-read : (s : Setting) (escaping in_image : Bool) (content : Content) →
     is_blocks content ≡ true →
     (x : List ℕ) → Holds s.p escaping in_image content x → Reads s x
 blocks-read s escaping in_image content is x h = rw (is_blocks-same content is) at h
-
--- a footnote stands among blocks
-note-blocks : (content : Content) → may_stand content GfmFootnoteDefinition ≡ true →
-    is_blocks content ≡ true
-note-blocks content h = grind arith
-
--- where a title may stand, special characters are escaped
-title-asks : (content : Content) →
-    (may_stand content DefinitionTitleString || may_stand content ResourceTitleString) ≡ true →
-    asks_escaping content ≡ true
-title-asks content s = grind arith
 
 -- a heading's text that was found is as claimed
 abbrev pub IsRead : Setting → Option (List ℕ) → Type 0
@@ -90,26 +78,21 @@ found-node {s} {content} {inner} t HeadingSetextText i = record {
 found-node {s} {content} {inner} t DefinitionTitleString i = record {
   heading = λ _. tt;
   title = adds-alone (inside-alone s t content DefinitionTitleString i.stands i.fit i.built inner
-      i.before) (i.suits.escaped (title-asks content (or_left _ _ i.stands)));
+      i.before) (i.suits.escaped (grind arith));
   resource = tt;
 }
 found-node {s} {content} {inner} t ResourceTitleString i = record {
   heading = λ _. tt;
   title = adds-alone (inside-alone s t content ResourceTitleString i.stands i.fit i.built inner
-      i.before) (i.suits.escaped (title-asks content (or_right _ _ i.stands)));
+      i.before) (i.suits.escaped (grind arith));
   resource = tt;
 }
-found-node t Resource i = record { heading = λ _. tt; title = tt; resource = i.found.title }
-found-node t (Other number) i = i.found
-found-node t BlockQuotePrefix i = i.found
-found-node t SpaceOrTab i = i.found
-found-node t _ i = record { heading = λ _. tt; title = tt; resource = tt }
+found-node t name i = grind arith
 
 -- the text of a footnote that is the node
 pub note-node : {s : Setting} {content : Content} {inner : List Piece} (t : At) (name : Name) →
     Inner s t content name inner → named GfmFootnoteDefinition name ≡ true →
     Reads s (layout s.context.ending inner)
 note-node {s = s} {content = content} {inner = inner} t GfmFootnoteDefinition i is = blocks-read s _
-    _ _ (note-blocks _ i.stands) _ (adds-alone
-    (inside-alone s t _ _ i.stands i.fit i.built _ i.before))
+    _ _ (grind arith) _ (adds-alone (inside-alone s t _ _ i.stands i.fit i.built _ i.before))
 note-node t _ i is = lie is

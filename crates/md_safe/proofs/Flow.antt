@@ -1,24 +1,23 @@
 -- Flow content is built as it is read: blocks, lists, preformatted code, and among them
 -- spans and tables.
-use Rattle.std.proofs.Common.{◌≡◌, ◌⊎◌, inl, inr, ℕ, ◌≤◌, suc, true, false, List, ◌∷◌, refl}
-use Rattle.std.proofs.Common.{sym, ap, ◌∙◌, codes, arith}
+use Rattle.std.proofs.Common.{◌≡◌, ◌⊎◌, inl, inr, ℕ, ◌≤◌, suc, true, false, List, ◌∷◌, refl, sym}
+use Rattle.std.proofs.Common.{ap, ◌∙◌, codes, arith}
 use Rattle.std.specs.Prelude.{Some}
 use Rattle.std.proofs.lemmas.Bool.{and_parts, or_cases}
 use Rattle.std.proofs.lemmas.Slice.Eq.{bytes_eq-Decides}
 use Rattle.md_base.proofs.Lies.{lie}
-use Rattle.md_text.specs.Bytes.{is_one_of}
 use Rattle.md_text.specs.Html.{Attribute, Forest, Empty, Text, Void, Element}
 use Rattle.md_safe.specs.Token.{StartTag, TokenAttribute}
 use Rattle.md_safe.specs.Tokens.{seen, seen_attributes}
-use Rattle.md_safe.specs.Contents.{Content, elements_in, voids_in}
-use Rattle.md_safe.specs.Contents.{is_contained}
+use Rattle.md_text.specs.Bytes.{is_one_of}
+use Rattle.md_safe.specs.Contents.{voids_in, Content, elements_in, is_contained}
 use Rattle.md_safe.specs.Node.{Nodes, Entry, with_element, Empty as NoNode}
 use Rattle.md_safe.specs.Elements.{headings}
 use Rattle.md_safe.specs.Stack.{is_among}
 use Rattle.md_safe.specs.InBody.{has_item}
 use Rattle.md_safe.specs.InTable.{mode_for}
 use Rattle.md_safe.specs.Construction.{step}
-use Rattle.md_safe.specs.Built.{has_whole_texts, with_characters, put, has_none_active}
+use Rattle.md_safe.specs.Built.{has_whole_texts, with_characters, put}
 use Rattle.md_safe.proofs.Lists.{Keeps, keeps-all}
 use Rattle.md_safe.proofs.TreeSteps.{Position, parser_of, with_children, within, start-in-body}
 use Rattle.md_safe.proofs.PhrasingNames.{Here, Done, Passed, found, is_free, IsVoid, void-named}
@@ -27,8 +26,8 @@ use Rattle.md_safe.proofs.PhrasingRules.{is_inline, here-within}
 use Rattle.md_safe.proofs.Phrasing.{span-passes, phrasing-done, here-after, none-done, text-done}
 use Rattle.md_safe.proofs.Phrasing.{void-done, element-done, text-escaped, element-parts}
 use Rattle.md_safe.proofs.Tables.{table-passes}
-use Rattle.md_safe.proofs.FlowRules.{IsBlock, HasNoParagraph, block-passes, pre-passes}
-use Rattle.md_safe.proofs.FlowRules.{is_items, Holder, EndsItems, is_flowing, Ruled, flowing-rules}
+use Rattle.md_safe.proofs.FlowRules.{IsBlock, HasNoParagraph, block-passes, pre-passes, is_items}
+use Rattle.md_safe.proofs.FlowRules.{Holder, EndsItems, is_flowing, Ruled, flowing-rules}
 
 -- ---- all flow content
 
@@ -126,10 +125,9 @@ flow-done (Text bytes rest) content is h c x there =
 flow-done (Void name attributes rest) content is h c x there =
     let parts = and_parts _ _ c in
     let next : Nodes = with_element x.node.children name (seen_attributes attributes) NoNode in
-    void-done (flow-void-step (seen_attributes attributes) (flow-void content name is parts.0)
-    there.here there.no_p) (flow-done rest content is h parts.1
-    (with_children x next x.active (suc x.created))
-    (there-after (keeps-all x.active) (omega arith) there))
+    void-done (grind (arith, flow-void-step, flow-void)) (flow-done
+    rest content is h parts.1 (with_children x next x.active (suc x.created)) (there-after
+    (keeps-all x.active) (omega arith) there))
 flow-done (Element name attributes inner rest) content is h c x there =
     let forests = element-parts name attributes inner rest h in
     let parts = and_parts _ _ c in
@@ -144,8 +142,3 @@ flow-done (Element name attributes inner rest) content is h c x there =
     (put NoNode inner) in
     element-done passed (flow-done rest content is forests.1 parts.1
     (with_children x next passed.left passed.more) (there-after passed.keeps passed.later there))
-
--- where no formatting element is active, none is taken away
-pub kept-none : (active left : List Entry) → has_none_active active ≡ true →
-    Keeps active left → left ≡ active
-kept-none active left h k = grind arith

@@ -32,24 +32,22 @@ use Rattle.md_text.specs.Html.{Attribute, elements, is_tag, opening_tag}
 use Rattle.md_safe.proofs.Cases.{either, cases}
 use Rattle.md_safe.proofs.Elements.{adds-cell_in, adds-ordered, class-passes, code_closing}
 use Rattle.md_safe.proofs.Elements.{heading_name, item-end, ranked}
-use Rattle.md_safe.proofs.Claims.{Claims, Known, NodePrints, Own, Prints, alone}
-use Rattle.md_safe.proofs.Claims.{block-pair, ending-around, lined, nothing, plain_tag, turned}
+use Rattle.md_safe.proofs.Claims.{Claims, Known, NodePrints, Own, Prints, alone, block-pair}
+use Rattle.md_safe.proofs.Claims.{ending-around, lined, nothing, plain_tag, turned}
 use Rattle.md_safe.proofs.Contents.{Holds}
 use Rattle.md_safe.proofs.FenceNodes.{inside-is}
-use Rattle.md_safe.proofs.FlowNodes.{in-raw, is_flow, is_math, line-escaped, raw-prints, raw_tag}
+use Rattle.md_safe.proofs.FlowNodes.{is_flow, is_math, line-escaped, raw-prints, raw_tag}
 use Rattle.md_safe.proofs.FlowNodes.{setext-fits}
 use Rattle.md_safe.proofs.Insides.{is_raw}
 use Rattle.md_safe.proofs.Laid.{Adds, adds-alone, adds-text, adds-weaker, adds-when, adds-needed}
 use Rattle.md_safe.proofs.Linking.{is_spans, with_links}
-use Rattle.md_safe.proofs.RawElements.{IsInfo, IsRaw, adds-raw, code-end, code_tag}
-use Rattle.md_safe.proofs.RawElements.{fenced-end, info_regrouped}
+use Rattle.md_safe.proofs.RawElements.{IsInfo, IsRaw, adds-raw, code-end, code_tag, fenced-end}
 use Rattle.md_safe.proofs.SpanCases.{Spanning, inline-node, is_inline}
-use Rattle.md_safe.proofs.Stands.{is_spaced}
 use Rattle.md_safe.proofs.Tags.{Turns, adds-flat, attribute, framed-forced, framed-needed}
 use Rattle.md_safe.proofs.Tags.{framed-text, turns-two}
-use Rattle.md_safe.specs.Contents.{Cells, Characters, Content, Flow, Items, Linked, Parts, Phrasing}
+use Rattle.md_safe.specs.Contents.{Cells, Characters, Content, Flow, Items, Parts, Phrasing}
 use Rattle.md_safe.specs.Contents.{Preformatted, Rows, held_in}
-use Rattle.md_safe.specs.Placed.{Ending, may_stand, sort_of, is_inner}
+use Rattle.md_safe.specs.Placed.{may_stand, sort_of, is_inner}
 
 -- ---- headings
 
@@ -91,9 +89,9 @@ turns-code m attributes h a = turns-two (plain_tag m {held = Preformatted} {cont
 turns-info : (m : Claims) (math : Bool) (x : List ℕ) → IsInfo (raw_tag math) x →
     TurnsCode m (raw_tag math ++ (x ++ (62 ∷ [])))
 turns-info m false x (inl e) = rw e (turns-code m [] refl refl)
-turns-info m false x (inr e) = rw e.1 (subst (TurnsCode m) (info_regrouped e.0) (turns-code m
-    (attribute (codes "class") (codes "language-" ++ e.0) ∷ []) (rw e.2 refl)
-    (class-passes m.s.test (codes "language-" ++ e.0))))
+turns-info m false x (inr e) = rw e.1 (subst (TurnsCode m) (simp append_assoc) (turns-code m
+    (attribute (codes "class") (codes "language-" ++ e.0) ∷ []) (rw e.2 refl) (class-passes m.s.test
+    (codes "language-" ++ e.0))))
 turns-info m true x (inl e) = rw e (turns-code m
     (attribute (codes "class") (codes "language-math math-display") ∷ []) refl
     (class-passes m.s.test (codes "language-math math-display")))
@@ -101,8 +99,8 @@ turns-info m true x (inr e) = lie (ap (λ tag. bytes_eq tag code_tag) e.3)
 
 raw-node : (m : Claims) (t : At) (name : Name) → is_raw name ≡ true → (inner : List Piece) →
     Known m t name inner → Prints m Flow (prints m.s.context t name inner)
-raw-node m t name is inner k = rw (raw-prints m.s.context t name is inner)
-    (by (is_math name) (inside-is m.s t Blocks _ name inner (in-raw name is) k.within))
+raw-node m t name is inner k = rw (raw-prints m.s.context t name is inner) (by (is_math name)
+    (inside-is m.s t Blocks _ name inner (grind arith) k.within))
   where
     around : Surroundings
     around = inside m.s.context.options (is_loose t.children) name t.around
@@ -180,25 +178,15 @@ flow-node m t name solid whole stands inner k a = either _ _ (covered name)
     (λ is. block-node m t name is inner k a) (λ c. either _ _ c (λ is. raw-node m t name is inner k)
     (λ is. lie (sym (outer name stands) ∙ is))))))
 
--- neither a block nor a part of another is a span
-no_block : (name : Name) → (is_block name || (is_raw name || is_inner (sort_of name))) ≡ true →
-    may_stand Phrasing (sort_of name) ≡ false
-no_block name is = grind arith
-
 spans-node : (m : Claims) (t : At) (content : Content) (name : Name) → is_transparent name ≡ false →
     (is_part name || is_source name) ≡ false → may_stand Phrasing (sort_of name) ≡ true →
     (inner : List Piece) → Known m t name inner → Own m content name inner →
     Spanning t content name → Prints m content (prints m.s.context t name inner)
 spans-node m t content name solid whole stands inner k a g = either _ _ (covered name)
     (λ is. lie (sym solid ∙ is)) (λ c. either _ _ c (λ is. lie (sym whole ∙ is)) (λ c. either _ _ c
-    (λ is. inline-node m t content name is inner k a g)
-    (λ c. lie (sym (no_block name c) ∙ stands))))
+    (λ is. inline-node m t content name is inner k a g) (λ c. lie (sym (grind arith) ∙ stands))))
 
 -- ---- lists, tables and code
-
--- where a line ending may stand, what may be around a text may
-ending-spaced : (content : Content) → may_stand content Ending ≡ true → is_spaced content ≡ true
-ending-spaced content stands = grind arith
 
 row-node : (m : Claims) (in_head : Bool) (kinds : List AlignKind) (inner : List Piece) →
     Prints m Cells inner → Prints m Rows (on_own_line (codes "<tr>") ++ (inner ++ (flat_map
@@ -234,10 +222,10 @@ inner-node m t Cells GfmTableCell other stands inner k a = adds-cell_in m.s.test
     (layout m.s.context.ending inner) (adds-alone {f = m.holds Phrasing} (a refl))
 inner-node m t Characters CodeFlowChunk other stands inner k a = adds-weaker
     (λ x h. m.text Characters x h refl) (line-escaped m.s t CodeFlowChunk refl k.fit inner)
-inner-node m t content LineEnding other stands inner k a = alone m (ending-spaced content stands)
-    (ending-around m t k.fit)
-inner-node m t content BlankLineEnding other stands inner k a = alone m
-    (ending-spaced content stands) (adds-when m.beside t.is_last (adds-needed m.beside m.ending))
+inner-node m t content LineEnding other stands inner k a = alone m (grind arith) (ending-around m t
+    k.fit)
+inner-node m t content BlankLineEnding other stands inner k a = alone m (grind arith) (adds-when
+    m.beside t.is_last (adds-needed m.beside m.ending))
 inner-node m t _ _ other stands inner k a = lie stands
 
 -- a node that isn't transparent prints what its place allows
@@ -249,9 +237,4 @@ pub solid-node : (m : Claims) (t : At) (content : Content) (name : Name) →
     content (prints m.s.context t name inner)
 solid-node m t Flow name solid whole stands inner k a g = flow-node m t name solid whole stands
     inner k a
-solid-node m t Phrasing name solid whole stands inner k a g = spans-node m t Phrasing name solid
-    whole stands inner k a (g refl)
-solid-node m t Linked name solid whole stands inner k a g = spans-node m t Linked name solid whole
-    stands inner k a (g refl)
-solid-node m t content name solid whole stands inner k a g = inner-node m t content name refl stands
-    inner k a
+solid-node m t content name solid whole stands inner k a g = grind (arith, spans-node, inner-node)

@@ -1,25 +1,18 @@
 -- Blocks with tags or raw text; lines of code and HTML print escaped texts.
 use Rattle.std.proofs.Common.{◌≡◌, ℕ, ◌≤◌, Bool, true, false, cond, List, ◌||◌, arith}
-use Rattle.std.specs.List.{list_any}
 use Rattle.std.proofs.lemmas.Bool.{or_cases}
-use Rattle.md_base.proofs.Lies.{lie}
 use Rattle.md_base.specs.declared.event.Name.{Name}
 use Rattle.md_base.specs.declared.event.Name.TheVariants as name_variants
-use name_variants.{LineEnding, BlankLineEnding, BlockQuote, ListOrdered, ListUnordered, ListItem}
-use name_variants.{CodeIndented, CodeFenced, CodeFlowChunk, MathFlow, MathFlowChunk, HtmlFlow}
-use name_variants.{HtmlFlowData, HtmlTextData, HeadingAtx, HeadingSetextUnderlineSequence}
-use name_variants.{Paragraph, ThematicBreak}
+use name_variants.{LineEnding, BlockQuote, ListOrdered, ListUnordered, ListItem, CodeIndented}
+use name_variants.{CodeFenced, MathFlow, HtmlFlow, HtmlFlowData, HtmlTextData, HeadingAtx}
+use name_variants.{HeadingSetextUnderlineSequence, Paragraph, ThematicBreak}
 use Rattle.md_text.proofs.EncodeLaws.{is_escaped-encoded}
-use Rattle.md_base.specs.declared.event.Point.{Point}
-use Rattle.md_base.specs.Tree.{Forest}
-use Rattle.md_base.specs.Children.{spine_names}
 use Rattle.md_meaning.specs.Meaning.At.{Context, At}
 use Rattle.md_meaning.specs.Meaning.Layout.{Piece}
 use Rattle.md_meaning.specs.Meaning.Means.{prints}
 use Rattle.md_meaning.specs.Meaning.Spans.{escaped, html}
-use Rattle.md_meaning.specs.Meaning.Blocks.{chunk, fenced}
-use Rattle.md_content.specs.Built.{Blocks, FirstFence, FirstMathFence, IsFit, is_line, is_fence}
-use Rattle.md_content.specs.Built.{content_of}
+use Rattle.md_meaning.specs.Meaning.Blocks.{fenced}
+use Rattle.md_content.specs.Built.{Blocks, FirstMathFence, is_line, content_of}
 use Rattle.md_safe.proofs.Spot.{Setting, IsFitAt, Prints, encoded-escaped}
 use Rattle.md_safe.proofs.Texts.{Escaped}
 use Rattle.md_safe.proofs.Laid.{adds-text, adds-needed, adds-when, escaped_beside}
@@ -52,12 +45,6 @@ is_html name = elim name [ HtmlFlowData ↦ true | HtmlTextData ↦ true | _ ↦
 abbrev pub is_leaf : Name → Bool
 is_leaf name = is_line name || is_html name
 
--- code or math in lines has a fence
-pub has-fence : (bytes : List ℕ) (name : Name) (start end : Point) (children : Forest) →
-    is_raw name ≡ true → IsFit bytes name start end children →
-    list_any is_fence (spine_names children) ≡ true
-has-fence bytes name start end children is fit = grind arith
-
 -- math, or else code; its printed text, and its content
 abbrev pub is_math : Name → Bool
 is_math name = elim (content_of name Blocks) [ FirstMathFence ↦ true | _ ↦ false ]
@@ -69,20 +56,12 @@ pub raw-prints : (context : Context) (t : At) (name : Name) → is_raw name ≡ 
     (inner : List Piece) → prints context t name inner ≡ fenced t (raw_tag (is_math name)) inner
 raw-prints context t name is inner = grind arith
 
-pub in-raw : (name : Name) → is_raw name ≡ true →
-    content_of name Blocks ≡ cond (is_math name) FirstMathFence FirstFence
-in-raw name is = grind arith
-
 -- what is claimed of a text
 abbrev pub Reads : Setting → List ℕ → Type 0
 Reads s x = s.p.holds x
 
 pub setext-fits : (dash : Bool) → (1 ≤ cond dash 2 1) × (cond dash 2 1 ≤ 6)
 setext-fits dash = grind arith
-
--- a line of code
-chunk-escaped : (s : Setting) (t : At) → Prints s Escaped (chunk s.context t)
-chunk-escaped s t = grind (arith, adds-text, is_escaped-encoded)
 
 -- HTML, escaped
 html-escaped : (s : Setting) (t : At) → t.around.is_escaping ≡ true →
@@ -93,11 +72,8 @@ html-escaped s t e = adds-text (encoded-escaped t.around.is_escaping (html s.con
 pub line-escaped : (s : Setting) (t : At) (name : Name) → is_line name ≡ true → IsFitAt s t name →
     (inner : List Piece) → Prints s Escaped (prints s.context t name inner)
 line-escaped s t LineEnding is fit inner = line_ending-escaped s t fit
-line-escaped s t BlankLineEnding is fit inner = adds-when escaped_beside t.is_last
-    (adds-needed escaped_beside s.ending)
-line-escaped s t CodeFlowChunk is fit inner = chunk-escaped s t
-line-escaped s t MathFlowChunk is fit inner = chunk-escaped s t
-line-escaped s t _ is fit inner = lie is
+line-escaped s t name is fit inner =
+    grind (arith, adds-when, escaped_beside, adds-needed, adds-text, is_escaped-encoded)
 
 pub leaf-escaped : (s : Setting) (t : At) (name : Name) → t.around.is_escaping ≡ true →
     is_leaf name ≡ true → IsFitAt s t name → (inner : List Piece) →

@@ -1,23 +1,21 @@
 -- Blocks and preformatted code are built as they are read, by what their children do; and what is
 -- known of each element that stands in flow content or in a list.
-use Rattle.std.proofs.Common.{◌≡◌, ℕ, true, false, List, ◌∷◌, ◌++◌, refl, ap, codes, ◌⊎◌}
-use Rattle.std.proofs.Common.{Bool, arith}
+use Rattle.std.proofs.Common.{◌≡◌, ℕ, true, false, List, ◌∷◌, ◌++◌, refl, codes, ◌⊎◌, Bool, arith}
 use Rattle.std.specs.Prelude.{Some, bytes_eq}
-use Rattle.md_base.proofs.Lies.{lie}
-use Rattle.md_text.specs.Html.{Attribute, Forest, Empty, Text, Void, Element}
-use Rattle.md_safe.specs.Token.{Token, EndTag, TokenAttribute, TokenAttribute}
+use Rattle.md_text.specs.Html.{Attribute, Forest, Empty}
+use Rattle.md_safe.specs.Token.{Token, EndTag, TokenAttribute}
 use Rattle.md_safe.specs.Tokens.{seen_attributes, tokens}
 use Rattle.md_safe.specs.Contents.{Preformatted, is_contained, Content, Flow, Phrasing, Items}
 use Rattle.md_safe.specs.Contents.{Parts, elements_in}
-use Rattle.md_safe.specs.Node.{Nodes, Open, Parser, Empty as NoNode, Nodes, Open, Parser}
-use Rattle.md_safe.specs.Elements.{button_scope, headings, headings}
-use Rattle.md_safe.specs.Stack.{is_named, is_among, has_in_scope, insert, popped, insert}
+use Rattle.md_safe.specs.Node.{Nodes, Open, Parser, Empty as NoNode}
+use Rattle.md_safe.specs.Elements.{button_scope, headings}
+use Rattle.md_safe.specs.Stack.{is_named, is_among, has_in_scope, insert, popped}
 use Rattle.md_safe.specs.InBody.{close_p, has_item, start_in_body, end_in_body}
 use Rattle.md_safe.specs.Construction.{run}
 use Rattle.md_safe.specs.Built.{put, at, is_body}
 use Rattle.md_safe.proofs.Steps.{past}
 use Rattle.md_safe.proofs.TreeSteps.{Position, parser_of, with_children, element_of, within}
-use Rattle.md_safe.proofs.PhrasingNames.{Done, Passed, IsOuter, outside, passes, Each}
+use Rattle.md_safe.proofs.PhrasingNames.{Done, Passed, IsOuter, passes, Each}
 use Rattle.md_text.specs.Bytes.{is_one_of}
 use Rattle.md_safe.specs.InTable.{mode_for}
 use Rattle.md_safe.proofs.PhrasingRules.{Rule}
@@ -77,9 +75,7 @@ pre-begins : (inner : Forest) (p : Parser) (ys : List Token) →
     run (record p { skips_line_feed = true }) (tokens inner ++ (EndTag (codes "pre") ∷ ys))
     ≡ run (record p { skips_line_feed = false }) (tokens inner ++ (EndTag (codes "pre") ∷ ys))
 pre-begins Empty p ys c = refl
-pre-begins (Text bytes rest) p ys c = lie c
-pre-begins (Void name attributes rest) p ys c = refl
-pre-begins (Element name attributes inner rest) p ys c = refl
+pre-begins inner p ys c = grind arith
 
 pub pre-passes : {x : Position} {attributes : List Attribute} {inner : Forest} →
     is_body x.mode ≡ true → HasNoParagraph (x.node ∷ x.others) →
@@ -87,10 +83,8 @@ pub pre-passes : {x : Position} {attributes : List Attribute} {inner : Forest} �
     (seen_attributes attributes) x.active) inner → Passed x (codes "pre") attributes inner
 pre-passes {x = x} {attributes = attributes} {inner = inner} body none c d =
     let new : Parser = parser_of (within x (codes "pre") (seen_attributes attributes) x.active) in
-    passes x.active d.left (record new { skips_line_feed = true }) body (outside refl) (ap (λ stack.
-    Some (record (insert (codes "pre") (seen_attributes attributes)
-    (record (parser_of x) { stack = stack })) { skips_line_feed = true }))
-    (unclosed (x.node ∷ x.others) none)) (λ ys. pre-begins inner new ys c) d refl d.keeps
+    passes x.active d.left (record new { skips_line_feed = true }) body (grind arith)
+    (grind (arith, unclosed)) (λ ys. pre-begins inner new ys c) d refl d.keeps
 
 -- it decides no insertion mode
 abbrev pub KeepsMode : List ℕ → Type 0

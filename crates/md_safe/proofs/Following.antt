@@ -2,25 +2,21 @@
 -- node's children, and before what follows it; blocks occur only in blocks, and a condition on
 -- blocks alone covers no more after nodes. After a node's children, and after it, no first fence is
 -- to come.
-use Rattle.std.proofs.Common.{◌≡◌, Bool, true, false, ◌||◌, refl, subst, ℕ, cond}
-use Rattle.std.proofs.Common.{List, [], ◌∷◌, ◌++◌, append_assoc, append-nil, arith}
-use Rattle.std.proofs.lemmas.Bool.{cond_both, cond_both, or_left, or_right}
+use Rattle.std.proofs.Common.{◌≡◌, Bool, true, false, ◌||◌, refl, subst, ℕ, cond, List, [], ◌∷◌}
+use Rattle.std.proofs.Common.{◌++◌, append_assoc, append-nil, arith}
+use Rattle.std.proofs.lemmas.Bool.{cond_both, or_left, or_right}
 use Rattle.md_base.specs.declared.event.Name.{Name}
-use Rattle.md_base.specs.Tree.{Forest, Forest, Empty, Node, Forest}
-use Rattle.md_content.specs.Built.{Content, may_stand, content_of, content_past}
-use Rattle.md_content.specs.Built.{content_after_node}
-use Rattle.md_content.specs.Built.{is_fence}
-use Rattle.md_content.specs.Built.{content_after, content_inside, IsBuilt, IsFit}
+use Rattle.md_base.specs.Tree.{Forest, Empty, Node}
+use Rattle.md_content.specs.Built.{Content, may_stand, content_of, content_past, content_after_node}
+use Rattle.md_content.specs.Built.{is_fence, content_after, content_inside, IsBuilt, IsFit}
 use Rattle.md_safe.proofs.Contents.{stays-after, Follows, spine_after_node, is_first}
-use Rattle.md_safe.proofs.Insides.{allowed_inside, is_blocks, of-blocks, Suits}
-use Rattle.md_safe.proofs.Insides.{past_of, is_raw}
-use Rattle.md_safe.proofs.Cases.{cases, cases}
+use Rattle.md_safe.proofs.Insides.{allowed_inside, is_blocks, of-blocks, Suits, past_of, is_raw}
+use Rattle.md_safe.proofs.Cases.{cases}
 use Rattle.std.specs.List.{list_any}
-use Rattle.md_base.specs.NameTests.{is_transparent, is_fence as fence_name, is_fence as fence_name}
+use Rattle.md_base.specs.NameTests.{is_transparent, is_fence as fence_name}
 use Rattle.md_base.specs.Children.{spine_names}
 use Rattle.std.proofs.lemmas.List.Folds.{list_any-append}
 use Rattle.md_base.specs.declared.event.Point.{Point}
-use Rattle.md_safe.proofs.FlowNodes.{has-fence}
 
 pub suits-after-node : (escaping in_image : Bool) (content : Content) (name : Name)
     (children : Forest) → Suits escaping in_image content → Suits escaping
@@ -47,12 +43,6 @@ pub same_fences : (names : List Name) → list_any is_fence names ≡ list_any f
 same_fences [] = refl
 same_fences (name ∷ names) = (λ i. same_fence name i || same_fences names i)
 
-follows-past : (content : Content) (name : Name) (names : List Name) →
-    may_stand content name ≡ true →
-    Follows content names → Follows (content_past content name) (names ++ (name ∷ []))
-follows-past content name names h f =
-    grind (arith, list_any-append, or_right, or_left, allowed_inside, cond_both)
-
 -- one of two tests holds, and it isn't the first
 pub second : (a b : Bool) → a ≡ false → (a || b) ≡ true → b ≡ true
 second a b e h = grind arith
@@ -61,7 +51,8 @@ follows-node : (content : Content) (name : Name) (names : List Name) (children :
     (is_transparent name || may_stand content name) ≡ true → Follows content names → (is_transparent
     name ≡ true → Follows (content_after content children) (names ++ spine_names children)) →
     Follows (content_after_node content name children) (spine_after_node name children names)
-follows-node content name names children stands f inner = grind (arith, follows-past)
+follows-node content name names children stands f inner =
+    grind (arith, list_any-append, or_right, or_left, allowed_inside, cond_both)
 
 pub follows-after : (bytes : List ℕ) (content : Content) (names : List Name) (forest : Forest) →
     IsBuilt bytes content forest → Follows content names →
@@ -83,11 +74,6 @@ pub follows-after-node :
 follows-after-node bytes content name names children stands built f =
     grind (arith, follows-node, follows-after)
 
--- nothing stands before a node's first child
-pub follows-inside : (content : Content) (name : Name) → may_stand content name ≡ true →
-    Follows (content_of name content) []
-follows-inside content name s = grind (arith, allowed_inside)
-
 pub inside-blocks : (content : Content) (name : Name) → is_blocks (content_inside content name)
     ≡ true → is_blocks content ≡ true
 inside-blocks content name = grind (arith, cond_both, of-blocks)
@@ -102,23 +88,11 @@ asked-after-node A content name children asked = cond_both _ _ _ (λ c. is_block
 abbrev IsLater : Content → Type 0
 IsLater content = is_first content ≡ false
 
--- in a node without a fence of its own no first one is to come
-later-of : (content : Content) (name : Name) → is_raw name ≡ false →
-    may_stand content name ≡ true → IsLater (content_of name content)
-later-of content name plain s = grind (arith, allowed_inside)
-
--- after a fence no first one is to come
-later-fenced : (content : Content) (names : List Name) → Follows content names →
-    list_any fence_name names ≡ true →
-    IsLater content
-later-fenced content names f h = grind arith
-
 fenced-after : (bytes : List ℕ) (content : Content) (children : Forest) →
     IsBuilt bytes content children →
     Follows content [] → list_any is_fence (spine_names children) ≡ true →
     IsLater (content_after content children)
-fenced-after bytes content children built f h =
-    grind (arith, later-fenced, follows-after, same_fences)
+fenced-after bytes content children built f h = grind (arith, follows-after, same_fences)
 
 -- after a node's children no first fence is to come
 pub later-inside :
@@ -127,7 +101,6 @@ pub later-inside :
     IsBuilt bytes (content_of name content) children
     → IsLater (content_after (content_of name content) children)
 later-inside bytes content name start end children s fit built = cases (is_raw name)
-    (λ is. fenced-after bytes (content_of name content) children built
-    (follows-inside content name s) (has-fence bytes name start end children is fit))
-    (λ plain. stays-after IsLater (λ content name h. (past_of content name).later)
-    (content_of name content) children (later-of content name plain s))
+    (grind (arith, fenced-after, allowed_inside)) (λ plain. stays-after IsLater (λ content name h.
+    (past_of content name).later) (content_of name content) children
+    (grind (arith, allowed_inside)))

@@ -1,7 +1,7 @@
 -- What the nodes of a document mean: the induction over nodes of any content, for any claim that is
 -- kept where two texts meet. It goes over all that an outcome has at once.
-use Rattle.std.proofs.Common.{◌≡◌, Bool, true, false, ◌||◌, List, [], ◌∷◌, ◌++◌, sym, arith}
-use Rattle.std.proofs.Common.{subst, append_assoc}
+use Rattle.std.proofs.Common.{◌≡◌, true, false, ◌||◌, List, [], ◌∷◌, ◌++◌, sym, arith, subst}
+use Rattle.std.proofs.Common.{append_assoc}
 use Rattle.std.proofs.lemmas.Bool.{cond_both}
 use Rattle.md_base.specs.declared.event.Name.{Name}
 use Rattle.md_base.specs.declared.event.Name.TheVariants as name_variants
@@ -10,42 +10,25 @@ use Rattle.md_base.specs.Is.{is as named}
 use Rattle.md_base.specs.Tree.{Forest, Empty, Node}
 use Rattle.md_base.specs.NameTests.{is_transparent}
 use Rattle.md_pattern.specs.Looseness.{is_loose}
-use Rattle.md_text.specs.declared.options.CompileOptions.{CompileOptions}
 use Rattle.md_meaning.specs.declared.surroundings.Surroundings.{Surroundings}
 use Rattle.md_meaning.specs.Meaning.Inherited.{inside}
 use Rattle.md_meaning.specs.Meaning.At.{Defined, Footnote, target_in, Before, At, identifier_of}
-use Rattle.md_meaning.specs.Meaning.At.{Target}
 use Rattle.md_meaning.specs.Meaning.Before.{before_children}
 use Rattle.md_meaning.specs.Meaning.Layout.{Piece, layout, when}
 use Rattle.md_meaning.specs.Meaning.Nodes.{Outcome, found_at, node, before_next, outcome}
-use Rattle.md_content.specs.Built.{Content, may_stand, content_inside}
-use Rattle.md_content.specs.Built.{content_after_node, content_after, IsBuilt}
+use Rattle.md_content.specs.Built.{Content, may_stand, content_inside, content_after_node}
+use Rattle.md_content.specs.Built.{content_after, IsBuilt}
 use Rattle.md_safe.proofs.Contents.{stays-after, Holds, Follows}
-use Rattle.md_safe.proofs.Insides.{is_blocks, Suits, past_of}
-use Rattle.md_safe.proofs.Following.{inside-blocks, asked-after-node, second, follows-inside}
-use Rattle.md_safe.proofs.Following.{follows-after-node, suits-after-node}
+use Rattle.md_safe.proofs.Insides.{allowed_inside, is_blocks, Suits, past_of}
+use Rattle.md_safe.proofs.Following.{inside-blocks, asked-after-node, second, follows-after-node}
+use Rattle.md_safe.proofs.Following.{suits-after-node}
 use Rattle.md_safe.proofs.Spot.{IsWhole, Setting, AreTitles, IsFitAt, Prints, Inside, at_in}
 use Rattle.md_safe.proofs.FlowNodes.{Reads}
 use Rattle.md_safe.proofs.BlockNodes.{holds-none}
 use Rattle.md_safe.proofs.Nodes.{Knows, any-node, inside-alone, Before as PrintsBefore}
-use Rattle.md_safe.proofs.Findings.{AreFound, AreRead, titles-append, texts-append}
-use Rattle.md_safe.proofs.Findings.{Inner, found-node, note-node}
+use Rattle.md_safe.proofs.Findings.{AreFound, AreRead, titles-append, texts-append, Inner}
+use Rattle.md_safe.proofs.Findings.{found-node, note-node}
 use Rattle.md_safe.proofs.Cases.{on-later, on-either}
-use Rattle.md_safe.proofs.Texts.{Escaped}
-use Rattle.md_safe.proofs.Media.{IsEscapedTitle}
-
-children-suit : (options : CompileOptions) → options.allow_dangerous_html ≡ false →
-    (loose : Bool) (around : Surroundings) (content : Content) (name : Name) →
-    (is_transparent name || may_stand content name) ≡ true → Suits around.is_escaping
-    around.in_image content → Suits (inside options loose name around).is_escaping
-    (inside options loose name around).in_image (content_inside content name)
-children-suit options html loose around content name stands h = grind arith
-
--- the state before a node's first child
-children-follow : (content : Content) (name : Name) (before : Before) (children : Forest) →
-    (is_transparent name || may_stand content name) ≡ true → Follows content before.spine →
-    Follows (content_inside content name) (before_children name children before).spine
-children-follow content name before children stands f = grind (arith, follows-inside)
 
 blocks-after-node : (content : Content) (name : Name) (children : Forest) →
     is_blocks content ≡ true → is_blocks (content_after_node content name children) ≡ true
@@ -80,8 +63,7 @@ pub ready-inside : {s : Setting} {around : Surroundings} {before : Before} {cont
     (inside s.context.options (is_loose children) name around)
     (before_children name children before) (content_inside content name)
 ready-inside {s = s} {around = around} {before = before} {content = content} name children stands
-    r =
-    grind (arith, children-suit, children-follow, inside-blocks, cond_both, holds-none)
+    r = grind (arith, allowed_inside, inside-blocks, cond_both, holds-none)
 
 -- and where the next node stands
 pub ready-after : {s : Setting} {content : Content} (t : At) (name : Name) (here : Outcome) →
@@ -113,26 +95,12 @@ means s (Node name start end children rest) around before content built r =
     let others : Outcome = outcome s.context around next rest in
     let within : Means s around' (content_inside content name) children inner = means s children
     around' before' (content_inside content name) built.2 (ready-inside name children built.0 r) in
-    let i : Inner s t content name inner.pieces = record {
-      stands = built.0;
-      fit = built.1;
-      suits = r.suits;
-      built = built.2;
-      before = within.prints;
-      found = within.found;
-    } in
+    let i : Inner s t content name inner.pieces = grind arith in
     let own : AreFound s content here.found = found-node t name i in
     let after : Means s around (content_after_node content name children) rest others = means s rest
     around next (content_after_node content name children) built.3
     (ready-after t name here built.0 built.2 own r) in
-    let k : Knows s t content name = record {
-      fit = built.1;
-      suits = r.suits;
-      follows = r.follows;
-      whole = r.whole;
-      heading = r.heading;
-      resource = within.found.resource;
-    } in
+    let k : Knows s t content name = grind arith in
     let defined : Defined = record {
       identifier = identifier_of s.context.bytes children;
       target = target_in inner.found;
@@ -146,13 +114,7 @@ means s (Node name start end children rest) around before content built r =
           (sym (append_assoc here.pieces others.pieces later)) (any-node s t content name built.0 k
           inner.pieces (others.pieces ++ later) built.2 (λ pieces g. within.prints pieces g)
           (after.prints later h));
-      found = record {
-        heading = λ is. on-later (Reads s) here.found.heading others.found.heading (own.heading is)
-            (after.found.heading (blocks-after-node content name children is));
-        title = on-later Escaped _ _ own.title after.found.title;
-        resource = on-later (λ (target : Target). IsEscapedTitle target.title) _ _ own.resource
-            after.found.resource;
-      };
+      found = grind (arith, on-later, blocks-after-node);
       titles = titles-append _ _ (titles-append _ _ within.titles (cond_both (named Definition name)
           (defined ∷ []) [] AreTitles (λ _. (within.found.title, tt)) (λ _. tt))) after.titles;
       texts = texts-append (Reads s) here.footnotes others.footnotes (texts-append (Reads s)

@@ -67,10 +67,9 @@ by_rule P test (rule ∷ rules) name attributes g f e =
 tag-good : (rules : List (List ℕ × List (List ℕ))) (name : List ℕ) (attributes : List Attribute) →
     list_all rule_is_good rules ≡ true → is_tag rules name attributes ≡ true →
     (is_good_name name ≡ true) × (are_good attributes ≡ true)
-tag-good rules name attributes g e = by_rule (λ name. (is_good_name name ≡ true)
-    × (are_good attributes ≡ true)) rule_is_good rules name attributes g (λ rule good allowed.
-    let q = and_parts _ _ good in
-    (q.0, attributes-good rule.1 attributes q.1 allowed)) e
+tag-good rules name attributes g e = by_rule (λ name. (is_good_name name ≡ true) × (are_good
+    attributes ≡ true)) rule_is_good rules name attributes g
+    (grind (arith, and_parts, attributes-good)) e
 
 pub element-good : (name : List ℕ) (attributes : List Attribute) →
     is_tag elements name attributes ≡ true →

@@ -1,21 +1,21 @@
 -- Each id among the calls of a document is that of one call, and each among its footnotes of one.
 -- No two ids by number are equal: the heading's, those of footnotes and those of their calls.
+use Rattle.std.proofs.lemmas.Fmt.{decimal_injective}
 use Rattle.std.proofs.Common.{◌≡◌, ℕ, ◌+◌, ◌≤◌, ◌<◌, ◌^◌, suc, true, false, ◌||◌, List, [], ◌∷◌}
-use Rattle.std.proofs.Common.{◌++◌, length, refl, sym, ap, ◌∙◌, subst, arith, append_assoc, codes}
-use Rattle.std.proofs.Common.{bytes_eq, ◌⊎◌, cond, inl, inr}
+use Rattle.std.proofs.Common.{◌++◌, length, refl, sym, ap, ◌∙◌, arith, append_assoc, codes}
+use Rattle.std.proofs.Common.{bytes_eq, ◌⊎◌, inl, inr}
 use Rattle.std.specs.Prelude.{map}
-use Rattle.std.proofs.lemmas.Bool.{or_parts, or_right, cond_both, cond_both}
-use Rattle.std.proofs.lemmas.List.{length-append}
-use Rattle.md_base.proofs.Lies.{lie}
+use Rattle.std.proofs.lemmas.Bool.{or_parts, or_right, cond_both}
+use Rattle.std.proofs.lemmas.List.{append_cancel_left, length-append}
 use Rattle.md_text.specs.References.{read_back}
 use Rattle.md_text.proofs.HtmlIds.{occurs}
 use Rattle.md_text.specs.declared.options.CompileOptions.{CompileOptions}
 use Rattle.md_meaning.specs.Meaning.Footnotes.{distinct, place_among, id_of, count_of}
-use Rattle.md_meaning.proofs.Identifiers.{is_in, Apart, same, itself, same, distinct-apart}
-use Rattle.md_safe.proofs.NumberedIds.{back_prefix, note_tail, note-back, same-note, id_after}
-use Rattle.md_safe.proofs.NumberedIds.{ids_after, ids-differ, is_in-middle, same-place}
-use Rattle.md_safe.proofs.NumberedIds.{number-bound, call_tail, call-back, EndsInDigit}
-use Rattle.md_safe.proofs.NumberedIds.{label-no_digit, note-no_call, note-ends, call-ends}
+use Rattle.md_meaning.proofs.Identifiers.{is_in, Apart, same, itself, distinct-apart}
+use Rattle.md_safe.proofs.NumberedIds.{back_prefix, note_tail, note-back, id_after, ids_after}
+use Rattle.md_safe.proofs.NumberedIds.{ids-differ, is_in-middle, same-place, number-bound}
+use Rattle.md_safe.proofs.NumberedIds.{call_tail, call-back, EndsInDigit, label-no_digit, note-ends}
+use Rattle.md_safe.proofs.NumberedIds.{call-ends}
 use Rattle.md_safe.proofs.Cases.{cases}
 
 -- another text before some
@@ -66,7 +66,7 @@ notes-differ : (options : CompileOptions) → options.gfm_footnote_number_ids �
     (all : List (List ℕ)) (x y : List ℕ) → length all + 1 < 2 ^ 64 → is_in y (distinct all) ≡ true →
     note_id options all y ≡ note_id options all x → y ≡ x
 notes-differ options on all x y few among e =
-    grind (arith, note-back, same-place, same-note, number-bound)
+    grind (arith, note-back, same-place, append_cancel_left, decimal_injective, number-bound)
 
 none-other : (options : CompileOptions) → options.gfm_footnote_number_ids ≡ true →
     (all : List (List ℕ)) (x : List ℕ) (identifiers : List (List ℕ)) → length all + 1 < 2 ^ 64 →
@@ -74,19 +74,17 @@ none-other : (options : CompileOptions) → options.gfm_footnote_number_ids ≡ 
     occurs (note_id options all x) (note_ids options all identifiers) ≡ 0
 none-other options on all x [] few among none = refl
 none-other options on all x (y ∷ identifiers) few among none =
-    let parts = or_parts _ _ none in
-    occurs-other _ _ _ (λ e. lie (sym parts.0 ∙ ap (λ z. bytes_eq z x)
-    (notes-differ options on all x y few among.0 e) ∙ itself x)) ∙ none-other options on all x
-    identifiers few among.1 parts.1
+    let later = none-other options on all x identifiers few among.1 (or_parts _ _ none).1 in
+    grind (arith, occurs-other, notes-differ, itself, or_parts, later)
 
 -- each id is that of one footnote at most
 pub notes-once : (options : CompileOptions) → options.gfm_footnote_number_ids ≡ true →
     (w : List ℕ) (all identifiers : List (List ℕ)) → length all + 1 < 2 ^ 64 → Apart identifiers →
     AreIn identifiers (distinct all) → occurs w (note_ids options all identifiers) ≤ 1
 notes-once options on w all [] few apart among = omega arith
-notes-once options on w all (x ∷ identifiers) few apart among = occurs-once w
-    (note_id options all x) (note_ids options all identifiers) (none-other options on all x
-    identifiers few among.1 apart.0) (notes-once options on w all identifiers few apart.1 among.1)
+notes-once options on w all (x ∷ identifiers) few apart among =
+    let later = notes-once options on w all identifiers few apart.1 among.1 in
+    grind (arith, occurs-once, none-other, later)
 
 in-more : (x : List ℕ) (xs others : List (List ℕ)) → AreIn xs others → AreIn xs (x ∷ others)
 in-more x [] others h = tt
@@ -96,46 +94,33 @@ pub in-itself : (xs : List (List ℕ)) → AreIn xs xs
 in-itself [] = tt
 in-itself (x ∷ xs) = (ap (λ b. b || is_in x xs) (itself x), in-more x xs xs (in-itself xs))
 
--- of each of some ids something holds
-abbrev Each : (List ℕ → Type 0) → List (List ℕ) → Type 0
-Each holds [] = Unit {0}
-Each holds (x ∷ xs) = holds x × Each holds xs
-
--- an id that is among some is as all of them are
-among-each : (holds : List ℕ → Type 0) (w : List ℕ) (xs : List (List ℕ)) → Each holds xs →
-    (occurs w xs ≡ 0) ⊎ holds w
-among-each holds w [] all = inl refl
-among-each holds w (x ∷ xs) all = cond_both (bytes_eq x w) (suc (occurs w xs)) (occurs w xs) (λ n.
-    (n ≡ 0) ⊎ holds w) (λ e. inr (subst holds (same x w e) all.0)) (λ _. among-each holds w xs
-    all.1)
-
 abbrev pub IsNote : CompileOptions → List ℕ → Type 0
 IsNote options w = (n : ℕ) × (w ≡ back_prefix options ++ note_tail n)
 
 abbrev pub IsCall : CompileOptions → List ℕ → Type 0
 IsCall options w = (n : ℕ) × (k : ℕ) × (w ≡ back_prefix options ++ call_tail n k)
 
-each-note : (options : CompileOptions) → options.gfm_footnote_number_ids ≡ true →
-    (all identifiers : List (List ℕ)) →
-    Each (IsNote options) (note_ids options all identifiers)
-each-note options on all [] = tt
-each-note options on all (x ∷ identifiers) = (
-  (place_among (distinct all) x, note-back options on x (place_among (distinct all) x)),
-  each-note options on all identifiers,
-)
+-- the ids of footnotes that are among some are as all of them are, and so are those of calls
+among-notes : (options : CompileOptions) → options.gfm_footnote_number_ids ≡ true →
+    (w : List ℕ) (all identifiers : List (List ℕ)) →
+    (occurs w (note_ids options all identifiers) ≡ 0) ⊎ IsNote options w
+among-notes options on w all [] = inl refl
+among-notes options on w all (x ∷ identifiers) =
+    let number : ℕ = place_among (distinct all) x in
+    cond_both (bytes_eq (note_id options all x) w) _ _ (λ n. (n ≡ 0) ⊎ IsNote options w)
+    (λ e. inr (number, sym (same _ w e) ∙ note-back options on x number))
+    (λ _. among-notes options on w all identifiers)
 
-each-call : (options : CompileOptions) → options.gfm_footnote_number_ids ≡ true →
-    (all before calls : List (List ℕ)) →
-    Each (IsCall options) (ids_after options all before calls)
-each-call options on all before [] = tt
-each-call options on all before (x ∷ calls) = (
-  (
-    place_among (distinct all) x,
-    suc (count_of before x),
-    call-back options on x (place_among (distinct all) x) (suc (count_of before x)),
-  ),
-  each-call options on all (before ++ x ∷ []) calls,
-)
+among-calls : (options : CompileOptions) → options.gfm_footnote_number_ids ≡ true →
+    (w : List ℕ) (all before calls : List (List ℕ)) →
+    (occurs w (ids_after options all before calls) ≡ 0) ⊎ IsCall options w
+among-calls options on w all before [] = inl refl
+among-calls options on w all before (x ∷ calls) =
+    let number : ℕ = place_among (distinct all) x in
+    let occurrence : ℕ = suc (count_of before x) in
+    cond_both (bytes_eq (id_after options all before x) w) _ _ (λ n. (n ≡ 0) ⊎ IsCall options w)
+    (λ e. inr (number, occurrence, sym (same _ w e) ∙ call-back options on x number occurrence))
+    (λ _. among-calls options on w all (before ++ x ∷ []) calls)
 
 -- the id of the heading
 abbrev pub label_id : List (List ℕ)
@@ -154,29 +139,8 @@ document-once options on w calls small =
     let notes = notes-once options on w calls (distinct calls) few (distinct-apart calls)
     (in-itself (distinct calls)) in
     let called = calls-once options on w calls [] calls refl few (omega (small, arith)) in
-    by notes called (among-each (IsNote options) w (note_ids options calls (distinct calls))
-    (each-note options on calls (distinct calls)))
-    (among-each (IsCall options) w (ids_after options calls [] calls)
-    (each-call options on calls [] calls))
-  where
-    heading : occurs w label_id ≤ 1
-    heading = cond_both (bytes_eq (codes "footnote-label") w) 1 0 (λ n. n ≤ 1) (λ _. omega arith) (λ
-        _. omega arith)
-
-    by : occurs w (note_ids options calls (distinct calls)) ≤ 1 →
-        occurs w (ids_after options calls [] calls) ≤ 1
-        → (occurs w (note_ids options calls (distinct calls)) ≡ 0) ⊎ IsNote options w
-        → (occurs w (ids_after options calls [] calls) ≡ 0) ⊎ IsCall options w
-        → occurs w label_id + occurs w (note_ids options calls (distinct calls))
-        + occurs w (ids_after options calls [] calls) ≤ 1
-    by notes called (inl n) (inl c) = omega (heading, n, c, arith)
-    by notes called (inl n) (inr c) =
-        let alone = label-alone options w (rw c.2 (call-ends options c.0 c.1)) in
-        omega (alone, n, called, arith)
-    by notes called (inr n) (inl c) =
-        let alone = label-alone options w (rw n.1 (note-ends options n.0)) in
-        omega (alone, notes, c, arith)
-    by notes called (inr n) (inr c) = absurd (note-no_call options n.0 c.0 c.1 (sym n.1 ∙ c.2))
+    let heading = occurs-once w (codes "footnote-label") [] refl (omega arith) in
+    grind (arith, among-notes, among-calls, label-alone, call-ends, note-ends, append_cancel_left)
 
 -- an id that stands in a document is that of the heading, of a footnote or of a call
 pub document-known : (options : CompileOptions) →
@@ -184,14 +148,5 @@ pub document-known : (options : CompileOptions) →
     1 ≤ occurs w label_id + occurs w (note_ids options calls (distinct calls))
     + occurs w (ids_after options calls [] calls) →
     (codes "footnote-label" ≡ w) ⊎ (IsNote options w ⊎ IsCall options w)
-document-known options on w calls some = cases (bytes_eq (codes "footnote-label") w)
-    (λ e. inl (same (codes "footnote-label") w e))
-    (λ e. elim (among-each (IsNote options) w (note_ids options calls (distinct calls)) (each-note
-    options on calls (distinct calls))) [
-      | inr n ↦ inr (inl n)
-      | inl n ↦ elim (among-each (IsCall options) w (ids_after options calls [] calls) (each-call
-          options on calls [] calls)) [
-            | inr c ↦ inr (inr c)
-            | inl c ↦ absurd (omega (arith, n, c, some, ap {B = ℕ} (λ is. cond is 1 0) e))
-          ]
-    ])
+document-known options on w calls some = cases (bytes_eq (codes "footnote-label") w) (λ e. inl (same
+    (codes "footnote-label") w e)) (grind (arith, among-notes, among-calls))

@@ -1,6 +1,6 @@
 -- Some steps, and then others.
-use Rattle.std.proofs.Common.{◌≡◌, ℕ, List, ◌++◌, refl, sym, ap, ◌∙◌, subst, append_assoc, arith}
-use Rattle.std.proofs.Common.{Some, option_map, zero, suc}
+use Rattle.std.proofs.Common.{◌≡◌, ℕ, List, [], ◌++◌, refl, ap, ◌∙◌, subst, append_assoc, arith}
+use Rattle.std.proofs.Common.{append-nil, Some, option_map, zero, suc}
 use Rattle.md_safe.specs.Token.{Token}
 use Rattle.md_safe.specs.TokenizerStates.{State, Data, Step, Goes, Stops, Stuck}
 use Rattle.md_safe.specs.Tokenizer.{step, run, after_step, IsRun}
@@ -12,38 +12,36 @@ same_step : {a b : State} {x y : List ℕ} {s t : List Token} → Goes s a x ≡
 same_step e = (cc, cc, cc)
 
 -- the rest and the emitted tokens after a first step
-went : (out : List Token) (s : Step) (t : List Token) (mid : List ℕ) →
-    emitted_before out s ≡ Goes t Data mid →
-    (later : List Token) × (s ≡ Goes later Data mid) × (out ++ later ≡ t)
-went out s t mid e = grind arith
+went : (out : List Token) (s : Step) (t : List Token) (last : State) (mid : List ℕ) →
+    emitted_before out s ≡ Goes t last mid →
+    (later : List Token) × (s ≡ Goes later last mid) × (out ++ later ≡ t)
+went out s t last mid e = grind arith
 
 -- a claim of a way that goes back over each step
 abbrev GoesBack : (State → List ℕ → List Token → Type 0) → Type 0
 GoesBack P = (state next : State) (input rest : List ℕ) (out t : List Token) →
     step state input ≡ Goes out next rest → P next rest t → P state input (out ++ t)
 
--- of the steps after one, for `back`
-abbrev Backs : (State → List ℕ → List Token → Type 0) → List ℕ → List Token → ℕ → Type 0
-Backs P mid u n =
-    (state : State) (input : List ℕ) (t : List Token) → steps n state input ≡ Goes t Data mid →
-    P state input (t ++ u)
+module _ (P : State → List ℕ → List Token → Type 0) (g : GoesBack P) (last : State) (mid : List ℕ)
+    (u : List Token) where
+  -- of the steps after one, for `back`
+  abbrev Backs : ℕ → Type 0
+  Backs n =
+      (state : State) (input : List ℕ) (t : List Token) → steps n state input ≡ Goes t last mid →
+      P state input (t ++ u)
 
-back-step : (P : State → List ℕ → List Token → Type 0) → GoesBack P →
-    (mid : List ℕ) (u : List Token) (n : ℕ) → Backs P mid u n →
-    (state : State) (input : List ℕ) (t : List Token) (s : Step) → step state input ≡ s →
-    and_then (steps n) s ≡ Goes t Data mid → P state input (t ++ u)
-back-step P g mid u n go state input t (Goes out next rest) is e =
-    let w = went _ _ t _ e in
-    subst (λ x. P state input (x ++ u)) w.2 (subst (λ x. P state input x)
-    (sym (append_assoc out w.0 u)) (g state next input rest out (w.0 ++ u) is
-    (go next rest w.0 w.1)))
-back-step P g mid u n go state input t (Stops out) is e = absurd (cc e)
-back-step P g mid u n go state input t Stuck is e = absurd (cc e)
+  back-step : (n : ℕ) → Backs n → (state : State) (input : List ℕ) (t : List Token) (s : Step) →
+      step state input ≡ s → and_then (steps n) s ≡ Goes t last mid → P state input (t ++ u)
+  back-step n go state input t (Goes out next rest) is e =
+      let w = went _ _ t _ _ e in
+      subst (λ x. P state input (x ++ u)) w.2 (rw append_assoc
+      (g state next input rest out (w.0 ++ u) is (go next rest w.0 w.1)))
+  back-step n go state input t (Stops out) is e = absurd (cc e)
+  back-step n go state input t Stuck is e = absurd (cc e)
 
-back : (P : State → List ℕ → List Token → Type 0) → GoesBack P → (mid : List ℕ) (u : List Token) →
-    P Data mid u → (n : ℕ) → Backs P mid u n
-back P g mid u h zero state input t e = grind (arith, same_step)
-back P g mid u h (suc n) state input t e = back-step P g _ u n (back P g _ u h n) _ _ t _ refl e
+  back : P last mid u → (n : ℕ) → Backs n
+  back h zero state input t e = grind (arith, same_step)
+  back h (suc n) state input t e = back-step n (back h n) _ _ t _ refl e
 
 pub leads-back : (left : List ℕ) → GoesBack (λ state input t. Tokenizes state input t left)
 leads-back left state next input rest out t e h = record {
@@ -60,12 +58,17 @@ run-back state next input rest out t e h = record {
 -- some steps, and then others
 pub leads-on : (state : State) (input mid left : List ℕ) (t u : List Token) →
     Tokenizes state input t mid → Tokenizes Data mid u left → Tokenizes state input (t ++ u) left
-leads-on state input mid left t u h k = back _ (leads-back _) _ u k _ state input t h.goes
+leads-on state input mid left t u h k = back _ (leads-back _) _ _ u k _ state input t h.goes
 
 -- some steps, and then a run
 pub runs-on : (state : State) (input mid : List ℕ) (t u : List Token) →
     Tokenizes state input t mid → IsRun Data mid u → IsRun state input (t ++ u)
-runs-on state input mid t u h k = back _ run-back _ u k _ state input t h.goes
+runs-on state input mid t u h k = back _ run-back _ _ u k _ state input t h.goes
+
+-- and from any other state
+pub runs-by : (n : ℕ) (state last : State) (input mid : List ℕ) (t u : List Token) →
+    steps n state input ≡ Goes t last mid → IsRun last mid u → IsRun state input (t ++ u)
+runs-by n state last input mid t u e k = back _ run-back _ _ u k n state input t e
 
 -- ---- a run begins with the steps that there are
 
@@ -73,25 +76,18 @@ runs-on state input mid t u h k = back _ run-back _ u k _ state input t h.goes
 abbrev Rest : List ℕ → List Token → List Token → Type 0
 Rest mid t all = (u : List Token) × IsRun Data mid u × (all ≡ t ++ u)
 
--- of the steps after one, for `run-rest`
-abbrev Rests : List ℕ → ℕ → Type 0
-Rests mid n = (k : ℕ) (state : State) (input : List ℕ) (t all : List Token) →
-    steps n state input ≡ Goes t Data mid → run k state input ≡ Some all → Rest mid t all
-
-rest-step : (mid : List ℕ) (n : ℕ) → Rests mid n → (k : ℕ) (t all : List Token) (s : Step) →
-    and_then (steps n) s ≡ Goes t Data mid → after_step (run k) s ≡ Some all → Rest mid t all
-rest-step mid n go k t all s e f = grind (arith, went, map_some, append_assoc)
-
-run-rest : (mid : List ℕ) (n : ℕ) → Rests mid n
-run-rest mid zero k state input t all e f =
-    let is = same_step e in
-    let emits : run k Data mid ≡ Some all = subst (λ a. run k a mid ≡ Some all) is.0 (subst (λ x.
-    run k state x ≡ Some all) is.1 f) in
-    (all, record { steps = k; emits = emits }, ap (λ x. x ++ all) is.2)
-run-rest mid (suc n) zero state input t all e f = absurd (cc f)
-run-rest mid (suc n) (suc k) state input t all e f =
-    rest-step mid n (run-rest mid n) k t all (step state input) e f
+run-rest : (mid : List ℕ) →
+    GoesBack (λ state input t. (all : List Token) → IsRun state input all → Rest mid t all)
+run-rest mid state next input rest out t e h all k = by k.steps k.emits
+  where
+    by : (n : ℕ) → run n state input ≡ Some all → Rest mid (out ++ t) all
+    by zero f = absurd (cc f)
+    by (suc n) f =
+        let w = map_some out (run n next rest) all (rw e at f) in
+        let r = h w.0 record { steps = n; emits = w.1 } in
+        (r.0, r.1, cc (w.2, r.2, append_assoc out t r.0))
 
 pub run-on : (state : State) (input mid : List ℕ) (t all : List Token) →
     Tokenizes state input t mid → IsRun state input all → Rest mid t all
-run-on state input mid t all h k = run-rest _ _ k.steps state input t all h.goes k.emits
+run-on state input mid t all h k = rw append-nil at
+    (back _ (run-rest mid) _ _ [] (λ all k. (all, k, refl)) _ state input t h.goes) all k

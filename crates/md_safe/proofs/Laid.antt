@@ -1,6 +1,6 @@
 -- What a list of pieces adds to a text: the claim on texts carried over to what is laid out.
-use Rattle.std.proofs.Common.{◌≡◌, ℕ, Bool, List, [], ◌∷◌, ◌++◌, refl, sym, ap, arith}
-use Rattle.std.proofs.Common.{◌∙◌, subst, append_assoc, append-nil}
+use Rattle.std.proofs.Common.{◌≡◌, ℕ, Bool, List, [], ◌∷◌, ◌++◌, refl, sym, arith, subst}
+use Rattle.std.proofs.Common.{append_assoc, append-nil}
 use Rattle.md_meaning.specs.Meaning.Layout.{Piece, Text, Needed, Forced, laid_after, layout, when}
 use Rattle.std.specs.List.{flat_map}
 use Rattle.md_text.proofs.EscapedLemmas.{escaped-append}
@@ -27,16 +27,7 @@ adds-weaker weaker a = grind arith
 pub adds-append : {ending : List ℕ} {f g h : List ℕ → Type 0} {xs ys : List Piece} →
     ((x y : List ℕ) → f x → g y → h (x ++ y)) → Adds ending f xs → Adds ending g ys →
     Adds ending h (xs ++ ys)
-adds-append {ending} {h = h} {xs} {ys} both a b = record {
-  to = λ text.
-      let r = a.to text in
-      let s = b.to (laid_after ending text xs) in
-      rw (laid-append ending text xs ys) (record {
-        added = r.added ++ s.added;
-        grown = s.grown ∙ ap (λ t. t ++ s.added) r.grown ∙ append_assoc text r.added s.added;
-        it_holds = both r.added s.added r.it_holds s.it_holds;
-      });
-}
+adds-append {ending} {h = h} {xs} {ys} both a b = grind (arith, laid-append, append_assoc)
 
 nothing_added : (f : List ℕ → Type 0) (text : List ℕ) → f [] → Grows f text text
 nothing_added f text h = record { added = []; grown = sym (append-nil text); it_holds = h }

@@ -64,6 +64,7 @@ pub mod TreeSteps
 pub mod PhrasingNames
 pub mod PhrasingRules
 pub mod Phrasing
+pub mod TableTexts
 pub mod Tables
 pub mod FlowRules
 pub mod Flow

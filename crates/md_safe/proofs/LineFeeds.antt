@@ -4,7 +4,7 @@ use Rattle.std.proofs.Common.{ap₂, ◌∙◌, arith}
 use Rattle.std.specs.List.{list_all}
 use Rattle.md_text.specs.References.{is_escaped}
 use Rattle.md_safe.specs.Input.{begins_with_line_feed, with_line_feeds}
-use Rattle.md_safe.proofs.EscapedCases.{plain-escaped, by_escaped}
+use Rattle.md_safe.proofs.EscapedCases.{by_escaped}
 
 -- no CR
 abbrev pub no_return : ℕ → Bool
@@ -17,16 +17,12 @@ one b feed later = cond (b == 13) (cond feed later (10 ∷ later)) (b ∷ later)
 pub one-append : (b : ℕ) (feed : Bool) (x r : List ℕ) → one b feed (x ++ r) ≡ one b feed x ++ r
 one-append b feed x r = grind arith
 
-begins-append : (x r : List ℕ) → begins_with_line_feed r ≡ false →
-    begins_with_line_feed (x ++ r) ≡ begins_with_line_feed x
-begins-append x r h = grind arith
-
 -- a text, and what follows it and doesn't begin with LF
 pub line_feeds-append : (x r : List ℕ) → begins_with_line_feed r ≡ false →
     with_line_feeds (x ++ r) ≡ with_line_feeds x ++ with_line_feeds r
 line_feeds-append [] r h = refl
-line_feeds-append (b ∷ x) r h = ap₂ (one b) (begins-append x r h) (line_feeds-append x r h)
-    ∙ one-append b (begins_with_line_feed x) (with_line_feeds x) (with_line_feeds r)
+line_feeds-append (b ∷ x) r h = ap₂ (one b) (grind arith) (line_feeds-append x r h) ∙ one-append b
+    (begins_with_line_feed x) (with_line_feeds x) (with_line_feeds r)
 
 -- a name has no CR
 pub line_feeds-name : (name r : List ℕ) → list_all no_return name ≡ true →
@@ -37,5 +33,5 @@ line_feeds-name (b ∷ name) r h = grind (arith, line_feeds-name name r)
 -- an escaped text stays escaped
 pub line_feeds-escaped : (x : List ℕ) → is_escaped x ≡ true → is_escaped (with_line_feeds x) ≡ true
 line_feeds-escaped x h = by_escaped (λ x. is_escaped (with_line_feeds x) ≡ true) refl (λ b rest
-    plain later. grind (arith, plain-escaped b (with_line_feeds rest) plain)) (λ rest later. later)
-    (λ rest later. later) (λ rest later. later) (λ rest later. later) x h
+    plain later. grind arith) (λ rest later. later) (λ rest later. later) (λ rest later. later) (λ
+    rest later. later) x h

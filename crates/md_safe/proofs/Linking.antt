@@ -1,9 +1,7 @@
 -- What stands in a link, where links may stand in links and where not; and none does where a
 -- document has no link in a link.
-use Rattle.std.proofs.Common.{◌≡◌, ◌⊎◌, inl, Bool, true, false, not, ◌&&◌, ◌||◌, cond}
-use Rattle.std.proofs.Common.{sym, ◌∙◌, arith}
+use Rattle.std.proofs.Common.{◌≡◌, ◌⊎◌, Bool, true, false, not, ◌&&◌, ◌||◌, cond, arith}
 use Rattle.std.proofs.lemmas.Bool.{or_parts, or_left, or_right}
-use Rattle.md_base.proofs.Lies.{lie}
 use Rattle.md_base.specs.declared.event.Name.{Name}
 use Rattle.md_base.specs.declared.event.Name.TheVariants.{Image, Link}
 use Rattle.md_base.specs.declared.event.Point.{Point}
@@ -13,12 +11,9 @@ use Rattle.md_base.specs.NameTests.{is_transparent}
 use Rattle.md_meaning.specs.declared.surroundings.Surroundings.{Surroundings}
 use Rattle.md_meaning.specs.Meaning.Inherited.{inside}
 use Rattle.md_text.specs.declared.options.CompileOptions.{CompileOptions}
-use Rattle.md_content.specs.Built.{Blocks, content_inside}
-use Rattle.md_safe.proofs.Insides.{is_blocks}
 use Rattle.md_safe.specs.Contents.{Content, Phrasing, Linked}
 use Rattle.md_safe.specs.Links.{prints_link, has_nested_link}
 use Rattle.md_safe.specs.Placed.{place_of, place_inside}
-use Rattle.md_safe.proofs.Cases.{cases}
 
 -- spans without links
 abbrev pub is_linked : Content → Bool
@@ -50,71 +45,28 @@ place_in nested content name = elim name [
 abbrev pub inner_place : Bool → Content → Name → Content
 inner_place nested content name = cond (is_transparent name) content (place_in nested content name)
 
-pub place-other : (nested : Bool) (content : Content) (name : Name) → named Link name ≡ false →
-    place_in nested content name
-    ≡ cond (is_linked content) (without_links (place_of name)) (place_of name)
-place-other nested content name other = grind arith
-
-pub place-in-with : (nested : Bool) (content : Content) (name : Name) →
-    with_links (place_in nested content name) ≡ place_of name
-place-in-with nested content name = grind arith
-
 pub inner-place-with : (nested : Bool) (content : Content) (name : Name) →
     with_links (inner_place nested content name) ≡ place_inside (with_links content) name
-inner-place-with nested content name = grind (arith, place-in-with)
+inner-place-with nested content name = grind arith
 
 -- spans without links stand only in a link, where links don't nest
 abbrev pub IsLinked : Bool → Content → Surroundings → Type 0
 IsLinked nested content around =
     is_linked content ≡ true → (nested ≡ false) × (around.in_link ≡ true)
 
--- a link contains the content of a link
-inside-link : (options : CompileOptions) (loose : Bool) (name : Name) (around : Surroundings) →
-    (inside options loose name around).in_link ≡ (named Link name || around.in_link)
-inside-link options loose name around = grind arith
-
-never-linked : (name : Name) → is_linked (place_of name) ≡ false
-never-linked name = grind arith
-
 linked-place : (nested : Bool) (content : Content) (name : Name) →
     is_linked (place_in nested content name) ≡ true →
     (is_linked content ≡ true) ⊎ ((named Link name ≡ true) × (nested ≡ false))
-linked-place nested content Link h = grind arith
-linked-place nested content name h = cases (is_linked content) (λ e. inl e)
-    (λ e. lie (sym (never-linked name) ∙ (rw e at h)))
+linked-place nested content name h = grind arith
 
 pub linked-inside : (nested : Bool) (options : CompileOptions) (loose : Bool) (content : Content)
     (name : Name) (around : Surroundings) → IsLinked nested content around →
     IsLinked nested (inner_place nested content name) (inside options loose name around)
 linked-inside nested options loose content name around linked h =
-    grind (arith, linked-place, inside-link, or_left, or_right)
+    grind (arith, linked-place, or_left, or_right)
 
 pub unnested-parts : (name : Name) (in_link : Bool) (start end : Point) (children rest : Forest) →
     has_nested_link in_link (Node name start end children rest) ≡ false → ((in_link && prints_link
     name || not (named Image name) && has_nested_link (named Link name || in_link) children)
     ≡ false) × (has_nested_link in_link rest ≡ false)
 unnested-parts name in_link start end children rest h = or_parts _ _ h
-
-pub unnested-inside :
-    (options : CompileOptions) (loose : Bool) (name : Name) (around : Surroundings)
-    (start end : Point)
-    (children rest : Forest) → is_blocks (content_inside Blocks name) ≡ true →
-    has_nested_link around.in_link (Node name start end children rest) ≡ false →
-    has_nested_link (inside options loose name around).in_link children ≡ false
-unnested-inside options loose name around start end children rest blocks h = grind arith
-
--- spans that aren't without links
-pub unlinked-spans : (content : Content) → is_spans content ≡ true →
-    (is_linked content ≡ true → content ≡ Phrasing) →
-    content ≡ Phrasing
-unlinked-spans content is h = grind arith
-
--- no link is printed where they are
-pub unlinked-here :
-    (nested : Bool) (content : Content) (name : Name) (around : Surroundings) (start end : Point)
-    (children rest : Forest) → is_spans content ≡ true → prints_link name ≡ true →
-    IsLinked nested content around →
-    (nested ≡ false → has_nested_link around.in_link (Node name start end children rest) ≡ false) →
-    content ≡ Phrasing
-unlinked-here nested content name around start end children rest is prints linked unnested =
-    grind arith

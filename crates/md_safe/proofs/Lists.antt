@@ -1,7 +1,7 @@
 -- The list of active formatting elements while phrasing content is built: entries are taken
 -- away from it alone.
-use Rattle.std.proofs.Common.{◌≡◌, ◌⊎◌, inl, inr, ℕ, ◌≤◌, nat_lt, false}
-use Rattle.std.proofs.Common.{cond, List, [], ◌∷◌, refl, sym, subst, arith}
+use Rattle.std.proofs.Common.{◌≡◌, ◌⊎◌, inl, inr, ℕ, ◌≤◌, nat_lt, false, cond, List, [], ◌∷◌, refl}
+use Rattle.std.proofs.Common.{sym, subst, arith}
 use Rattle.std.specs.Prelude.{None}
 use Rattle.std.proofs.lemmas.Bool.{or_right, cond_both}
 use Rattle.md_safe.specs.Token.{TokenAttribute}
@@ -38,8 +38,7 @@ keeps-earliest : (name : List ℕ) (attributes : List TokenAttribute) (xs : List
 keeps-earliest name attributes [] = refl
 keeps-earliest name attributes (Marker ∷ xs) = refl
 keeps-earliest name attributes (Formatting identity other those ∷ xs) =
-    cond_both _ _ _ (Keeps (Formatting identity other those ∷ xs)) (λ _. inl (keeps-all xs))
-    (λ _. inr (without_earliest name attributes xs, refl, keeps-earliest name attributes xs))
+    grind (arith, cond_both, keeps-all, keeps-earliest name attributes xs)
 
 -- the rest of the list when an element is pushed
 abbrev pub room : List ℕ → List TokenAttribute → List Entry → List Entry

@@ -12,12 +12,6 @@ use Rattle.md_safe.proofs.Laid.{Adds}
 use Rattle.md_safe.proofs.Tags.{IsTest, attribute, Tagged, Single, adds-flat}
 use Rattle.md_safe.proofs.Cases.{OnSome}
 
-pub href-escaped : (options : CompileOptions) (x : List ℕ) → Escaped (href options x)
-href-escaped options x = grind (arith, cond_both, sanitized-escaped, sanitized_with-escaped)
-
-pub src-escaped : (options : CompileOptions) (x : List ℕ) → Escaped (src options x)
-src-escaped options x = grind (arith, cond_both, sanitized-escaped, sanitized_with-escaped)
-
 -- a title is escaped, where there is one
 abbrev pub IsEscapedTitle : Option (List ℕ) → Type 0
 IsEscapedTitle title = OnSome Escaped title
@@ -33,7 +27,7 @@ adds-link {test} {R = R} {ending} {options} known tagged target label h r = by t
     href_attribute = attribute (codes "href") (href options target.destination)
 
     e : Escaped (href options target.destination)
-    e = href-escaped options target.destination
+    e = grind (arith, cond_both, sanitized-escaped, sanitized_with-escaped)
 
     p : test href_attribute ≡ true
     p = known.link target.destination
@@ -55,7 +49,7 @@ adds-image {test} {R} {ending} {options} known single target label h e = by targ
     src_attribute = attribute (codes "src") (src options target.destination)
 
     v : Escaped (src options target.destination)
-    v = src-escaped options target.destination
+    v = grind (arith, cond_both, sanitized-escaped, sanitized_with-escaped)
 
     p : test src_attribute ≡ true
     p = known.image target.destination
@@ -68,9 +62,5 @@ adds-image {test} {R} {ending} {options} known single target label h e = by targ
     by None h = adds-flat refl (single.tag (src_attribute ∷ attribute (codes "alt") label ∷ []) (rw
         (v, e) refl) (rw (p, q) refl))
     by (Some title) h = adds-flat refl (single.tag (src_attribute ∷ attribute (codes "alt") label ∷
-        attribute (codes "title") title ∷ []) (rw (v, e, h) refl) (rw (
-          p,
-          q,
-          known.other (codes
-              "title") title refl,
-        ) refl))
+        attribute (codes "title") title ∷ []) (rw (v, e, h) refl)
+        (rw (p, q, known.other (codes "title") title refl) refl))

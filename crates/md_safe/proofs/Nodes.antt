@@ -5,14 +5,13 @@ use Rattle.std.proofs.Common.{refl, ap, inl, inr, append-nil, codes}
 use Rattle.md_base.proofs.Lies.{lie}
 use Rattle.md_base.specs.declared.event.Name.{Name}
 use Rattle.md_base.specs.declared.event.Name.TheVariants as name_variants
-use name_variants.{CodeFencedFenceInfo, CodeFencedFenceMeta}
-use name_variants.{MathFlowFenceMeta}
+use name_variants.{CodeFencedFenceInfo}
 use Rattle.md_text.proofs.EscapedLemmas.{escaped-append}
 use Rattle.md_base.specs.NameTests.{is_transparent}
 use Rattle.md_pattern.specs.Looseness.{is_loose}
 use Rattle.md_meaning.specs.Meaning.Inherited.{inside}
 use Rattle.md_meaning.specs.Meaning.At.{At}
-use Rattle.md_meaning.specs.Meaning.Layout.{Piece, said, when}
+use Rattle.md_meaning.specs.Meaning.Layout.{Piece, said}
 use Rattle.md_meaning.specs.Meaning.Means.{prints}
 use Rattle.md_content.specs.Built.{Content, Blocks, Spans, Strings, FirstFence, FirstMathFence}
 use Rattle.md_content.specs.Built.{Chunks, InfoAndMeta, MetaAlone, Done, Nothing, Sources, is_part}
@@ -22,7 +21,7 @@ use Rattle.md_safe.proofs.Cases.{either, cases}
 use Rattle.md_safe.proofs.Texts.{Escaped}
 use Rattle.md_safe.proofs.Laid.{adds-append, adds-text, adds-nothing, adds-weaker, adds-any}
 use Rattle.md_safe.proofs.Elements.{IsDone}
-use Rattle.md_safe.proofs.Contents.{Holds, Follows, holds-nothing}
+use Rattle.md_safe.proofs.Contents.{Holds, Follows}
 use Rattle.md_safe.proofs.Insides.{is_blocks, Suits}
 use Rattle.md_safe.proofs.Following.{second, later-inside}
 use Rattle.md_safe.proofs.Spot.{IsWhole, Setting, IsFitAt, IsGoodTarget, Here, Prints, Inside}
@@ -39,25 +38,16 @@ span-sorts : (name : Name) → not (may_stand Spans name) || (is_hidden name || 
     || (is_text name || (is_shown name || (is_leaf name || is_autolink name))))) ≡ true
 span-sorts name = grind arith
 
--- in the latter spans stand
-silent-spans : (name : Name) → is_silent name ≡ true → may_stand Spans name ≡ true →
-    content_of name Spans ≡ Spans
-silent-spans name is stands = grind arith
-
 span-any : (s : Setting) (t : At) (name : Name) → Suits t.around.is_escaping t.around.in_image
     Spans → may_stand Spans name ≡ true → IsFitAt s t name → (inner : List Piece) →
     Inside s t Spans name inner → Prints s Escaped (prints s.context t name inner)
 span-any s t name suits stands fit inner a =
     let e = suits.escaped refl in
     let image = suits.image refl in
-    either _ _ (rw stands at (span-sorts name))
-    (λ is. rw (hidden-prints s.context t name is inner) (adds-nothing refl)) (λ c. either _ _ c
-    (λ is. rw (silent-prints s.context t name is inner)
-    (inside-is s t Spans Spans name inner (silent-spans name is stands) a)) (λ c. either _ _ c
-    (λ is. text-node s t Escaped name (λ x h. h e) is fit inner) (λ c. either _ _ c
-    (λ is. shown-in_image s t name e image is inner a) (λ c. either _ _ c
-    (λ is. leaf-escaped s t name e is fit inner)
-    (λ is. autolink-in_image s t name image is inner)))))
+    either _ _ (rw stands at (span-sorts name)) (λ is. rw (hidden-prints s.context t name is inner)
+    (adds-nothing refl)) (λ c. either _ _ c (λ is. rw (silent-prints s.context t name is inner)
+    (inside-is s t Spans Spans name inner (grind arith) a))
+    (grind (arith, text-node, shown-in_image, leaf-escaped, autolink-in_image)))
 
 -- the info string
 info-node : (s : Setting) (escaping : Bool) {inner rest : List Piece} → escaping ≡ true →
@@ -66,13 +56,8 @@ info-node : (s : Setting) (escaping : Bool) {inner rest : List Piece} → escapi
 info-node s escaping e a b = adds-append
     {f = λ w. (v : List ℕ) × (w ≡ codes " class=\"language-" ++ (v ++ codes "\"")) × Escaped v}
     {g = IsNil} (λ x y f g. rw (g, append-nil, f.1) (inr (f.0, refl, f.2, refl))) (adds-append {f =
-    λ x. x ≡ codes " class=\"language-"}
-    {g = λ w. (v : List ℕ) × (w ≡ v ++ codes "\"") × Escaped v} (λ x w f g. (
-      g.0,
-      rw (f, g.1) refl,
-      g.2,
-    )) (adds-text refl)
-    (adds-append (λ v y f g. (v, ap (λ y. v ++ y) g, f e)) a
+    λ x. x ≡ codes " class=\"language-"} {g = λ w. (v : List ℕ) × (w ≡ v ++ codes "\"") × Escaped v}
+    (grind arith) (adds-text refl) (adds-append (λ v y f g. (v, ap (λ y. v ++ y) g, f e)) a
     (adds-text {f = λ x. x ≡ codes "\""} refl))) b
 
 in_code-nil : (s : Setting) {rest : List Piece} → Prints s IsNil rest →
@@ -84,24 +69,12 @@ info_or_meta-node : (s : Setting) (t : At) (name : Name) → t.around.is_escapin
     Inside s t InfoAndMeta name inner → Prints s (Here s t (content_past InfoAndMeta name)) rest →
     Prints s (IsInfo code_tag) (prints s.context t name inner ++ rest)
 info_or_meta-node s t CodeFencedFenceInfo e is inner rest a b = info-node s _ e a b
-info_or_meta-node s t CodeFencedFenceMeta e is inner rest a b = in_code-nil s b
-info_or_meta-node s t MathFlowFenceMeta e is inner rest a b = in_code-nil s b
-info_or_meta-node s t _ e is inner rest a b = lie is
-
-meta-node : (s : Setting) (t : At) (name : Name) → may_stand MetaAlone name ≡ true →
-    (inner rest : List Piece) →
-    Prints s IsNil rest → Prints s IsNil (prints s.context t name inner ++ rest)
-meta-node s t name is inner rest b = grind arith
-
--- the mark of a task that is done
-checked : (s : Setting) (in_image : Bool) {rest : List Piece} → Prints s IsNil rest →
-    Prints s (IsDone in_image) (when (not in_image) (said (codes "checked=\"\" ")) ++ rest)
-checked s in_image b = grind (arith, adds-append, append-nil, adds-nothing, adds-text)
+info_or_meta-node s t name e is inner rest a b = grind (arith, in_code-nil)
 
 done-node : (s : Setting) (t : At) (name : Name) → may_stand Done name ≡ true →
     (inner rest : List Piece) → Prints s IsNil rest → Prints s
     (IsDone t.around.in_image) (prints s.context t name inner ++ rest)
-done-node s t name is inner rest b = grind (arith, checked)
+done-node s t name is inner rest b = grind (arith, adds-append, append-nil, adds-nothing, adds-text)
 
 -- a node among blocks is no part of another node
 pub not_part : (part : Bool) → cond part false true ≡ true → part ≡ false
@@ -124,15 +97,8 @@ pub solid-node : (s : Setting) (t : At) (content : Content) (name : Name) →
     Prints s (Here s t (content_past content name)) rest → Prints s
     (Here s t content) (prints s.context t name inner ++ rest)
 solid-node s t Blocks name solid stands k inner rest a b = adds-append (k.whole refl).both
-    (block-node s t name solid (not_part (is_part name || is_source name) stands) inner (record {
-      escaping = k.suits.escaped refl;
-      outside = k.suits.outside refl;
-      fit = k.fit;
-      resource = k.resource;
-      ids = λ _. (k.whole refl).ids;
-      heading = λ _. k.heading refl;
-      within = a;
-    })) b
+    (block-node s t name solid (not_part (is_part name || is_source name) stands) inner (grind
+    arith)) b
 solid-node s t Spans name solid stands k inner rest a b = adds-append escaped-append
     (span-any s t name k.suits stands k.fit inner a) b
 solid-node s t Strings name solid stands k inner rest a b = adds-append
@@ -146,7 +112,7 @@ solid-node s t Chunks name solid stands k inner rest a b = adds-append escaped-a
     (line-node s t name k.follows stands k.fit inner a) b
 solid-node s t InfoAndMeta name solid stands k inner rest a b = info_or_meta-node s t name
     (k.suits.escaped refl) stands inner rest a b
-solid-node s t MetaAlone name solid stands k inner rest a b = meta-node s t name stands inner rest b
+solid-node s t MetaAlone name solid stands k inner rest a b = grind arith
 solid-node s t Done name solid stands k inner rest a b = done-node s t name stands inner rest b
 solid-node s t Nothing name solid stands k inner rest a b = lie stands
 solid-node s t Sources name solid stands k inner rest a b = adds-any s.context.ending
@@ -162,13 +128,6 @@ Before s t content name inner =
     → Prints s (Holds s.p (inside s.context.options (is_loose t.children) name t.around).is_escaping
     (inside s.context.options (is_loose t.children) name t.around).in_image content) (inner ++ rest)
 
-through-node : (s : Setting) (t : At) (content : Content) (name : Name) →
-    is_transparent name ≡ true →
-    (inner rest : List Piece) → Before s t content name inner →
-    Prints s (Here s t (content_after content t.children)) rest →
-    Prints s (Here s t content) (prints s.context t name inner ++ rest)
-through-node s t content name is inner rest a b = grind arith
-
 -- what a node that isn't transparent holds
 pub inside-alone : (s : Setting) (t : At) (content : Content) (name : Name) →
     may_stand content name ≡ true → IsFitAt s t name → IsBuilt s.context.bytes
@@ -177,7 +136,7 @@ pub inside-alone : (s : Setting) (t : At) (content : Content) (name : Name) →
 inside-alone s t content name stands fit built inner a =
     let later = later-inside s.context.bytes content name t.place.start t.place.end t.children
     stands fit built in
-    rw (append-nil inner) at (a [] (adds-nothing (holds-nothing s.p _ _ _ later)))
+    rw (append-nil inner) at (a [] (adds-nothing (grind arith)))
 
 -- a node, and what is printed after it
 pub any-node : (s : Setting) (t : At) (content : Content) (name : Name) →
@@ -187,8 +146,8 @@ pub any-node : (s : Setting) (t : At) (content : Content) (name : Name) →
     (content_of name content)) name inner → Prints s (Here s t (cond (is_transparent name)
     (content_after content t.children) (content_past content name))) rest →
     Prints s (Here s t content) (prints s.context t name inner ++ rest)
-any-node s t content name stands k inner rest built a b = cases (is_transparent name)
-    (λ e. through-node s t content name e inner rest (rw e at a) (rw e at b)) (λ e.
+any-node s t content name stands k inner rest built a b = cases (is_transparent name) (λ e. grind
+    arith) (λ e.
     let may : may_stand content name ≡ true = second _ _ e stands in
     solid-node s t content name e may k inner rest (inside-alone s t content name may k.fit (rw e at
     built) inner (rw e at a)) (rw e at b))

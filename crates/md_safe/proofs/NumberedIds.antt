@@ -1,12 +1,12 @@
 -- Ids by number: which number each has is read back of it. The numbers of calls and their
 -- occurrences determine them, and so do their ids.
-use Rattle.std.proofs.Common.{◌≡◌, ℕ, ◌<◌, ◌^◌, zero, suc, true, false}
-use Rattle.std.proofs.Common.{List, [], ◌∷◌, ◌++◌, refl, sym, ap, arith, append_assoc}
-use Rattle.std.proofs.Common.{codes, ◌+◌, ◌≤◌, Bool, ◌||◌, length, append-nil, bytes_eq}
+use Rattle.std.proofs.Common.{◌≡◌, ℕ, ◌<◌, ◌^◌, zero, suc, true, false, List, [], ◌∷◌, ◌++◌, refl}
+use Rattle.std.proofs.Common.{sym, ap, arith, append_assoc, codes, ◌+◌, ◌≤◌, Bool, ◌||◌, length}
+use Rattle.std.proofs.Common.{append-nil, bytes_eq}
 use Rattle.std.specs.Prelude.{filter}
 use Rattle.std.specs.List.{list_all}
 use Rattle.std.specs.Fmt.{decimal, digits, digits_onto}
-use Rattle.std.proofs.lemmas.Bool.{and_parts, cond_both, cond_both, or_right}
+use Rattle.std.proofs.lemmas.Bool.{and_parts, cond_both, or_right}
 use Rattle.std.proofs.lemmas.Fmt.{decimal_injective}
 use Rattle.std.proofs.lemmas.List.{append_cancel_left, length-append}
 use Rattle.std.proofs.lemmas.List.Folds.{list_all-append}
@@ -94,11 +94,6 @@ call-back options on identifier number occurrence =
     let whole = prefix-back options (call_tail number occurrence) in
     grind (arith, append_assoc, whole, plain-back, list_all-append, digits-no_and, decimal-digits)
 
--- equal ids have equal numbers
-pub same-note : (options : CompileOptions) (n m : ℕ) → n < 2 ^ 64 → m < 2 ^ 64 →
-    back_prefix options ++ note_tail n ≡ back_prefix options ++ note_tail m → n ≡ m
-same-note options n m hn hm e = grind (arith, append_cancel_left, decimal_injective)
-
 pub same-call : (options : CompileOptions) (n m k l : ℕ) → n < 2 ^ 64 → m < 2 ^ 64 →
     k < 2 ^ 64 → l < 2 ^ 64 →
     back_prefix options ++ call_tail n k ≡ back_prefix options ++ call_tail m l → (n ≡ m) × (k ≡ l)
@@ -111,11 +106,6 @@ same-call options n m k l hn hm hk hl e =
     (decimal-digits m) refl refl numbers in
     let last : decimal k ≡ decimal l = cc (parts.1) in
     (decimal_injective n m hn hm parts.0, decimal_injective k l hk hl last)
-
--- a footnote's id is no call's, and neither is that of the heading
-pub note-no_call : (options : CompileOptions) (n m k : ℕ) → back_prefix options ++ note_tail n
-    ≡ back_prefix options ++ call_tail m k → ⊥
-note-no_call options n m k e = grind (arith, append_cancel_left)
 
 pub label-no_digit : (x : List ℕ) → codes "footnote-label" ≡ x → EndsInDigit x → ⊥
 label-no_digit x e ends = lie (rw (sym e) at ends)
@@ -151,17 +141,6 @@ count-append : (xs ys : List (List ℕ)) (x : List ℕ) → count_of (xs ++ ys) 
     + count_of ys x
 count-append [] ys x = omega arith
 count-append (z ∷ zs) ys x = omega (count-append zs ys x, arith)
-
-count-middle : (xs ys : List (List ℕ)) (x : List ℕ) → suc (count_of xs x) ≤ count_of
-    (xs ++ x ∷ ys) x
-count-middle xs ys x = grind (arith, itself x, count-append xs (x ∷ ys) x)
-
--- two calls have another number, or another occurrence
-calls-differ : (all before mid : List (List ℕ)) (x y : List ℕ) → is_in x all ≡ true →
-    place_among (distinct all) x ≡ place_among (distinct all) y →
-    suc (count_of before x) ≡ suc (count_of (before ++ x ∷ mid) y) → ⊥
-calls-differ all before mid x y among numbers occurrences =
-    grind (arith, same-place, is_in-distinct, count-middle)
 
 -- numbers and occurrences are no greater than the calls are many, and one
 place-last : (xs : List (List ℕ)) (x : List ℕ) → place_among xs x ≤ suc (length xs)
@@ -210,4 +189,15 @@ pub ids-differ : (options : CompileOptions) → options.gfm_footnote_number_ids 
     length (before ++ x ∷ mid) + 1 < 2 ^ 64 → id_after options all (before ++ x ∷ mid) y ≡ id_after
     options all before x → ⊥
 ids-differ options on all before mid x y among few small e =
-    grind (arith, length-append, call-back, same-call, number-bound, count-last, calls-differ)
+    grind (
+      arith,
+      length-append,
+      call-back,
+      same-call,
+      number-bound,
+      count-last,
+      same-place,
+      is_in-distinct,
+      itself,
+      count-append,
+    )

@@ -1,6 +1,5 @@
 -- However many steps are allowed, the tokens are the same.
-use Rattle.std.proofs.Common.{◌≡◌, ℕ, List, ◌++◌, Option, Some, arith}
-use Rattle.std.proofs.Common.{option_map, zero, suc}
+use Rattle.std.proofs.Common.{◌≡◌, ℕ, List, ◌++◌, Option, Some, arith, option_map, zero, suc}
 use Rattle.md_safe.specs.Token.{Token}
 use Rattle.md_safe.specs.TokenizerStates.{State, Step}
 use Rattle.md_safe.specs.Tokenizer.{run, after_step, IsRun}

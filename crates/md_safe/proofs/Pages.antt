@@ -1,7 +1,7 @@
 -- A page's document: its fixed parts by computing, its title character by character, and its
 -- body as it is built.
-use Rattle.std.proofs.Common.{◌≡◌, ℕ, ◌==◌, true, false, List, [], ◌∷◌, ◌++◌, refl, arith}
-use Rattle.std.proofs.Common.{ap, ◌∙◌, map, codes}
+use Rattle.std.proofs.Common.{◌≡◌, ℕ, true, false, List, [], ◌∷◌, ◌++◌, refl, arith, ap, ◌∙◌, map}
+use Rattle.std.proofs.Common.{codes}
 use Rattle.std.specs.Prelude.{Option, Some, None, is_some, option_and_then}
 use Rattle.std.specs.List.{list_all}
 use Rattle.std.proofs.lemmas.Bool.{and_parts, not-true}
@@ -18,7 +18,6 @@ use Rattle.md_safe.specs.Built.{at, open_at, put, with_characters, IsPlace, Buil
 use Rattle.md_safe.specs.Page.{constructed, document_of, page_document}
 use Rattle.md_safe.proofs.TreeSteps.{after-one, is_character}
 use Rattle.md_safe.proofs.WholeTrees.{forest-built, reading-texts}
-use Rattle.md_safe.proofs.Steps.{past}
 
 pub constructed-after : (doctype : Option (List ℕ)) (p q : Parser) (xs ys : List Token) →
     run p xs ≡ Some q →
@@ -55,10 +54,7 @@ text-says mode [] node others active created h = refl
 text-says mode (byte ∷ bytes) node others active created h =
     let parts = and_parts _ _ h in
     let next : Open = record node { children = with_character node.children byte } in
-    after-one (at (InText mode) (node ∷ others) active created)
-    (at (InText mode) (next ∷ others) active created) (Character byte) (map Character bytes)
-    (past _ (not-true (byte == 0) parts.0) refl)
-    ∙ text-says mode bytes next others active created parts.1
+    grind (arith, after-one, not-true, text-says mode bytes next others active created parts.1)
 
 -- the body and its ancestors, after a title of these characters
 abbrev pub root_at : List ℕ → Open

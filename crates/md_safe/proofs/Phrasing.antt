@@ -1,11 +1,11 @@
 -- Phrasing content is built as it is read: texts, void tags, formatting elements and others,
 -- without a link in a link.
-use Rattle.std.proofs.Common.{◌≡◌, inl, inr, ℕ, ◌≤◌, suc, Bool, true, false, List, refl}
-use Rattle.std.proofs.Common.{map, arith, Some}
+use Rattle.std.proofs.Common.{◌≡◌, inl, inr, ℕ, ◌≤◌, suc, Bool, true, false, List, refl, arith}
+use Rattle.std.proofs.Common.{Some}
 use Rattle.std.proofs.lemmas.Bool.{and_parts}
 use Rattle.md_text.specs.Html.{Attribute, Forest, Empty, Text, Void, Element}
 use Rattle.md_text.specs.References.{is_escaped}
-use Rattle.md_safe.specs.Token.{Character, StartTag, TokenAttribute}
+use Rattle.md_safe.specs.Token.{StartTag, TokenAttribute}
 use Rattle.md_safe.specs.Tokens.{seen, seen_attributes, tokens}
 use Rattle.md_safe.specs.Contents.{Content, elements_in, is_contained}
 use Rattle.md_safe.specs.Node.{Nodes, Entry, with_element, Empty as NoNode}
@@ -16,9 +16,9 @@ use Rattle.md_safe.proofs.Lists.{Keeps, keeps-all, keeps-twice, keeps-open, keep
 use Rattle.md_safe.proofs.Lists.{later-created, keeps-none}
 use Rattle.md_safe.proofs.TreeSteps.{Position, parser_of, with_children, within, after, after-one}
 use Rattle.md_safe.proofs.TreeSteps.{characters-run, same-open, seen-characters}
-use Rattle.md_safe.proofs.PhrasingNames.{Here, Done, void-step, Passed, is_free, found}
-use Rattle.md_safe.proofs.PhrasingRules.{ordinary-passes, formatting-passes, Rule, here-formatting}
-use Rattle.md_safe.proofs.PhrasingRules.{here-within, is_inline, rules, void-in}
+use Rattle.md_safe.proofs.PhrasingNames.{void-named, Here, Done, void-step, Passed, is_free, found}
+use Rattle.md_safe.proofs.PhrasingRules.{rules, ordinary-passes, formatting-passes, Rule}
+use Rattle.md_safe.proofs.PhrasingRules.{here-formatting, here-within, is_inline}
 
 -- after what was inserted
 pub here-after : {x : Position} {children : Nodes} {left : List Entry} {more : ℕ} {free : Bool} →
@@ -50,10 +50,7 @@ pub text-done : {x : Position} {free : Bool} {bytes : List ℕ} {rest : Forest} 
     (with_characters x.node.children (seen bytes)) x.active x.created) rest →
     Done x (Text bytes rest)
 text-done {x} {bytes = bytes} escaped here later =
-    let says = characters-run (seen bytes) x here.body (seen-characters bytes escaped) here.opened
-    in
-    onward refl (after _ _ (map Character (seen bytes)) _ says) (keeps-all x.active) (omega arith)
-    later
+    grind (arith, characters-run, seen-characters, onward, after, keeps-all)
 
 -- a void tag, and what comes after it
 pub void-done : {x : Position} {name : List ℕ} {attributes : List Attribute} {rest : Forest} → step
@@ -109,10 +106,9 @@ phrasing-done (Text bytes rest) content is h c x here =
 phrasing-done (Void name attributes rest) content is h c x here =
     let parts = and_parts _ _ c in
     let next : Nodes = with_element x.node.children name (seen_attributes attributes) NoNode in
-    void-done (void-step x (seen_attributes attributes) here.body here.opened
-    (void-in content name is parts.0)) (phrasing-done rest content is h parts.1
-    (with_children x next x.active (suc x.created))
-    (here-after (keeps-all x.active) (omega arith) here))
+    void-done (grind (arith, void-step, void-named)) (phrasing-done rest content is h parts.1
+    (with_children x next x.active (suc x.created)) (here-after (keeps-all x.active) (omega arith)
+    here))
 phrasing-done (Element name attributes inner rest) content is h c x here =
     let forests = element-parts name attributes inner rest h in
     let parts = and_parts _ _ c in

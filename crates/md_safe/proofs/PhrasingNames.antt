@@ -1,7 +1,7 @@
 -- Where phrasing content may be inserted, what builds an element there, and which elements there
 -- are.
-use Rattle.std.proofs.Common.{◌≡◌, ℕ, ◌≤◌, suc, Bool, true, false, List, [], ◌∷◌, ◌++◌}
-use Rattle.std.proofs.Common.{◌∙◌, codes, arith, not, ◌&&◌}
+use Rattle.std.proofs.Common.{◌≡◌, ℕ, ◌≤◌, suc, Bool, true, false, List, [], ◌∷◌, ◌++◌, ◌∙◌, codes}
+use Rattle.std.proofs.Common.{arith, not, ◌&&◌}
 use Rattle.std.specs.Prelude.{Some, None, find, option_map, bytes_eq}
 use Rattle.std.specs.Option.{option_map_or}
 use Rattle.std.proofs.lemmas.Slice.Eq.{bytes_eq-Decides}
@@ -22,7 +22,7 @@ use Rattle.md_safe.specs.Construction.{run, step}
 use Rattle.md_safe.specs.Built.{put, at, is_body, AreCreated, AreOpen}
 use Rattle.md_safe.proofs.Lists.{Keeps}
 use Rattle.md_safe.proofs.TreeSteps.{Position, parser_of, with_children, element_of, within, after}
-use Rattle.md_safe.proofs.TreeSteps.{after-one, start-in-body, end-in-body, reconstructs}
+use Rattle.md_safe.proofs.TreeSteps.{after-one, start-in-body, reconstructs}
 use Rattle.std.proofs.lemmas.Bool.{cond_both}
 
 -- where phrasing content may be inserted
@@ -114,9 +114,6 @@ abbrev pub is_outer : List ℕ → Bool
 is_outer name = not (is_one_of parts name) && (not (is_one_of cells name) && (not
     (is_one_of (codes "table" ∷ codes "tr" ∷ sections) name) && bytes_eq name name))
 
-pub outside : {name : List ℕ} → is_outer name ≡ true → IsOuter name
-outside {name} h = grind arith
-
 pub void-named : (name : List ℕ) → is_one_of (codes "br" ∷ codes "img" ∷ codes "input" ∷ []) name
     ≡ true → IsVoid name
 void-named name h =
@@ -158,12 +155,11 @@ passes {x = x} {name = name} {attributes = attributes} {inner = inner} pushed ke
     record {
       left = kept;
       more = d.more;
-      runs = λ ys. after-one (parser_of x) begun (StartTag name those false)
-          (tokens inner ++ (EndTag name ∷ ys))
-          (start-in-body x body name those false outer.outer ∙ starts) ∙ (same ys ∙ (after
-          (parser_of new) (parser_of last) (tokens inner) (EndTag name ∷ ys) d.runs ∙ after-one
-          (parser_of last) (at x.mode (popped (full x name attributes inner)) kept d.more)
-          (EndTag name) ys (end-in-body last body name outer.no_cell outer.no_table ∙ ends)));
+      runs = λ ys. after-one (parser_of x) begun (StartTag name those false) (tokens inner ++
+          (EndTag name ∷ ys)) (start-in-body x body name those false outer.outer ∙ starts) ∙ (same
+          ys ∙ (after (parser_of new) (parser_of last) (tokens inner) (EndTag name ∷ ys) d.runs ∙
+          after-one (parser_of last) (at x.mode (popped (full x name attributes inner)) kept d.more)
+          (EndTag name) ys ((grind arith) ∙ ends)));
       keeps = keeps;
       later = omega (d.later, arith);
     }

@@ -1,15 +1,15 @@
 -- Ordinary and formatting elements are built as they are read, by what their children do; what is
 -- known of each element of phrasing content, and where its children are inserted.
-use Rattle.std.proofs.Common.{◌≡◌, inl, inr, ℕ, ◌==◌, true, false, List, ◌∷◌, refl, ◌∙◌}
-use Rattle.std.proofs.Common.{codes, eq-eqb, ◌⊎◌, suc, Bool, arith}
-use Rattle.std.specs.Prelude.{Some, None, bytes_eq, bytes_eq}
+use Rattle.std.proofs.Common.{◌≡◌, inl, inr, ℕ, ◌==◌, true, false, List, ◌∷◌, refl, ◌∙◌, codes}
+use Rattle.std.proofs.Common.{eq-eqb, ◌⊎◌, suc, Bool, arith}
+use Rattle.std.specs.Prelude.{Some, None, bytes_eq}
 use Rattle.md_text.specs.Bytes.{is_one_of}
 use Rattle.md_text.specs.Html.{Attribute, Forest}
 use Rattle.md_safe.specs.Token.{TokenAttribute}
 use Rattle.md_safe.specs.Tokens.{seen_attributes}
-use Rattle.md_safe.specs.Node.{Nodes, Open, Entry, Formatting, Mode, Empty as NoNode, Entry}
+use Rattle.md_safe.specs.Node.{Nodes, Open, Entry, Formatting, Mode, Empty as NoNode}
 use Rattle.md_safe.specs.Elements.{special}
-use Rattle.md_safe.specs.Stack.{insert, popped, insert}
+use Rattle.md_safe.specs.Stack.{insert, popped}
 use Rattle.md_safe.specs.Formatting.{push, last_active, adopt, end_formatting}
 use Rattle.md_safe.specs.InBody.{insert_formatting}
 use Rattle.md_safe.specs.Built.{put, at, is_body, AreCreated, AreOpen}
@@ -17,12 +17,10 @@ use Rattle.md_safe.proofs.Lists.{Keeps, keeps-twice, room, keeps-room, keeps-cre
 use Rattle.md_safe.proofs.Lists.{keeps-open, later-created, open-under, keeps-none}
 use Rattle.md_safe.proofs.Steps.{here, past}
 use Rattle.md_safe.proofs.TreeSteps.{Position, parser_of, element_of, within, reconstructs}
-use Rattle.md_safe.proofs.PhrasingNames.{Done, Passed, IsOrdinary, IsFormatting, full, passes}
-use Rattle.md_safe.proofs.PhrasingNames.{is_free, Each, IsVoid}
-use Rattle.md_safe.proofs.PhrasingNames.{void-named, Here}
+use Rattle.md_safe.proofs.PhrasingNames.{Each, Done, Passed, IsOrdinary, IsFormatting, full, passes}
+use Rattle.md_safe.proofs.PhrasingNames.{is_free, Here}
 use Rattle.std.proofs.lemmas.Bool.{or_left}
-use Rattle.md_safe.specs.Contents.{Content, Phrasing, Linked, Characters}
-use Rattle.md_safe.specs.Contents.{elements_in, voids_in}
+use Rattle.md_safe.specs.Contents.{elements_in, Content, Phrasing, Linked, Characters}
 
 -- an ordinary element
 pub ordinary-passes : {x : Position} {name : List ℕ} {attributes : List Attribute}
@@ -102,10 +100,6 @@ pub rules : (content : Content) → is_inline content ≡ true →
     Each (Rule content) (elements_in false content)
 rules content is = grind arith
 
-pub void-in : (content : Content) (name : List ℕ) → is_inline content ≡ true →
-    is_one_of (voids_in content) name ≡ true → IsVoid name
-void-in content name is h = grind (arith, void-named)
-
 -- where the children of a formatting element are inserted
 pub here-formatting : {x : Position} {name : List ℕ} {those : List TokenAttribute}
     {content held : Content} → Rule content name held → Here x (is_free content) →
@@ -116,10 +110,7 @@ here-formatting {x = x} {name = name} {those = those} rule here =
     let new : Position = within x name those left in
     record {
       body = here.body;
-      opened = (
-        or_left _ _ (self_same x.created),
-        open-under new.node new.others left (keeps-open new.others x.active left here.opened kept),
-      );
+      opened = grind (arith, or_left, self_same, open-under, keeps-open);
       made = (
         omega arith,
         later-created x.created (suc x.created) left (omega arith)

@@ -1,6 +1,5 @@
 -- Each document of the grammar is placed: the content of a node's children allows them.
-use Rattle.std.proofs.Common.{◌≡◌, true, ◌||◌, false, Bool, Option, None, List}
-use Rattle.std.proofs.Common.{◌++◌, refl, sym, ◌∙◌, arith}
+use Rattle.std.proofs.Common.{◌≡◌, true, ◌||◌, false, Bool, Option, None, List, ◌++◌, refl, arith}
 use Rattle.std.specs.List.{list_all}
 use Rattle.std.proofs.lemmas.Bool.{and_parts}
 use Rattle.std.proofs.lemmas.List.Folds.{list_all-append}
@@ -14,10 +13,9 @@ use Rattle.md_pattern.specs.declared.kinds.Role.TheVariants as role
 use Rattle.md_pattern.specs.declared.kinds.Standing.{Standing}
 use Rattle.md_pattern.specs.declared.kinds.Standing.TheVariants.{Through, Space, Solid, Mdx}
 use Rattle.md_pattern.specs.Standing.{standing_of}
-use Rattle.md_pattern.specs.Pattern.{pattern_of}
 use Rattle.md_pattern.specs.Spine.{spine, shown, IsTail, Matches}
 use Rattle.md_pattern.specs.Shape.{AreShaped, IsStanding, role_for, IsShaped}
-use Rattle.md_content.proofs.Letters.{letters, fits-all, grouped-all, tail-all}
+use Rattle.md_content.proofs.Letters.{fits-all, grouped-all, tail-all}
 use Rattle.md_safe.specs.Contents.{Content, Flow, Phrasing, Items, Parts, Rows, Cells, Characters}
 use Rattle.md_safe.specs.Placed.{Sort, Block, Item, Part, Row, Cell, Ending, Chunk, Delimiters}
 use Rattle.md_safe.specs.Placed.{Inline, sort_of, may_stand, place_of, place_inside, IsPlaced}
@@ -76,29 +74,16 @@ may_show content seen = may_stand content (sort_for seen)
 
 -- ---- what may stand after a symbol of a group may stand there
 
-phrasing-shows : (first : Symbol) (tail : List Symbol) → may_show Phrasing first ≡ true →
-    IsTail first tail → list_all (may_show Phrasing) tail ≡ true
-phrasing-shows first tail h is = grind arith
-
--- where neither a reference nor a heading begins
-alone-shows : (content : Content) → may_show content symbol.ReferenceMarker ≡ false →
-    may_show content symbol.SetextText ≡ false → (first : Symbol) (tail : List Symbol) →
-    may_show content first ≡ true → IsTail first tail → list_all (may_show content) tail ≡ true
-alone-shows content a b first tail h is = grind arith
-
 tail-shows : (content : Content) (first : Symbol) (tail : List Symbol) →
     may_show content first ≡ true →
     IsTail first tail → list_all (may_show content) tail ≡ true
-tail-shows content first tail h is = grind (arith, tail-all, phrasing-shows, alone-shows)
+tail-shows content first tail h is = grind (arith, tail-all)
 
 -- ---- what matches a role's pattern may stand in its place
 
-letters-show : (usual : Role) → letters (may_show (place_for usual)) (pattern_of usual) ≡ true
-letters-show usual = grind arith
-
 all-show : (usual : Role) (symbols : List Symbol) → Matches usual symbols →
     list_all (may_show (place_for usual)) symbols ≡ true
-all-show usual symbols match = grind (arith, grouped-all, tail-shows, fits-all, letters-show)
+all-show usual symbols match = grind (arith, grouped-all, tail-shows, fits-all)
 
 role-place : (around : Role) (before : Option Symbol) (usual : Role) →
     place_for (role_for around before usual) ≡ place_for usual
@@ -117,8 +102,7 @@ spot : (standing : Standing) (name : Name) (children : Forest) (around : Role)
     IsStanding standing around before children → list_all (may_show content)
     (shown standing (spine children) ++ others) ≡ true → Spot standing name children content others
 spot Through name children around before content others says stands h =
-    let whole = and_parts _ _ (sym (list_all-append _ (spine children) others) ∙ h) in
-    record { stands = rw says refl; inside = rw says whole.0; after = whole.1 }
+    grind (arith, and_parts, list_all-append, says)
 spot Space name children around before content others says stands h =
     record { stands = rw says refl; inside = rw stands refl; after = h }
 spot (Solid seen usual reading) name children around before content others says stands h =

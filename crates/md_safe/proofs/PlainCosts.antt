@@ -1,18 +1,16 @@
 -- What nodes cost whose names have no rule of their own.
 use Rattle.std.proofs.Common.{◌≡◌, ℕ, Bool, true, false, ◌||◌, List, [], refl, sym, ◌∙◌, arith}
-use Rattle.std.specs.Prelude.{None}
 use Rattle.md_base.proofs.Lies.{lie}
 use Rattle.md_base.specs.declared.event.Name.{Name}
 use Rattle.md_base.specs.declared.event.Name.TheVariants as name_variants
-use name_variants.{HeadingSetextText}
-use name_variants.{HeadingSetextUnderlineSequence, GfmFootnoteDefinition}
+use name_variants.{HeadingSetextText, HeadingSetextUnderlineSequence, GfmFootnoteDefinition}
 use Rattle.md_base.specs.Is.{is as named}
 use Rattle.md_base.specs.Tree.{Forest, Empty, Node}
 use Rattle.md_base.specs.NameTests.{is_transparent, is_call}
 use Rattle.md_meaning.specs.declared.surroundings.Surroundings.{Surroundings}
-use Rattle.md_meaning.specs.Meaning.At.{Before, At}
-use Rattle.md_meaning.specs.Meaning.Nodes.{found_at, before_next, outcome}
-use Rattle.md_content.specs.Underlined.{is_underline, waits_past}
+use Rattle.md_meaning.specs.Meaning.At.{Before}
+use Rattle.md_meaning.specs.Meaning.Nodes.{before_next, outcome}
+use Rattle.md_content.specs.Underlined.{waits_past}
 use Rattle.md_content.specs.Built.{Content, Blocks, is_part, is_source, may_stand, content_of}
 use Rattle.md_content.specs.Built.{content_inside, content_after_node, IsBuilt, IsFit}
 use Rattle.md_safe.proofs.Insides.{is_blocks, is_blocks-same}
@@ -56,20 +54,6 @@ no_wait : (name : Name) → is_setext name ≡ false → is_blocks (content_of n
     waits_past waits name ≡ false
 no_wait name other blocks waits = grind arith
 
-keeps_wait : (w : List ℕ) (m : ℕ) (name : Name) → is_setext name ≡ false →
-    (waits : Bool) (x : List ℕ) →
-    Waiting w waits m x → Waiting w (waits_past waits name) m x
-keeps_wait w m name other waits x h = grind arith
-
--- nor is a heading found at it
-no_heading : (t : At) (name : Name) (x : List ℕ) → is_transparent name ≡ false →
-    is_setext name ≡ false →
-    (found_at t name x).heading ≡ None
-no_heading t name x solid other = grind arith
-
-no_underline : (name : Name) → is_setext name ≡ false → is_underline name ≡ true → false ≡ true
-no_underline name other is = grind arith
-
 -- what a name of no rule of its own is
 pub record IsPlain (name : Name) : Type 0 where
   pub setext : is_setext name ≡ false
@@ -80,16 +64,8 @@ pub record IsPlain (name : Name) : Type 0 where
 plain-prints : {d : Document} {w : List ℕ} {p : Place} {name : Name} {n : ℕ} → Stands d p name →
     IsPlain name → Inside (counted_in d w n) (at_of d p name) Blocks name
     (inner_of d p name).pieces → Adds d.context.ending (Counts w n) (here_of d p name).pieces
-plain-prints {d = d} {w = w} {p = p} {name = name} {n = n} k plain within = block-node
-    (counted_in d w n) (at_of d p name) name k.solid k.whole (inner_of d p name).pieces (record {
-      escaping = k.ready.suits.escaped refl;
-      outside = k.ready.suits.outside refl;
-      fit = k.fit;
-      resource = k.known.found.resource;
-      ids = λ call. lie (sym plain.call ∙ call);
-      heading = λ is. lie (no_underline name plain.setext is);
-      within = within;
-    })
+plain-prints {d = d} {w = w} {p = p} {name = name} {n = n} k plain within = block-node (counted_in d
+    w n) (at_of d p name) name k.solid k.whole (inner_of d p name).pieces (grind arith)
 
 -- a node in which blocks stand
 pub around-blocks : {d : Document} {w : List ℕ} {p : Place} {name : Name} {m : ℕ} (waits : Bool) →
@@ -105,13 +81,9 @@ around-blocks {d} {w} {p} {name} waits k plain blocks b = record {
   few = omega (b.few, cost-least d w p name, arith);
 }
 
-no_definition : (content : Content) → may_stand content GfmFootnoteDefinition ≡ true →
-    is_blocks content ≡ true
-no_definition content h = grind arith
-
 none_here : (content : Content) (name : Name) → (is_transparent name || may_stand content name)
     ≡ true → is_blocks content ≡ false → named GfmFootnoteDefinition name ≡ false
-none_here content name stands other = grind (arith, no_definition)
+none_here content name stands other = grind arith
 
 -- no footnote is defined but among blocks
 pub no_footnotes : (d : Document) (content : Content) (forest : Forest) (around : Surroundings)
@@ -136,19 +108,14 @@ pub around-others : {d : Document} {w : List ℕ} {p : Place} {name : Name} {m :
     (waits_past waits name) (here_of d p name)
 around-others {d} {w} {p} {name} {m} waits k plain blocks h =
     let counted = means (counted_in d w 0) p.children (inner_around d p name) (inner_before p name)
-    (content_inside Blocks name) k.built (record {
-      suits = k.within.suits;
-      follows = k.within.follows;
-      whole = λ is. lie (sym blocks ∙ is);
-      heading = λ is. lie (sym blocks ∙ is);
-    }) in
+    (content_inside Blocks name) k.built (grind arith) in
     record {
       body = 0;
       left = m;
       notes = 0;
       prints = plain-prints k plain (inside-means (at_of d p name) Blocks name k.solid k.stands
           k.fit k.built counted);
-      heading = grind (arith, no_heading, keeps_wait);
+      heading = grind arith;
       texts = no-footnote d w 0 p name plain.footnote (rw (no_footnotes d (content_inside Blocks
           name) p.children (inner_around d p name) (inner_before p name) blocks k.built) tt);
       few = omega arith;

@@ -1,29 +1,22 @@
 -- What the inductions need is known at the beginning of a document.
-use Rattle.std.proofs.Common.{◌≡◌, ℕ, Bool, true, cond, List, [], refl, arith}
+use Rattle.std.proofs.Common.{◌≡◌, ℕ, Bool, true, List, [], refl, arith}
 use Rattle.std.specs.Prelude.{Option, Some, None}
 use Rattle.std.specs.Option.{option_map_or}
-use Rattle.md_base.specs.declared.event.Name.{Name}
-use Rattle.md_base.specs.declared.event.Point.{Point}
 use Rattle.md_base.specs.declared.event.Position.{Position}
-use Rattle.md_text.specs.declared.line_ending.LineEnding.{LineEnding as Ending}
 use Rattle.md_text.specs.Laws.{is_line_ends}
-use Rattle.md_text.specs.LineEnding.{ending_text}
 use Rattle.md_text.specs.Html.{Attribute, any_attribute}
 use Rattle.md_text.proofs.HtmlJoin.{join}
 use Rattle.md_base.specs.Tree.{Forest, Empty, Node}
 use Rattle.md_base.specs.Children.{or_else}
 use Rattle.md_text.specs.Ids.{ids}
-use Rattle.md_base.specs.NameTests.{is_line_ending}
 use Rattle.md_text.specs.declared.options.CompileOptions.{CompileOptions}
-use Rattle.md_tree.specs.Rules.{place as position}
 use Rattle.md_meaning.specs.Meaning.{ending_at}
 use Rattle.md_meaning.specs.Meaning.Inherited.{outermost}
 use Rattle.md_meaning.specs.Meaning.At.{Context, text_in}
 use Rattle.md_meaning.specs.Meaning.Before.{nothing_before}
 use Rattle.md_meaning.specs.Meaning.Finds.{first_ending}
 use Rattle.md_meaning.specs.Meaning.Nodes.{outcome}
-use Rattle.md_content.specs.Built.{Content, Blocks, content_inside, content_after_node}
-use Rattle.md_content.specs.Built.{IsBuilt, IsFit}
+use Rattle.md_content.specs.Built.{Content, Blocks, content_inside, content_after_node, IsBuilt}
 use Rattle.md_safe.proofs.Stands.{IsWhite, line_ends-white}
 use Rattle.md_safe.proofs.Costs.{Document, read_in}
 use Rattle.md_safe.specs.Options.{KeepsGrammar}
@@ -41,11 +34,6 @@ first_of_two : (bytes : List ℕ) (first second : Option Position) → IsEnding 
     IsEnding bytes (or_else first second)
 first_of_two bytes first second f g = grind arith
 
-own-ending : (bytes : List ℕ) (name : Name) (start end : Point) (children : Forest) →
-    IsFit bytes name start end children → IsEnding bytes
-    (cond (is_line_ending name) (Some (position start end)) None)
-own-ending bytes name start end children fit = grind arith
-
 -- the first line ending of a document is one
 pub first-is_ending : (bytes : List ℕ) (content : Content) (forest : Forest) →
     IsBuilt bytes content forest →
@@ -54,15 +42,12 @@ first-is_ending bytes content Empty built = refl
 first-is_ending bytes content (Node name start end children rest) built =
     let inner = first-is_ending bytes (content_inside content name) children built.2 in
     let later = first-is_ending bytes (content_after_node content name children) rest built.3 in
-    grind (arith, first_of_two, own-ending, inner, later)
-
-default-white : (ending : Ending) → IsWhite (ending_text ending)
-default-white ending = grind arith
+    grind (arith, first_of_two, inner, later)
 
 -- the line ending that is used is white space, and escaped
 pub ending-white : (options : CompileOptions) (bytes : List ℕ) (place : Option Position) →
     IsEnding bytes place → IsWhite (ending_at options bytes place)
-ending-white options bytes None h = default-white _
+ending-white options bytes None h = grind arith
 ending-white options bytes (Some place) h = line_ends-white (text_in bytes place) h
 
 -- what is known at the document's beginning

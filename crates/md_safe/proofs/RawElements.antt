@@ -1,8 +1,7 @@
 -- The tags of fenced code and of math, around what is said of it and what it holds.
-use Rattle.std.proofs.Common.{◌≡◌, ◌⊎◌, ℕ, List, [], ◌∷◌, ◌++◌, refl, ap}
-use Rattle.std.proofs.Common.{append_assoc, append-nil, codes}
+use Rattle.std.proofs.Common.{◌≡◌, ◌⊎◌, ℕ, List, [], ◌∷◌, ◌++◌, refl, ap, append_assoc, append-nil}
+use Rattle.std.proofs.Common.{codes}
 use Rattle.std.specs.List.{list_any}
-use Rattle.md_text.specs.Html.{opening_tag}
 use Rattle.md_base.specs.Children.{spine_names}
 use Rattle.md_base.specs.NameTests.{is_chunk}
 use Rattle.md_meaning.specs.Meaning.At.{At}
@@ -10,8 +9,7 @@ use Rattle.md_meaning.specs.Meaning.Layout.{Piece, Text, Needed, Forced, when}
 use Rattle.md_meaning.specs.Meaning.Blocks.{code_end, is_unclosed, runs_out}
 use Rattle.md_safe.proofs.Texts.{Escaped}
 use Rattle.md_safe.proofs.Laid.{Adds, adds-append, adds-needed, adds-forced, adds-when, IsBeside}
-use Rattle.md_safe.proofs.Tags.{attribute, IsFramed, Turns, Takes, adds-flat, adds-framed}
-use Rattle.md_safe.proofs.Tags.{framed-after}
+use Rattle.md_safe.proofs.Tags.{IsFramed, Turns, Takes, adds-flat, adds-framed, framed-after}
 use Rattle.md_safe.proofs.Elements.{code_closing}
 
 -- the tags of fenced code, without the end of the second one, and of math
@@ -82,11 +80,6 @@ fenced-end {W} {ending} beside h t =
     let last = adds-when beside (is_unclosed t) (adds-needed beside h) in
     simp append_assoc (simp append_assoc at (adds-framed {c = code_closing} (adds-append beside.both
     out line) last))
-
-pub info_regrouped : (v : List ℕ) → codes "<pre>" ++ opening_tag (codes "code")
-    (attribute (codes "class") (codes "language-" ++ v) ∷ []) ≡ code_tag
-    ++ ((codes " class=\"language-" ++ (v ++ codes "\"")) ++ (62 ∷ []))
-info_regrouped v = simp append_assoc
 
 pub raw : (tag x y : List ℕ) → IsInfo tag x → Escaped y → IsRaw tag (x ++ (62 ∷ y))
 raw tag x y h e = record { attributes = x; info = h; body = y; whole = refl; escaped = e }

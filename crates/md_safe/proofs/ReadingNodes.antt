@@ -16,11 +16,10 @@ use Rattle.md_safe.proofs.Tags.{element-read, takes-escaped, void-read}
 use Rattle.md_safe.proofs.Claims.{Claims, Known}
 use Rattle.md_safe.proofs.FlowCases.{solid-node}
 use Rattle.md_safe.proofs.Laid.{Adds, adds-needed, escaped_beside}
-use Rattle.md_safe.proofs.Linking.{is_spans, with_links}
 use Rattle.md_safe.proofs.Spot.{Setting}
 use Rattle.md_safe.proofs.Texts.{Escaped, line_ends-escaped}
 use Rattle.md_safe.specs.Contents.{Cells, Content, Flow, Items, Parts, Rows}
-use Rattle.md_safe.specs.Placed.{Cell, Item, Part, Row, Sort, may_stand, sort_of}
+use Rattle.md_safe.specs.Placed.{Cell, Item, Part, Row, Sort, sort_of}
 use Rattle.md_safe.proofs.Insides.{is_blocks-same}
 
 abbrev pub reads : Setting → Claims
@@ -52,16 +51,9 @@ reads s = record {
 abbrev place_for : Sort → Content
 place_for sort = elim sort [ Item ↦ Items | Part ↦ Parts | Row ↦ Rows | Cell ↦ Cells | _ ↦ Flow ]
 
-stands-there : (sort : Sort) → may_stand (with_links (place_for sort)) sort ≡ true
-stands-there sort = grind arith
-
-no-spans : (sort : Sort) → is_spans (place_for sort) ≡ false
-no-spans sort = grind arith
-
 pub block-node : (s : Setting) (t : At) (name : Name) → is_transparent name ≡ false →
     (is_part name || is_source name) ≡ false → (inner : List Piece) → Known (reads s) t name inner →
     Adds s.context.ending s.p.holds (prints s.context t name inner)
 block-node s t name solid whole inner k = solid-node (reads s) t (place_for (sort_of name)) name
-    solid whole (stands-there (sort_of name)) inner k
-    (λ is. rw (is_blocks-same (content_of name Blocks) is) at k.within)
-    (λ is. lie (sym (no-spans (sort_of name)) ∙ is))
+    solid whole (grind arith) inner k (λ is. rw (is_blocks-same (content_of name Blocks) is) at
+    k.within) (λ is. lie (sym (grind arith) ∙ is))

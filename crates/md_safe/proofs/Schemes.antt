@@ -1,36 +1,32 @@
 -- A value without a protocol has no scheme, and one with a permitted protocol has that scheme: no
 -- byte that is removed or changed on the way belongs to a scheme.
 use Rattle.std.proofs.Common.{◌≡◌, ℕ, ◌==◌, Bool, true, false, List, [], ◌∷◌, ◌++◌, refl, None}
-use Rattle.std.proofs.Common.{arith, ◌||◌, not, ◌&&◌, sym, ap, ap₂, ◌∙◌, Option}
-use Rattle.std.proofs.Common.{Some, append-nil, append_assoc, eqb-true}
+use Rattle.std.proofs.Common.{arith, ◌||◌, not, ◌&&◌, sym, ap, ap₂, ◌∙◌, Option, Some, append-nil}
+use Rattle.std.proofs.Common.{append_assoc, eqb-true}
 use Rattle.std.specs.List.{list_all}
 use Rattle.std.proofs.lemmas.Bool.{cond_both, and_parts, or_left}
-use Rattle.md_text.specs.Bytes.{is_letter, lower, is_letter, lower, lowered, is_one_of}
-use Rattle.md_text.specs.Url.{protocol_of, protocol_of, link_protocols, image_protocols}
+use Rattle.md_text.specs.Bytes.{is_letter, lower, lowered, is_one_of}
+use Rattle.md_text.specs.Url.{protocol_of, link_protocols, image_protocols}
 use Rattle.md_text.proofs.ProtocolLemmas.{map_none, ends_protocol, none_some, map_some}
 use Rattle.md_text.proofs.ProtocolLemmas.{protocol_of-goes_on, protocol_of-colon, protocol_of-end}
 use Rattle.md_text.proofs.HtmlRead.{passes_not}
-use Rattle.md_safe.specs.Input.{with_line_feeds, with_line_feeds, begins_with_line_feed}
+use Rattle.md_safe.specs.Input.{with_line_feeds, begins_with_line_feed}
 use Rattle.md_safe.specs.Scheme.{is_control_or_space, without_leading, without_trailing}
-use Rattle.md_safe.specs.Scheme.{is_tab_or_newline, without_newlines, is_scheme_byte, in_scheme}
-use Rattle.md_safe.specs.Scheme.{in_scheme_start, scheme_of, has_permitted_scheme}
+use Rattle.md_safe.specs.Scheme.{without_newlines, is_scheme_byte, in_scheme, in_scheme_start}
+use Rattle.md_safe.specs.Scheme.{scheme_of, has_permitted_scheme}
 use Rattle.std.specs.Option.{option_map_or}
 use Rattle.md_base.specs.Identifier.{is_nonempty}
 use Rattle.md_text.specs.References.{is_escaped, read_back}
 use Rattle.md_text.specs.Safe.{is_safe_value}
 use Rattle.md_safe.proofs.Cases.{one_of-passes, all-weaker, cases}
 use Rattle.md_safe.specs.Tokens.{seen}
-use Rattle.md_safe.proofs.EscapedCases.{IsPlain, by_escaped}
+use Rattle.md_safe.proofs.EscapedCases.{by_escaped}
 use Rattle.md_safe.proofs.LineFeeds.{no_return, line_feeds-name}
 use Rattle.md_safe.proofs.Steps.{here}
 use Rattle.md_text.specs.Kept.{goes_on}
 
 abbrev pub HasNone : List ℕ → Type 0
 HasNone x = protocol_of x ≡ None
-
--- another text may follow that has none
-none-keep : (b : ℕ) (x y : List ℕ) → (HasNone x → HasNone y) → HasNone (b ∷ x) → HasNone (b ∷ y)
-none-keep b x y f h = grind (arith, f, map_none b (protocol_of x))
 
 -- after a byte that doesn't end a protocol the rest has none
 none-drop : (t : ℕ → Bool) (b : ℕ) (rest : List ℕ) → (t 58 || (t 63 || (t 35 || t 47))) ≡ false →
@@ -39,9 +35,7 @@ none-drop t b rest other h e = grind arith
 
 line_feeds-none : (x : List ℕ) → HasNone x → HasNone (with_line_feeds x)
 line_feeds-none [] h = refl
-line_feeds-none (b ∷ rest) h =
-    let drop = none-drop (λ b. b == 13) b rest refl h in
-    grind (arith, line_feeds-none rest, drop, none-keep b rest (with_line_feeds rest))
+line_feeds-none (b ∷ rest) h = grind (arith, none-drop, map_none, line_feeds-none rest)
 
 leading-none : (x : List ℕ) → HasNone x → HasNone (without_leading x)
 leading-none [] h = refl
@@ -50,11 +44,11 @@ leading-none (b ∷ rest) h =
 
 trailing-none : (x : List ℕ) → HasNone x → HasNone (without_trailing x)
 trailing-none [] h = refl
-trailing-none (b ∷ rest) h = grind (arith, cond_both, none-keep, trailing-none rest)
+trailing-none (b ∷ rest) h = grind (arith, cond_both, map_none, trailing-none rest)
 
 newlines-none : (x : List ℕ) → HasNone x → HasNone (without_newlines x)
 newlines-none [] h = refl
-newlines-none (b ∷ rest) h = grind (arith, cond_both, none-drop, none-keep, newlines-none rest)
+newlines-none (b ∷ rest) h = grind (arith, cond_both, none-drop, map_none, newlines-none rest)
 
 in_scheme-none : (buffer x : List ℕ) → HasNone x → in_scheme buffer x ≡ None
 in_scheme-none buffer [] h = refl
@@ -75,14 +69,9 @@ abbrev ReadsAlike : List ℕ → Type 0
 ReadsAlike x = (read_back (with_line_feeds x) ≡ with_line_feeds (read_back x))
     × (begins_with_line_feed (read_back x) ≡ begins_with_line_feed x)
 
-plain-alike : (b : ℕ) (rest : List ℕ) → IsPlain b → ReadsAlike rest → ReadsAlike (b ∷ rest)
-plain-alike b rest p h = grind arith
-
 pub seen-is : (x : List ℕ) → is_escaped x ≡ true → seen x ≡ with_line_feeds (read_back x)
-seen-is x e =
-    (by_escaped ReadsAlike (refl, refl) plain-alike
-    (λ rest h. (ap (λ y. 38 ∷ y) h.0, refl)) (λ rest h. (ap (λ y. 34 ∷ y) h.0, refl))
-    (λ rest h. (ap (λ y. 60 ∷ y) h.0, refl)) (λ rest h. (ap (λ y. 62 ∷ y) h.0, refl)) x e).0
+seen-is x e = (by_escaped ReadsAlike (refl, refl) (λ b rest p h. grind arith) (grind arith)
+    (grind arith) (grind arith) (grind arith) x e).0
 
 -- ---- a protocol of letters
 protocol-split : (x q : List ℕ) → protocol_of x ≡ Some q → (r : List ℕ) × (x ≡ q ++ (58 ∷ r))
@@ -99,37 +88,25 @@ protocol-split (b ∷ rest) q e = cases (b == 58) (λ colon.
 abbrev pub is_word : List ℕ → Bool
 is_word name = is_nonempty name && list_all is_letter name
 
-lower-letter : (b : ℕ) → is_letter (lower b) ≡ true → is_letter b ≡ true
-lower-letter b h = grind arith
-
 lowered-letters : (q : List ℕ) → list_all is_letter (lowered q) ≡ true → list_all is_letter q ≡ true
 lowered-letters [] h = refl
-lowered-letters (b ∷ q) h = grind (arith, lower-letter b, lowered-letters q)
+lowered-letters (b ∷ q) h = grind (arith, lowered-letters q)
 
 letters-no_return : (q : List ℕ) → list_all is_letter q ≡ true → list_all no_return q ≡ true
 letters-no_return q h = all-weaker _ _ (λ b h. ap not (passes_not is_letter b 13 refl h)) q h
 
-letter-control : (b : ℕ) → is_letter b ≡ true → is_control_or_space b ≡ false
-letter-control b h = grind arith
-
-letter-newline : (b : ℕ) → is_letter b ≡ true → is_tab_or_newline b ≡ false
-letter-newline b h = grind arith
-
 letter-scheme : (b : ℕ) → is_letter b ≡ true → is_scheme_byte b ≡ true
 letter-scheme b h = or_left _ _ (or_left _ _ (or_left _ _ (or_left _ _ h)))
-
-leading-word : (q y : List ℕ) → is_word q ≡ true → without_leading (q ++ y) ≡ q ++ y
-leading-word q y h = grind (arith, letter-control)
 
 trailing-word : (q r : List ℕ) → list_all is_letter q ≡ true →
     without_trailing (q ++ (58 ∷ r)) ≡ q ++ (58 ∷ without_trailing r)
 trailing-word [] r h = refl
-trailing-word (b ∷ q) r h = grind (arith, letter-control b, trailing-word q r)
+trailing-word (b ∷ q) r h = grind (arith, trailing-word q r)
 
 newlines-word : (q r : List ℕ) → list_all is_letter q ≡ true →
     without_newlines (q ++ (58 ∷ r)) ≡ q ++ (58 ∷ without_newlines r)
 newlines-word [] r h = refl
-newlines-word (b ∷ q) r h = grind (arith, letter-newline b, newlines-word q r)
+newlines-word (b ∷ q) r h = grind (arith, newlines-word q r)
 
 in_scheme-word : (buffer q r : List ℕ) → list_all is_letter q ≡ true →
     in_scheme buffer (q ++ (58 ∷ r)) ≡ Some (buffer ++ lowered q)
@@ -147,7 +124,7 @@ scheme_of-word : (q r : List ℕ) → is_word q ≡ true → scheme_of (with_lin
     ≡ Some (lowered q)
 scheme_of-word q r h =
     let start = in_scheme_start-word q (without_newlines (without_trailing (with_line_feeds r))) in
-    grind (arith, line_feeds-name, letters-no_return, leading-word, trailing-word, newlines-word)
+    grind (arith, line_feeds-name, letters-no_return, trailing-word, newlines-word)
 
 lowered-word : (q : List ℕ) → is_word (lowered q) ≡ true → is_word q ≡ true
 lowered-word q h = grind (arith, lowered-letters)
@@ -161,21 +138,14 @@ permitted_by schemes x None g e h =
     ap (λ o. option_map_or (is_one_of schemes) o true) (scheme_of-none x e)
 permitted_by schemes x (Some q) g e h =
     let parts = protocol-split x q e in
-    ap (λ x. option_map_or (is_one_of schemes) (scheme_of (with_line_feeds x)) true) parts.1
-    ∙ ap (λ o. option_map_or (is_one_of schemes) o true)
-    (scheme_of-word q parts.0 (lowered-word q (one_of-passes is_word schemes (lowered q) g h))) ∙ h
-
-permitted : (schemes : List (List ℕ)) → list_all is_word schemes ≡ true → (value : List ℕ) →
-    is_escaped value ≡ true →
-    is_safe_value schemes value ≡ true → has_permitted_scheme schemes (seen value) ≡ true
-permitted schemes g value e h = grind (arith, seen-is, permitted_by)
+    grind (arith, scheme_of-word, lowered-word, one_of-passes)
 
 pub permitted-link : (value : List ℕ) → is_escaped value ≡ true →
     is_safe_value link_protocols value ≡ true →
     has_permitted_scheme link_protocols (seen value) ≡ true
-permitted-link = permitted link_protocols refl
+permitted-link = grind (arith, seen-is, permitted_by)
 
 pub permitted-image : (value : List ℕ) → is_escaped value ≡ true →
     is_safe_value image_protocols value ≡ true →
     has_permitted_scheme image_protocols (seen value) ≡ true
-permitted-image = permitted image_protocols refl
+permitted-image = grind (arith, seen-is, permitted_by)

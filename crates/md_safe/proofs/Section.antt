@@ -1,26 +1,25 @@
 -- The section of footnotes has a reading: its heading, its items and their ways back, which are
 -- before the end of a footnote's last paragraph.
-use Rattle.std.proofs.Common.{◌≡◌, ℕ, ◌≤◌, ◌-◌, Bool, true, List, [], ◌∷◌}
-use Rattle.std.proofs.Common.{◌++◌, length, take, drop, refl, sym, ap, ◌∙◌, subst, arith}
-use Rattle.std.proofs.Common.{append_assoc, append-nil, codes, eqb-true, length-drop}
-use Rattle.std.specs.Prelude.{bytes_eq, None, option_map, find, bytes_eq, string_bytes}
-use Rattle.std.proofs.lemmas.Bool.{cond_both, and_parts, and_from, cond_both}
+use Rattle.std.proofs.Common.{◌≡◌, ℕ, ◌≤◌, ◌-◌, Bool, true, List, [], ◌∷◌, ◌++◌, length, take, drop}
+use Rattle.std.proofs.Common.{refl, sym, ap, ◌∙◌, subst, arith, append_assoc, append-nil, codes}
+use Rattle.std.proofs.Common.{eqb-true, length-drop}
+use Rattle.std.specs.Prelude.{bytes_eq, None, option_map, find, string_bytes}
+use Rattle.std.proofs.lemmas.Bool.{cond_both, and_parts, and_from}
 use Rattle.std.proofs.lemmas.List.{take-append-drop, drop-append-le}
 use Rattle.std.proofs.lemmas.Slice.Eq.{bytes_eq-Decides}
 use Rattle.md_text.specs.Html.{HasReadingWith, Attribute, is_tag, elements}
 use Rattle.md_text.specs.Laws.{is_line_ends}
-use Rattle.md_text.proofs.HtmlJoin.{text, join, text, nothing}
-use Rattle.md_meaning.specs.Meaning.Layout.{Piece, Text, Needed, Piece, Text, Needed, Forced}
-use Rattle.md_meaning.specs.Meaning.Footnotes.{unended_length, body, option_or, id_of}
-use Rattle.md_meaning.specs.Meaning.Footnotes.{backreferences, item, section, distinct, place_among}
-use Rattle.md_meaning.specs.Meaning.Footnotes.{count_of}
+use Rattle.md_text.proofs.HtmlJoin.{text, join, nothing}
+use Rattle.md_meaning.specs.Meaning.Layout.{Piece, Text, Needed, Forced}
+use Rattle.md_meaning.specs.Meaning.Footnotes.{unended_length, backreferences, section, place_among}
+use Rattle.md_meaning.specs.Meaning.Footnotes.{body, option_or, id_of, item, distinct, count_of}
 use Rattle.md_safe.proofs.Tags.{plain_of, Claim, adds-flat, adds-before, adds-after, adds-escaped}
 use Rattle.md_safe.proofs.Tags.{attribute, Turns, TurnsTag, Takes, Bracket, adds-turned}
 use Rattle.md_safe.proofs.Tags.{bracket-tag, element-read, adds-framed, adds-framed_flat}
 use Rattle.md_safe.proofs.Tags.{framed-around, framed-needed, framed-forced, takes-escaped}
 use Rattle.md_safe.proofs.Laid.{Adds, adds-text, adds-needed, escaped_beside, adds-all}
 use Rattle.md_safe.proofs.Laid.{adds-nothing, adds-forced, IsBeside}
-use Rattle.md_safe.proofs.Spot.{Setting, Prints, PassesIds, IsWhole, Setting, Prints}
+use Rattle.md_safe.proofs.Spot.{Setting, Prints, PassesIds, IsWhole}
 use Rattle.md_safe.proofs.FlowNodes.{Reads}
 use Rattle.std.specs.Option.{option_map_or}
 use Rattle.std.specs.List.{flat_map}

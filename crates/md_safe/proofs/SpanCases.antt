@@ -1,14 +1,12 @@
 -- What stands in a line of text: strings, spans, links and what prints nothing print phrasing
 -- content.
-use Rattle.std.proofs.Common.{Bool, List, codes, false, refl, suc, sym, true, ℕ, ◌&&◌, ◌++◌}
-use Rattle.std.proofs.Common.{◌||◌, ◌∙◌, ◌∷◌, ◌≡◌, subst, [], not, cond, arith}
+use Rattle.std.proofs.Common.{Bool, List, codes, false, refl, suc, sym, true, ℕ, ◌&&◌, ◌++◌, ◌||◌}
+use Rattle.std.proofs.Common.{◌∷◌, ◌≡◌, subst, [], not, cond, arith}
 use Rattle.std.proofs.lemmas.Bool.{and_parts, cond_both, not-true, or_parts}
 use Rattle.std.specs.Prelude.{None}
 use Rattle.md_base.specs.declared.event.Name.TheVariants as name_variants
-use name_variants.{AutolinkEmail, AutolinkProtocol, GfmAutolinkLiteralEmail}
-use name_variants.{GfmAutolinkLiteralMailto, GfmAutolinkLiteralProtocol, GfmAutolinkLiteralWww}
-use name_variants.{GfmAutolinkLiteralXmpp, GfmFootnoteCall, GfmTaskListItemCheck, HardBreakEscape}
-use name_variants.{HardBreakTrailing, Image, Link}
+use name_variants.{GfmFootnoteCall, GfmTaskListItemCheck, HardBreakEscape, HardBreakTrailing, Image}
+use name_variants.{Link}
 use Rattle.md_base.proofs.Lies.{lie}
 use Rattle.md_base.specs.Is.{is as named}
 use Rattle.md_base.specs.declared.event.Name.{Name}
@@ -17,7 +15,7 @@ use Rattle.md_meaning.specs.Meaning.At.{At, Target, identifier_of, text_in}
 use Rattle.md_meaning.specs.Meaning.Footnotes.{call_id, count_of, distinct, place_among}
 use Rattle.md_meaning.specs.Meaning.Layout.{Piece, Text, layout, said, when}
 use Rattle.md_meaning.specs.Meaning.Means.{prints}
-use Rattle.md_meaning.specs.Meaning.Media.{anchor, autolink, literal}
+use Rattle.md_meaning.specs.Meaning.Media.{anchor, autolink}
 use Rattle.md_meaning.specs.Meaning.Spans.{task_start}
 use Rattle.md_text.proofs.EncodeLaws.{is_escaped-encoded}
 use Rattle.md_text.specs.Encode.{encoded}
@@ -25,23 +23,23 @@ use Rattle.md_safe.proofs.BlockNodes.{hidden-prints, is_hidden, is_silent, silen
 use Rattle.md_safe.proofs.BlockNodes.{silent-prints}
 use Rattle.md_safe.proofs.Calls.{adds-call}
 use Rattle.md_safe.proofs.Cases.{either, cases}
-use Rattle.md_safe.proofs.Claims.{AreSpans, Claims, Here, Known, Own, Prints, SpanPrints, are-spans}
-use Rattle.md_safe.proofs.Claims.{nothing, pair, plain_tag, says}
+use Rattle.md_safe.proofs.Claims.{AreSpans, Claims, Here, Known, Own, Prints, SpanPrints, nothing}
+use Rattle.md_safe.proofs.Claims.{pair, plain_tag, says}
 use Rattle.md_safe.proofs.Elements.{adds-task, class-passes}
 use Rattle.md_safe.proofs.FlowNodes.{is_leaf, leaf-escaped}
 use Rattle.md_safe.proofs.Laid.{Adds, adds-alone, adds-text, adds-weaker}
-use Rattle.md_safe.proofs.Linking.{in_link, is_spans, place-other, place_in}
+use Rattle.md_safe.proofs.Linking.{in_link, is_spans, place_in}
 use Rattle.md_safe.proofs.Media.{IsEscapedTitle, adds-image, adds-link}
 use Rattle.md_safe.proofs.SpanNodes.{is_shown, is_single}
 use Rattle.md_safe.proofs.SpanSorts.{by_pair, code-prints, code-text, code_opening, is_code}
 use Rattle.md_safe.proofs.SpanSorts.{is_math, is_pair, pair-prints, shown-escaped, shown_in}
+use Rattle.md_safe.proofs.SpanSorts.{autolink-prints, autolink_prefix, is_plain_at}
 use Rattle.md_safe.proofs.Spot.{target-title}
 use Rattle.md_safe.proofs.StringNodes.{is_text, text-node}
-use Rattle.md_safe.proofs.Tags.{Tagged, Turns, adds-flat, attribute}
+use Rattle.md_safe.proofs.Tags.{Tagged, adds-flat, attribute}
 use Rattle.md_safe.proofs.Texts.{Escaped}
 use Rattle.md_safe.specs.Contents.{Characters, Content, Phrasing}
 use Rattle.md_safe.specs.Links.{prints_link}
-use Rattle.md_safe.specs.Placed.{place_of}
 use Rattle.md_safe.proofs.Insides.{is_blocks}
 
 -- ---- links
@@ -55,10 +53,6 @@ link : (m : Claims) (target : Target) (label : List ℕ) → IsEscapedTitle targ
     m.holds (in_link m.nested) label → Prints m Phrasing (anchor m.s.context.options target label)
 link m target label h r = adds-link m.s.test (a-tag m) target label h r
 
--- a text in a link
-pub linked-text : (m : Claims) (x : List ℕ) → Escaped x → m.holds (in_link m.nested) x
-linked-text m x h = grind arith
-
 autolinked : (m : Claims) {content : Content} → AreSpans m.nested content →
     (t : At) (plain : Bool) (prefix : List ℕ) → (plain ≡ false → content ≡ Phrasing) →
     Prints m content (autolink m.s.context t plain prefix)
@@ -66,31 +60,14 @@ autolinked m {content} f t plain prefix free =
     let x : List ℕ = text_in m.s.context.bytes t.place in
     let said_so : Escaped (encoded true x) = is_escaped-encoded x in
     cond_both _ _ _ (Prints m content) (λ _. adds-text (says m f _ said_so)) (λ other. rw (free
-    other) (link m (record { destination = prefix ++ x; title = None }) (encoded true x) tt
-    (linked-text m (encoded true x) said_so)))
-
--- a literal autolink, which is plain in links too
-literal-node : (m : Claims) {content : Content} → AreSpans m.nested content →
-    (t : At) (prefix : List ℕ) → (t.around.in_link ≡ false → content ≡ Phrasing) →
-    Prints m content (literal m.s.context t prefix)
-literal-node m f t prefix plain = grind (arith, autolinked, or_parts)
+    other) (link m (record { destination = prefix ++ x; title = None }) (encoded true x) tt (grind
+    arith)))
 
 autolink-node : (m : Claims) (t : At) (content : Content) (name : Name) → is_autolink name ≡ true →
     SpanPrints m t content name
-autolink-node m t content AutolinkEmail is inner k a = autolinked m a.spans t t.around.in_image
-    (codes "mailto:") (λ _. a.free refl)
-autolink-node m t content AutolinkProtocol is inner k a = autolinked m a.spans t t.around.in_image
-    [] (λ _. a.free refl)
-autolink-node m t content GfmAutolinkLiteralEmail is inner k a = literal-node m a.spans t
-    (codes "mailto:") a.plain
-autolink-node m t content GfmAutolinkLiteralMailto is inner k a = literal-node m a.spans t []
-    a.plain
-autolink-node m t content GfmAutolinkLiteralProtocol is inner k a = literal-node m a.spans t []
-    a.plain
-autolink-node m t content GfmAutolinkLiteralWww is inner k a = literal-node m a.spans t
-    (codes "http://") a.plain
-autolink-node m t content GfmAutolinkLiteralXmpp is inner k a = literal-node m a.spans t [] a.plain
-autolink-node m t content _ is inner k a = lie is
+autolink-node m t content name is inner k a = rw (autolink-prints m.s.context t name is inner)
+    (autolinked m a.spans t (is_plain_at t name) (autolink_prefix name)
+    (λ plain. cases (prints_link name) a.free (λ e. a.plain (or_parts _ _ (rw e at plain)).1)))
 
 -- ---- spans
 
@@ -102,12 +79,7 @@ pair-blocks name = grind arith
 pair-node : (m : Claims) (t : At) (content : Content) (name : Name) → is_pair name ≡ true →
     SpanPrints m t content name
 pair-node m t content name is inner k a =
-    let own = and_parts _ _ (rw is at (pair-blocks name)) in
-    rw (pair-prints m.s.context t name is inner) (pair m t a.spans.spaced k.outside
-    (by_pair (λ tag. Turns (m.holds content) (m.holds content)
-    (60 ∷ (tag ++ (62 ∷ []))) (60 ∷ 47 ∷ (tag ++ (62 ∷ []))))
-    (plain_tag m (codes "em") refl a.spans.em) (plain_tag m (codes "strong") refl a.spans.strong)
-    (plain_tag m (codes "del") refl a.spans.del) name is) (a.own own.0 (not-true _ own.1)))
+    grind (arith, and_parts, pair-blocks, pair-prints, pair, by_pair, plain_tag, not-true)
 
 -- code or math
 code-node : (m : Claims) (t : At) (content : Content) (name : Name) → is_code name ≡ true →
@@ -149,8 +121,8 @@ single-node m t content GfmFootnoteCall is inner k a =
     let number : ℕ = place_among (distinct m.s.context.calls) identifier in
     let occurrence : ℕ = suc (count_of t.calls identifier) in
     rw (a.free refl, k.outside) (adds-call m.s.test (a-tag m) (m.element Phrasing Phrasing (codes
-    "sup") refl) (linked-text m) identifier number occurrence (k.ids refl (call_id
-    m.s.context.options identifier number occurrence)))
+    "sup") refl) (grind arith) identifier number occurrence (k.ids refl (call_id m.s.context.options
+    identifier number occurrence)))
 single-node m t content _ is inner k a = lie is
 
 -- ---- all of them
@@ -161,23 +133,16 @@ is_inline name =
     is_text name || (is_shown name || (is_autolink name || (is_leaf name || (is_hidden name
     || is_silent name))))
 
-spans-place : (name : Name) → is_hidden name ≡ false → is_inline name ≡ true →
-    place_of name ≡ Phrasing
-spans-place name h is = grind arith
-
 -- spans stand in spans, of the same content but in a link
 spans-in : (nested : Bool) (content : Content) (name : Name) → is_spans content ≡ true →
     is_hidden name ≡ false → is_inline name ≡ true → named Link name ≡ false →
     place_in nested content name ≡ content
-spans-in nested content name spans shown is other = grind (arith, place-other, spans-place)
+spans-in nested content name spans shown is other = grind arith
 
 link-in : (nested : Bool) (content : Content) (name : Name) → content ≡ Phrasing →
     named Link name ≡ true →
     place_in nested content name ≡ in_link nested
 link-in nested content name same is = grind arith
-
-link-prints : (name : Name) → named Link name ≡ true → prints_link name ≡ true
-link-prints name is = grind arith
 
 -- where spans stand, with links or without
 pub record Spanning (t : At) (content : Content) (name : Name) : Type 0 where
@@ -192,25 +157,22 @@ inline-node m t content name is inner k own g = cases (is_hidden name)
     (λ h. rw (hidden-prints m.s.context t name h inner) (nothing m spans.spaced)) (λ h.
     let a = here h in
     either _ _ is (λ is. escaped (text-node m.s t Escaped name (λ x h. h k.escaping) is k.fit
-    inner)) (λ c. either _ _ c (λ is. either (is_pair name) _ is
-    (λ is. pair-node m t content name is inner k a) (λ c. either (is_code name) _ c
-    (λ is. code-node m t content name is inner k a)
-    (λ is. single-node m t content name is inner k a))) (λ c. either _ _ c
-    (λ is. autolink-node m t content name is inner k a) (λ c. either _ _ c (λ is. escaped
-    (leaf-escaped m.s t name k.escaping is k.fit inner)) (λ c. either _ _ c
-    (λ is. lie (sym h ∙ is)) (λ is. rw (silent-prints m.s.context t name is inner)
-    (a.own (silent-block name is).0 (silent-block name is).1)))))))
+    inner)) (λ c. either _ _ c (λ is. either (is_pair name) _ is (λ is. pair-node m t content name
+    is inner k a) (λ c. either (is_code name) _ c (λ is. code-node m t content name is inner k a) (λ
+    is. single-node m t content name is inner k a))) (λ c. either _ _ c (λ is. autolink-node m t
+    content name is inner k a)
+    (grind (arith, escaped, leaf-escaped, silent-prints, silent-block)))))
   where
     spans : AreSpans m.nested content
-    spans = are-spans m.nested content g.spans
+    spans = grind arith
 
     here : is_hidden name ≡ false → Here m t content name inner
     here shown = record {
       spans = spans;
       own = λ blocks other. rw (spans-in m.nested content name g.spans shown is other) at (own
           blocks);
-      label = λ link. rw (link-in m.nested content name (g.free (link-prints name link)) link) at
-          (own (link-blocks name link));
+      label = λ link. rw (link-in m.nested content name (g.free (grind arith)) link) at (own
+          (link-blocks name link));
       free = g.free;
       plain = g.plain;
     }

@@ -1,26 +1,20 @@
 -- Spans that print something else than their children, and what they print in images.
-use Rattle.std.proofs.Common.{◌≡◌, ℕ, Bool, true, false, ◌||◌, List, [], arith}
-use Rattle.std.proofs.Common.{codes}
-use Rattle.md_base.proofs.Lies.{lie}
+use Rattle.std.proofs.Common.{◌≡◌, Bool, true, false, ◌||◌, List, arith}
 use Rattle.md_base.specs.declared.event.Name.{Name}
 use Rattle.md_base.specs.declared.event.Name.TheVariants as name_variants
 use name_variants.{Link, Image, HardBreakEscape, HardBreakTrailing, GfmTaskListItemCheck}
-use name_variants.{GfmFootnoteCall, AutolinkEmail, AutolinkProtocol, GfmAutolinkLiteralEmail}
-use name_variants.{GfmAutolinkLiteralMailto, GfmAutolinkLiteralProtocol, GfmAutolinkLiteralWww}
-use name_variants.{GfmAutolinkLiteralXmpp}
+use name_variants.{GfmFootnoteCall}
 use Rattle.md_text.proofs.EncodeLaws.{is_escaped-encoded}
 use Rattle.md_meaning.specs.Meaning.At.{At}
 use Rattle.md_meaning.specs.Meaning.Layout.{Piece, layout}
 use Rattle.md_meaning.specs.Meaning.Means.{prints}
-use Rattle.md_meaning.specs.Meaning.Media.{autolink}
 use Rattle.md_content.specs.Built.{is_autolink, Spans}
 use Rattle.md_safe.proofs.Spot.{Setting, Prints, Inside}
 use Rattle.md_safe.proofs.Cases.{either}
 use Rattle.md_safe.proofs.Texts.{Escaped}
 use Rattle.md_safe.proofs.Laid.{adds-text, adds-nothing, adds-weaker, adds-alone}
-use Rattle.md_safe.proofs.SpanSorts.{is_pair, pair-prints, pair-inside, is_code}
-use Rattle.md_safe.proofs.SpanSorts.{code-prints, code-text, shown-escaped}
-use Rattle.std.proofs.lemmas.Bool.{or_left}
+use Rattle.md_safe.proofs.SpanSorts.{pair-inside, is_pair, pair-prints, is_code, code-prints}
+use Rattle.md_safe.proofs.SpanSorts.{code-text, shown-escaped, autolink-prints}
 
 -- other spans that print something else than their children
 abbrev pub is_single : Name → Bool
@@ -39,41 +33,19 @@ is_shown name = is_pair name || (is_code name || is_single name)
 
 -- ---- in images
 
-single-in_image : (s : Setting) (t : At) (name : Name) → t.around.in_image ≡ true →
-    is_single name ≡ true → (inner : List Piece) → Inside s t Spans name inner →
-    Prints s Escaped (prints s.context t name inner)
-single-in_image s t name image is inner a =
-    grind (arith, adds-text, adds-alone, adds-nothing, adds-weaker)
-
 pub shown-in_image : (s : Setting) (t : At) (name : Name) → t.around.is_escaping ≡ true →
     t.around.in_image ≡ true → is_shown name ≡ true → (inner : List Piece) →
     Inside s t Spans name inner → Prints s Escaped (prints s.context t name inner)
 shown-in_image s t name e image is inner a = either (is_pair name) _ is
-    (λ is. rw (pair-prints s.context t name is inner, image) (pair-inside s t Spans name is inner
-    a))
-    (λ c. either (is_code name) (is_single name) c
-    (λ is. rw (code-prints s.context t name is inner, image) (adds-text (shown-escaped t (layout
+    (grind (arith, pair-prints, pair-inside))
+    (λ c. either (is_code name) (is_single name) c (λ is.
+    rw (code-prints s.context t name is inner, image) (adds-text (shown-escaped t (layout
     s.context.ending inner) (code-text s t Spans name e is inner a))))
-    (λ is. single-in_image s t name image is inner a))
+    (grind (arith, adds-text, adds-alone, adds-nothing, adds-weaker)))
 
 -- an autolink, which is plain there
-plain-in_image : (s : Setting) (t : At) (plain : Bool) (prefix : List ℕ) → plain ≡ true →
-    Prints s Escaped (autolink s.context t plain prefix)
-plain-in_image s t plain prefix is = grind (arith, adds-text, is_escaped-encoded)
-
 pub autolink-in_image : (s : Setting) (t : At) (name : Name) → t.around.in_image ≡ true →
     is_autolink name ≡ true → (inner : List Piece) → Prints s
     Escaped (prints s.context t name inner)
-autolink-in_image s t AutolinkEmail image is inner = plain-in_image s t _ (codes "mailto:") image
-autolink-in_image s t AutolinkProtocol image is inner = plain-in_image s t _ [] image
-autolink-in_image s t GfmAutolinkLiteralEmail image is inner = plain-in_image s t _
-    (codes "mailto:") (or_left _ _ image)
-autolink-in_image s t GfmAutolinkLiteralMailto image is inner = plain-in_image s t _ []
-    (or_left _ _ image)
-autolink-in_image s t GfmAutolinkLiteralProtocol image is inner = plain-in_image s t _ []
-    (or_left _ _ image)
-autolink-in_image s t GfmAutolinkLiteralWww image is inner = plain-in_image s t _ (codes "http://")
-    (or_left _ _ image)
-autolink-in_image s t GfmAutolinkLiteralXmpp image is inner = plain-in_image s t _ []
-    (or_left _ _ image)
-autolink-in_image s t _ image is inner = lie is
+autolink-in_image s t name image is inner =
+    grind (arith, autolink-prints, adds-text, is_escaped-encoded)

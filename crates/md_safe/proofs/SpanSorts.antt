@@ -1,16 +1,19 @@
 -- Spans with tags around their children, and code: what is printed of each.
-use Rattle.std.proofs.Common.{arith}
-use Rattle.std.proofs.Common.{◌≡◌, ℕ, Bool, true, false, cond, List, [], ◌∷◌, ◌++◌, codes}
+use Rattle.std.proofs.Common.{arith, ◌≡◌, ℕ, Bool, true, false, cond, ◌||◌, List, [], ◌∷◌, ◌++◌}
+use Rattle.std.proofs.Common.{codes}
 use Rattle.md_base.specs.declared.event.Name.{Name}
 use Rattle.md_base.specs.declared.event.Name.TheVariants as name_variants
-use name_variants.{Emphasis, Strong, GfmStrikethrough, CodeText, MathText}
+use name_variants.{Emphasis, Strong, GfmStrikethrough, CodeText, MathText, AutolinkEmail}
+use name_variants.{GfmAutolinkLiteralEmail, GfmAutolinkLiteralWww}
 use Rattle.md_meaning.specs.Meaning.At.{Context, At}
 use Rattle.md_meaning.specs.Meaning.Layout.{Piece, layout, said}
 use Rattle.md_meaning.specs.Meaning.Means.{prints}
 use Rattle.md_meaning.specs.Meaning.Spans.{span, code, trimmed, without_escapes}
-use Rattle.md_content.specs.Built.{Content}
+use Rattle.md_meaning.specs.Meaning.Media.{autolink}
+use Rattle.md_content.specs.Built.{Content, is_autolink}
+use Rattle.md_safe.specs.Links.{prints_link}
 use Rattle.md_safe.proofs.Texts.{Escaped, trimmed-escaped, pipes-escaped}
-use Rattle.md_safe.proofs.Spot.{Setting, Here, Prints, Inside}
+use Rattle.md_safe.proofs.Spot.{Here, Prints, Setting, Inside}
 use Rattle.std.proofs.lemmas.Bool.{cond_both}
 
 -- spans whose tags stand around their children, and the names of these tags
@@ -67,3 +70,21 @@ pub code-text : (s : Setting) (t : At) (content : Content) (name : Name) →
     t.around.is_escaping ≡ true → is_code name ≡ true → (inner : List Piece) →
     Inside s t content name inner → Escaped (layout s.context.ending inner)
 code-text s t content name e is inner a = grind arith
+
+-- an autolink: what is before its text in its address, and where it is plain
+abbrev pub autolink_prefix : Name → List ℕ
+autolink_prefix name = elim name [
+  | AutolinkEmail ↦ codes "mailto:"
+  | GfmAutolinkLiteralEmail ↦ codes "mailto:"
+  | GfmAutolinkLiteralWww ↦ codes "http://"
+  | _ ↦ []
+]
+
+abbrev pub is_plain_at : At → Name → Bool
+is_plain_at t name =
+    cond (prints_link name) t.around.in_image (t.around.in_image || t.around.in_link)
+
+pub autolink-prints : (context : Context) (t : At) (name : Name) → is_autolink name ≡ true →
+    (inner : List Piece) →
+    prints context t name inner ≡ autolink context t (is_plain_at t name) (autolink_prefix name)
+autolink-prints context t name is inner = grind arith

@@ -2,26 +2,26 @@
 -- such texts joined. What stands among spans stands among blocks.
 use Rattle.std.specs.List.{list_all}
 use Rattle.std.specs.Option.{option_map_or}
-use Rattle.std.proofs.Common.{◌≡◌, ℕ, ◌==◌, Bool, true, false, ◌||◌, List, [], ◌∷◌, ◌++◌, refl, sym}
-use Rattle.std.proofs.Common.{ap, ap₂, ◌∙◌, append-nil, arith}
-use Rattle.std.specs.Prelude.{Some, Option, Some, None, find, option_map}
-use Rattle.std.proofs.lemmas.Bool.{and_parts, and_from, and_parts, and_from, or_right}
+use Rattle.std.proofs.Common.{◌≡◌, ℕ, Bool, true, false, List, [], ◌∷◌, ◌++◌, refl, ap, ◌∙◌}
+use Rattle.std.proofs.Common.{append-nil, arith}
+use Rattle.std.specs.Prelude.{Some, Option, None, find, option_map}
+use Rattle.std.proofs.lemmas.Bool.{and_parts, and_from, or_right}
 use Rattle.std.proofs.lemmas.List.Folds.{list_all-append}
 use Rattle.md_base.proofs.Lies.{lie}
 use Rattle.md_text.specs.Laws.{is_line_ends}
 use Rattle.md_text.specs.Bytes.{is_one_of}
 use Rattle.md_text.specs.Html.{Attribute, Forest, Empty, Text, Void, Element, is_tag, elements}
-use Rattle.md_text.specs.Html.{void_tags, written_attributes, IsReading, any_attribute}
-use Rattle.md_text.proofs.HtmlJoin.{text_before, joined, after_forest, opening-before}
+use Rattle.md_text.specs.Html.{written_attributes, IsReading, any_attribute}
+use Rattle.md_text.proofs.HtmlJoin.{joined, after_forest, opening-before}
 use Rattle.md_text.proofs.HtmlReading.{only_reading, all-any}
 use Rattle.md_text.proofs.HtmlWriting.{written_attributes-before}
 use Rattle.md_text.proofs.EscapedLemmas.{escaped-append}
 use Rattle.md_safe.proofs.Texts.{Escaped, line_ends-escaped}
 use Rattle.md_safe.proofs.Laid.{IsBeside}
 use Rattle.md_safe.proofs.Tags.{TurnsTag, Tagged, Single, Takes}
-use Rattle.md_safe.specs.Contents.{Content, Flow, Phrasing, Linked, Preformatted, Characters}
-use Rattle.md_safe.specs.Contents.{held_in, voids_in, is_space, may_say, is_contained}
-use Rattle.md_safe.specs.Contents.{IsContainedAs, span_elements, block_elements}
+use Rattle.md_safe.specs.Contents.{Content, Flow, Phrasing, Preformatted, held_in, voids_in}
+use Rattle.md_safe.specs.Contents.{is_space, may_say, is_contained, IsContainedAs, span_elements}
+use Rattle.md_safe.specs.Contents.{block_elements}
 use Rattle.md_safe.proofs.Cases.{all-weaker}
 use Rattle.std.specs.Str.{bytes_eq}
 
@@ -34,29 +34,10 @@ pub record Stands (nested : Bool) (content : Content) (x : List ℕ) : Type 0 wh
 -- it has no other reading
 pub contained-once : (nested : Bool) (x : List ℕ) → Stands nested Flow x → IsContainedAs nested x
 contained-once nested x h =
-    let one = only_reading any_attribute x (record {
-      forest = h.forest;
-      reading = h.reading;
-      passes = all-any h.forest;
-    }) in
-    record {
-      forest = h.forest;
-      reading = h.reading;
-      contained = h.contained;
-      only = λ other reading. one.only other reading ∙ sym (one.only h.forest h.reading);
-    }
+    let one = only_reading any_attribute x (grind (arith, all-any)) in
+    grind arith
 
 -- ---- texts in one
-
--- two texts that may stand somewhere may stand there as one
-say-append : (content : Content) (x y : List ℕ) → may_say content x ≡ true →
-    may_say content y ≡ true → may_say content (x ++ y) ≡ true
-say-append content x y a b = grind (arith, list_all-append)
-
-contained-text_before : (nested : Bool) (content : Content) (bytes : List ℕ) (g : Forest) →
-    may_say content bytes ≡ true → is_contained nested content g ≡ true →
-    is_contained nested content (text_before bytes g) ≡ true
-contained-text_before nested content bytes g s h = grind (arith, and_from, say-append)
 
 -- what an element holds stands where it may
 abbrev pub is_held : (nested : Bool) → Content → List ℕ → Forest → Bool
@@ -68,7 +49,7 @@ contained-joined : (nested : Bool) (content : Content) (f g : Forest) →
     is_contained nested content (joined f g) ≡ true
 contained-joined nested content Empty g a b = b
 contained-joined nested content (Text bytes rest) g a b =
-    grind (arith, and_parts, contained-text_before, contained-joined nested content rest g)
+    grind (arith, and_parts, and_from, list_all-append, contained-joined nested content rest g)
 contained-joined nested content (Void name attributes rest) g a b =
     grind (arith, contained-joined nested content rest g)
 contained-joined nested content (Element name attributes children rest) g a b =
@@ -79,14 +60,7 @@ pub stands-join : {nested : Bool} {content : Content} (x y : List ℕ) → Stand
 stands-join {nested} {content} x y a b =
     let both = after_forest any_attribute a.forest b.forest a.reading.in_grammar (all-any a.forest)
     b.reading.in_grammar (all-any b.forest) in
-    record {
-      forest = joined a.forest b.forest;
-      reading = record {
-        in_grammar = both.0;
-        written_so = both.1 ∙ ap₂ (λ x y. x ++ y) a.reading.written_so b.reading.written_so;
-      };
-      contained = contained-joined nested content a.forest b.forest a.contained b.contained;
-    }
+    grind (arith, contained-joined)
 
 pub stands-nothing : {nested : Bool} {content : Content} → Stands nested content []
 stands-nothing = grind arith
@@ -96,10 +70,7 @@ pub stands-text : {nested : Bool} {content : Content} {x : List ℕ} → Escaped
 stands-text {x = []} h s = stands-nothing
 stands-text {content = content} {x = b ∷ bytes} h s = record {
   forest = Text (b ∷ bytes) Empty;
-  reading = record {
-    in_grammar = and_from _ true (and_from _ true (and_from true _ refl h) refl) refl;
-    written_so = append-nil (b ∷ bytes);
-  };
+  reading = grind (arith, and_from, append-nil);
   contained = and_from (may_say content (b ∷ bytes)) true s refl;
 }
 
@@ -110,10 +81,7 @@ stands-void {nested} {content} {name} v = record {
       let end = written_attributes-before attributes (32 ∷ 47 ∷ 62 ∷ []) in
       rw (← end) (record {
         forest = Void name attributes Empty;
-        reading = record {
-          in_grammar = and_from (is_tag void_tags name attributes) true h refl;
-          written_so = refl;
-        };
+        reading = grind (arith, and_from);
         contained = and_from (is_one_of (voids_in content) name) true v refl;
       });
 }
@@ -128,11 +96,7 @@ stands-element : {nested : Bool} {content held : Content} (name : List ℕ)
     ++ (written_attributes attributes ++ (62 ∷ (inside ++ (60 ∷ 47 ∷ (name ++ (62 ∷ []))))))))
 stands-element {nested} {content} name attributes inside h opens within = record {
   forest = Element name attributes within.forest Empty;
-  reading = record {
-    in_grammar = and_from _ _ (and_from _ _ h within.reading.in_grammar) refl;
-    written_so = ap (λ x. 60 ∷ (name ++ (written_attributes attributes
-        ++ (62 ∷ (x ++ (60 ∷ 47 ∷ (name ++ (62 ∷ [])))))))) within.reading.written_so;
-  };
+  reading = grind (arith, and_from);
   contained = and_from _ _ (ap (λ held. option_map_or
       (λ held. is_contained nested held within.forest) held false) opens ∙ within.contained) refl;
 }
@@ -159,21 +123,10 @@ is_spaced _ = true
 
 pub stands-white : {nested : Bool} {content : Content} {x : List ℕ} → is_spaced content ≡ true →
     IsWhite x → Stands nested content x
-stands-white {content = content} {x} is h = stands-text h.0 (by content is)
-  where
-    by : (content : Content) → is_spaced content ≡ true → may_say content x ≡ true
-    by Flow is = refl
-    by Phrasing is = refl
-    by Linked is = refl
-    by Characters is = refl
-    by Preformatted is = lie is
-    by _ is = h.1
-
-end-space : (b : ℕ) → ((b == 13) || (b == 10)) ≡ true → is_space b ≡ true
-end-space b h = grind arith
+stands-white {content = content} {x} is h = grind (arith, stands-text)
 
 line_ends-space : (x : List ℕ) → is_line_ends x ≡ true → list_all is_space x ≡ true
-line_ends-space = all-weaker _ is_space end-space
+line_ends-space = all-weaker _ is_space (λ b h. grind arith)
 
 pub line_ends-white : (x : List ℕ) → is_line_ends x ≡ true → IsWhite x
 line_ends-white x h = (line_ends-escaped x h, line_ends-space x h)

@@ -5,7 +5,7 @@ use Rattle.std.proofs.lemmas.Bool.{eqb-false}
 use Rattle.md_text.specs.References.{is_escaped, read_back}
 use Rattle.md_text.proofs.EncodeLaws.{read_back-other}
 use Rattle.md_safe.specs.Token.{Token, Character, TokenAttribute}
-use Rattle.md_safe.specs.Tag.{Tag, with_value}
+use Rattle.md_safe.specs.Tag.{Tag}
 use Rattle.md_safe.specs.TokenizerStates.{State, Data, AttributeValueDoubleQuoted, Goes, Rcdata}
 use Rattle.md_safe.specs.Tokenizer.{step, IsRun}
 use Rattle.md_safe.proofs.EscapedCases.{IsPlain, by_escaped}
@@ -77,9 +77,3 @@ attribute name value = record { name = name; value = value }
 abbrev pub AtValue : List ℕ → List TokenAttribute → List ℕ → List ℕ → State
 AtValue tag earlier name value =
     AttributeValueDoubleQuoted (tag_with false tag (attribute name value ∷ earlier))
-
-pub value_step : (tag : Tag) (b : ℕ) (rest : List ℕ) → (b == 34) ≡ false →
-    (b == 38) ≡ false → (b == 0) ≡ false →
-    step (AttributeValueDoubleQuoted tag) (b ∷ rest)
-    ≡ Goes [] (AttributeValueDoubleQuoted (with_value tag (b ∷ []))) rest
-value_step tag b rest e34 e38 e0 = grind (arith, e34, e38, e0)

@@ -1,18 +1,17 @@
 -- The nodes of strings print escaped texts.
-use Rattle.std.proofs.Common.{arith}
-use Rattle.std.proofs.Common.{◌≡◌, ℕ, Bool, true, false, not, ◌&&◌, cond, List, [], ◌∷◌, refl}
+use Rattle.std.proofs.Common.{arith, ◌≡◌, ℕ, Bool, true, false, not, ◌&&◌, cond, List, [], ◌∷◌}
+use Rattle.std.proofs.Common.{refl}
 use Rattle.std.proofs.lemmas.Bool.{cond_both, and_from}
-use Rattle.md_base.proofs.Lies.{lie}
 use Rattle.md_base.specs.declared.event.Name.{Name}
 use Rattle.md_base.specs.declared.event.Name.TheVariants as name_variants
 use name_variants.{LineEnding, CharacterReferenceMarker, CharacterReferenceMarkerNumeric}
 use name_variants.{CharacterReferenceMarkerHexadecimal, CharacterReferenceValue}
 use Rattle.md_text.specs.Encode.{encoded}
 use Rattle.md_text.specs.Laws.{is_line_ends}
-use Rattle.md_meaning.specs.Meaning.At.{Context, At, text_in}
+use Rattle.md_meaning.specs.Meaning.At.{At, text_in}
 use Rattle.md_meaning.specs.Meaning.Layout.{Piece, said}
 use Rattle.md_meaning.specs.Meaning.Means.{prints}
-use Rattle.md_meaning.specs.Meaning.Spans.{escaped, is_dropped, line_ending, reference}
+use Rattle.md_meaning.specs.Meaning.Spans.{escaped, is_dropped, line_ending}
 use Rattle.md_content.specs.Built.{Content, is_string}
 use Rattle.md_safe.proofs.Spot.{NodeAdds, Setting, IsFitAt, Here, Prints, IsNarrow, encoded-escaped}
 use Rattle.md_safe.proofs.Texts.{Escaped, line_ends-escaped}
@@ -50,30 +49,19 @@ line_ending-escaped s t h =
     (λ _. adds-text refl) (λ _. cond_both (is_dropped t) [] (said x) (Prints s Escaped)
     (λ _. adds-nothing refl) (λ _. adds-text (line_ends-escaped x h)))
 
-data-prints : (context : Context) (t : At) (name : Name) → is_data name ≡ true →
-    (inner : List Piece) → prints context t name inner ≡ escaped t (text_in context.bytes t.place)
-data-prints context t name is inner = grind arith
-
 other-node : (s : Setting) (t : At) (holds : List ℕ → Type 0) (name : Name) →
     IsNarrow t.around.is_escaping holds → is_text name && not (is_data name) ≡ true →
     IsFitAt s t name → (inner : List Piece) → Prints s holds (prints s.context t name inner)
 other-node s t holds LineEnding n is fit inner = adds-weaker (λ x h. n x (λ _. h))
     (line_ending-escaped s t fit)
-other-node s t holds CharacterReferenceValue n is fit inner = data-node s t holds n
-    (reference s.context t)
-other-node s t holds _ n is fit inner = lie is
+other-node s t holds name n is fit inner = grind (arith, data-node)
 
 pub text-node : (s : Setting) (t : At) (holds : List ℕ → Type 0) (name : Name) →
     IsNarrow t.around.is_escaping holds → is_text name ≡ true → IsFitAt s t name →
     (inner : List Piece) → Prints s holds (prints s.context t name inner)
-text-node s t holds name n is fit inner =
-    grind (arith, data-prints, data-node, other-node, and_from)
-
-mark-node : (s : Setting) (t : At) (content : Content) (name : Name) → is_mark name ≡ true →
-    NodeAdds s t content name
-mark-node s t content name is inner a = grind arith
+text-node s t holds name n is fit inner = grind (arith, data-node, other-node, and_from)
 
 pub string-node : (s : Setting) (t : At) (content : Content) (name : Name) →
     IsNarrow t.around.is_escaping (Here s t content) → is_string name ≡ true → IsFitAt s t name →
     NodeAdds s t content name
-string-node s t content name n is fit inner a = grind (arith, mark-node, text-node, and_from)
+string-node s t content name n is fit inner a = grind (arith, text-node, and_from)

@@ -1,11 +1,9 @@
 -- A start tag switches to the mode "text" if it is `title`, and otherwise not.
-use Rattle.std.proofs.Common.{arith}
-use Rattle.std.proofs.Common.{◌≡◌, ℕ, Bool, true, false, cond, List, refl, sym, ap, subst, codes}
-use Rattle.std.specs.Prelude.{Option, Some, None, option_and_then, bytes_eq}
+use Rattle.std.proofs.Common.{arith, ◌≡◌, ℕ, Bool, false, cond, List, refl, ap, codes}
+use Rattle.std.specs.Prelude.{Option, Some, None, bytes_eq}
 use Rattle.std.proofs.lemmas.Slice.Eq.{bytes_eq-Decides}
 use Rattle.md_safe.specs.Token.{StartTag, TokenAttribute}
-use Rattle.md_safe.specs.Node.{Mode, InText, InTableText}
-use Rattle.md_safe.specs.Node.{is_text, Parser}
+use Rattle.md_safe.specs.Node.{Mode, InText, InTableText, is_text, Parser}
 use Rattle.md_safe.specs.AroundBody.{start_before_html, start_before_head, start_in_head}
 use Rattle.md_safe.specs.AroundBody.{start_after_head, with_root, with_head, with_body}
 use Rattle.md_safe.specs.InBody.{reconstructed, start_in_body}
@@ -72,29 +70,17 @@ starts _ name attributes parser e none = search (entering, ap is_text e)
 
 -- ---- `title`
 
-titles : (mode : Mode) (attributes : List TokenAttribute) (parser : Parser) →
-    Tokenizes true (start mode (codes "title") attributes parser)
-titles mode attributes parser = grind arith
-
 -- ---- after the characters of a table that were pending
-
-after-text : (text : Bool) (tag : Parser → Option Parser) →
-    ((parser : Parser) → Tokenizes text (tag parser)) →
-    (reached : Option Parser) → Tokenizes text (option_and_then tag reached)
-after-text text tag all reached = grind arith
 
 steps : (text : Bool) (name : List ℕ) (attributes : List TokenAttribute) (flag : Bool) →
     ((parser : Parser) → Tokenizes text (start parser.mode name attributes parser)) →
     (parser : Parser) → Tokenizes text (step parser (StartTag name attributes flag))
-steps text name attributes flag all parser = grind (arith, after-text)
+steps text name attributes flag all parser = grind arith
 
 pub switched :
     (parser next : Parser) (name : List ℕ) (attributes : List TokenAttribute) (flag : Bool) →
     step parser (StartTag name attributes flag) ≡ Some next →
     is_text next.mode ≡ bytes_eq name (codes "title")
 switched parser next name attributes flag e = cases (bytes_eq name (codes "title"))
-    (λ same. rw same ((subst (λ name. Tokenizes true (step parser (StartTag name attributes flag)))
-    (sym ((bytes_eq-Decides name (codes "title")).0 same)) (steps true (codes "title") attributes
-    flag (λ parser. titles parser.mode attributes parser) parser)).holds next e))
-    (λ none. rw none ((steps false name attributes flag (λ parser. starts parser.mode name
-    attributes parser refl none) parser).holds next e))
+    (grind (arith, bytes_eq-Decides, steps)) (λ none. rw none ((steps false name attributes flag (λ
+    parser. starts parser.mode name attributes parser refl none) parser).holds next e))

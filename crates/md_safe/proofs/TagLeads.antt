@@ -1,25 +1,24 @@
 -- The name of a tag and those of its attributes, byte after byte; from `<` or `</` to the end of a
 -- tag, and on to the data state; and a run from there.
 use Rattle.std.proofs.Common.{◌≡◌, ℕ, ◌==◌, true, false, not, List, [], ◌∷◌, ◌++◌, refl, ap}
-use Rattle.std.proofs.Common.{append-nil, append_assoc, arith, Bool, ◌&&◌, sym, ◌∙◌}
+use Rattle.std.proofs.Common.{append-nil, append_assoc, arith, Bool, ◌&&◌, sym}
 use Rattle.std.specs.List.{list_all, list_any}
-use Rattle.std.proofs.lemmas.Bool.{and_parts, and_parts, not-true}
+use Rattle.std.proofs.lemmas.Bool.{and_parts, not-true}
 use Rattle.md_base.proofs.Lies.{lie}
 use Rattle.md_text.specs.Bytes.{is_between}
 use Rattle.md_text.specs.References.{is_escaped, read_back}
 use Rattle.md_safe.proofs.Cases.{all-weaker}
-use Rattle.md_safe.specs.Token.{Token, TokenAttribute, Token, StartTag, EndTag, TokenAttribute}
-use Rattle.md_safe.specs.Tag.{Tag, with_tag_name, with_name, kept}
-use Rattle.md_safe.specs.TokenizerStates.{State, TagName, BeforeAttributeName, AttributeName}
-use Rattle.md_safe.specs.TokenizerStates.{AfterAttributeValueQuoted, Goes, is_space, Data, TagOpen}
-use Rattle.md_safe.specs.TokenizerStates.{EndTagOpen, Stuck, emitted}
-use Rattle.md_safe.specs.Tokenizer.{step, step, IsRun}
+use Rattle.md_safe.specs.Token.{Token, TokenAttribute, StartTag, EndTag}
+use Rattle.md_safe.specs.Tag.{Tag, with_tag_name, kept}
+use Rattle.md_safe.specs.TokenizerStates.{State, TagName, BeforeAttributeName, AttributeName, Goes}
+use Rattle.md_safe.specs.TokenizerStates.{AfterAttributeValueQuoted, is_space, Data, Stuck, emitted}
+use Rattle.md_safe.specs.Tokenizer.{step, IsRun}
 use Rattle.md_safe.proofs.LineFeeds.{no_return, line_feeds-append, line_feeds-name}
 use Rattle.md_safe.proofs.LineFeeds.{line_feeds-escaped}
 use Rattle.md_safe.proofs.GoodNames.{is_good_byte, is_good_attribute_name, is_good_name, are_good}
 use Rattle.md_safe.proofs.GoodNames.{good_attribute, begins_tag, good-leaves, good-not_title}
-use Rattle.md_safe.proofs.Steps.{tag_with, attribute, past, here, tag_with, attribute}
-use Rattle.md_safe.proofs.TextLeads.{To, quiet, value-leads, To, arrived, quiet, loud, along}
+use Rattle.md_safe.proofs.Steps.{tag_with, attribute, past, here}
+use Rattle.md_safe.proofs.TextLeads.{To, quiet, value-leads, arrived, loud, along}
 use Rattle.std.specs.Str.{bytes_eq}
 use Rattle.md_text.specs.Html.{Attribute}
 use Rattle.md_text.proofs.HtmlWriting.{attributes_before}
@@ -39,10 +38,6 @@ pub record IsGoodByte (b : ℕ) : Type 0 where
 pub good_parts : (b : ℕ) → is_good_byte b ≡ true → IsGoodByte b
 good_parts b h = grind arith
 
-pub good-no_return : (name : List ℕ) → list_all is_good_byte name ≡ true →
-    list_all no_return name ≡ true
-good-no_return name h = grind (arith, all-weaker, good_parts)
-
 pub tag_name_step : (tag : Tag) (b : ℕ) (rest : List ℕ) → IsGoodByte b →
     step (TagName tag) (b ∷ rest) ≡ Goes [] (TagName (with_tag_name tag (b ∷ []))) rest
 tag_name_step tag b rest g = simp (g.no_space, g.no_slash, g.no_angle, g.no_upper, g.no_nul)
@@ -58,10 +53,6 @@ name-leads S steps before (b ∷ name) r t g h =
     quiet (steps before b (name ++ r) (good_parts b p.0))
     (name-leads S steps (before ++ (b ∷ [])) name r t p.1 (rw append_assoc h))
 
-pub attribute_name_step : (tag : Tag) (b : ℕ) (rest : List ℕ) → IsGoodByte b →
-    step (AttributeName tag) (b ∷ rest) ≡ Goes [] (AttributeName (with_name tag (b ∷ []))) rest
-attribute_name_step tag b rest g = grind arith
-
 -- where an attribute's name is read, up to here
 abbrev pub AtName : List ℕ → List TokenAttribute → List ℕ → State
 AtName tag earlier name = AttributeName (tag_with false tag (attribute name [] ∷ earlier))
@@ -73,9 +64,8 @@ attribute-begins : {left : List ℕ} (tag : List ℕ) (earlier : List TokenAttri
 attribute-begins tag earlier [] r t g h = lie g
 attribute-begins tag earlier (b ∷ name) r t g h =
     let q = good_parts b (and_parts _ _ g).0 in
-    quiet (grind (arith, q)) (name-leads (AtName tag earlier) (λ before b rest good.
-    attribute_name_step (tag_with false tag (attribute before [] ∷ earlier)) b rest good) [] (b ∷
-    name) r t g h)
+    quiet (grind (arith, q)) (name-leads (AtName tag earlier) (λ before b rest good. grind arith) []
+    (b ∷ name) r t g h)
 
 -- a name, `="`, a value and `"`
 pub attribute-leads :
@@ -101,7 +91,7 @@ pub line_feeds-attributes : (x : List Attribute) (r : List ℕ) → are_good x �
 line_feeds-attributes [] r g = refl
 line_feeds-attributes (a ∷ x) r g =
     let later = line_feeds-attributes x r in
-    grind (arith, good_attribute, line_feeds-name, good-no_return, line_feeds-append, later)
+    grind (arith, good_attribute, line_feeds-name, all-weaker, good_parts, line_feeds-append, later)
 
 -- more attributes, the last one first
 abbrev pub onto : List TokenAttribute → List Attribute → List TokenAttribute
@@ -117,9 +107,8 @@ attributes-lead :
 attributes-lead tag earlier [] r t g h = h
 attributes-lead tag earlier (a ∷ x) r t g h =
     let p = good_attribute a x g in
-    quiet refl (attribute-leads tag earlier a.name (with_line_feeds a.value)
-    (attributes_before (lined x) r) t p.0 (line_feeds-escaped a.value p.1)
-    (attributes-lead tag (attribute a.name (seen a.value) ∷ earlier) x r t p.3 h))
+    let later = attributes-lead tag (attribute a.name (seen a.value) ∷ earlier) x r t p.3 h in
+    quiet refl (grind (arith, attribute-leads, line_feeds-escaped, later))
 
 -- after the name: both states take what ends a tag alike
 after_name-leads :
@@ -160,9 +149,8 @@ kept-onto earlier (a ∷ x) g f =
     let p = good_attribute a x g in
     let u = and_parts _ _ f in
     let now = attribute a.name (seen a.value) in
-    kept-onto (now ∷ earlier) x p.3 (fresh-more now earlier x p.2 u.1) ∙ ap
-    (λ k. k ++ seen_attributes x) (past _ (not-true _ u.0) refl) ∙ append_assoc (kept earlier)
-    (now ∷ []) (seen_attributes x)
+    let later = kept-onto (now ∷ earlier) x p.3 (fresh-more now earlier x p.2 u.1) in
+    grind (arith, not-true, append_assoc, later)
 
 -- ---- whole tags
 
@@ -174,14 +162,6 @@ tag-begins is_end name r t g h =
     name-leads (λ n. TagName (tag_with is_end n [])) (λ before b rest good. tag_name_step
     (tag_with is_end before []) b rest good) [] name r t (and_parts _ _ p.1).0 h
 
-pub opens : (name r : List ℕ) → begins_tag name ≡ true →
-    step TagOpen (name ++ r) ≡ Goes [] (TagName (tag_with false [] [])) (name ++ r)
-opens name r g = grind arith
-
-pub closes : (name r : List ℕ) → begins_tag name ≡ true →
-    step EndTagOpen (name ++ r) ≡ Goes [] (TagName (tag_with true [] [])) (name ++ r)
-closes name r g = grind arith
-
 start-leads : {left : List ℕ} (name : List ℕ) (x : List Attribute) (r : List ℕ) (t : List Token) →
     is_good_name name ≡ true → are_good x ≡ true →
     To left (TagName (tag_with false name (onto [] x))) r t →
@@ -189,8 +169,8 @@ start-leads : {left : List ℕ} (name : List ℕ) (x : List Attribute) (r : List
     To left Data (60 ∷ (name ++ attributes_before (lined x) r)) t
 start-leads name x r t n g h k =
     let begins = (and_parts (begins_tag name) _ n).0 in
-    quiet refl (quiet (opens name (attributes_before (lined x) r) begins)
-    (tag-begins false name (attributes_before (lined x) r) t n (after_name-leads name x r t g h k)))
+    quiet refl (quiet (grind arith) (tag-begins false name (attributes_before (lined x) r) t n
+    (after_name-leads name x r t g h k)))
 
 -- what is kept is all
 pub all-kept : (name : List ℕ) (x : List Attribute) (flag : Bool) (t : List Token) →
@@ -229,8 +209,8 @@ void-leads {left = left} name x r t n g h =
 
 pub end-leads : {left : List ℕ} (name r : List ℕ) (t : List Token) → is_good_name name ≡ true →
     To left Data r t → To left Data (60 ∷ 47 ∷ (name ++ (62 ∷ r))) (EndTag name ∷ t)
-end-leads name r t n h = quiet refl (quiet refl (quiet (closes name (62 ∷ r) (and_parts _ _ n).0)
-    (tag-begins true name (62 ∷ r) (EndTag name ∷ t) n (loud (EndTag name) refl h))))
+end-leads name r t n h = quiet refl (quiet refl (quiet (grind arith) (tag-begins true name (62 ∷ r)
+    (EndTag name ∷ t) n (loud (EndTag name) refl h))))
 
 -- ---- a run of what follows a tag
 

@@ -118,9 +118,7 @@ pub record Takes (W Q : List ℕ → Type 0) : Type 0 where
   pub take : (w x v : List ℕ) → W w → Q x → W v → Q (w ++ (x ++ v))
 
 pub takes-escaped : (p : Claim) → Takes Escaped p.holds
-takes-escaped p = record {
-  take = λ w x v h r g. p.before w (x ++ v) (text p.test w h) (p.after x v r (text p.test v g));
-}
+takes-escaped p = grind (arith, text)
 
 -- a text between two such ones
 pub record IsFramed (W : List ℕ → Type 0) (c x : List ℕ) : Type 0 where
@@ -151,13 +149,7 @@ pub framed-around : {W : List ℕ → Type 0} {ending c : List ℕ} {xs ys zs : 
     Adds ending W xs → Adds ending (λ y. y ≡ c) ys → Adds ending W zs →
     Adds ending (IsFramed W c) (xs ++ (ys ++ zs))
 framed-around {W} {c = c} a t b = adds-append {g = λ w. (z : List ℕ) × (w ≡ c ++ z) × W z}
-    (λ x w f g. record {
-      before = x;
-      after = g.0;
-      whole = ap (λ w. x ++ w) g.1;
-      is_before = f;
-      is_after = g.2;
-    }) a (adds-append (λ x z f g. (z, ap (λ x. x ++ z) f, g)) t b)
+    (grind arith) a (adds-append (λ x z f g. (z, ap (λ x. x ++ z) f, g)) t b)
 
 pub adds-framed : {W : List ℕ → Type 0} {ending c : List ℕ} {xs zs : List Piece} →
     Adds ending W xs → Adds ending W zs → Adds ending (IsFramed W c) (xs ++ (Text c ∷ zs))

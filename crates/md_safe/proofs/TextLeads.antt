@@ -1,7 +1,7 @@
 -- Step by step: the way to the data state from a state, by the way from the state after its first
 -- step.
-use Rattle.std.proofs.Common.{◌≡◌, ℕ, List, [], ◌∷◌, ◌++◌, map, refl, subst}
-use Rattle.std.proofs.Common.{append-nil, append_assoc, true}
+use Rattle.std.proofs.Common.{arith, ◌≡◌, ℕ, List, [], ◌∷◌, ◌++◌, map, refl, subst, append-nil}
+use Rattle.std.proofs.Common.{append_assoc, true}
 use Rattle.md_text.specs.References.{is_escaped, read_back}
 use Rattle.md_text.proofs.EncodeLaws.{read_back-other}
 use Rattle.md_safe.specs.Token.{Token, Character, TokenAttribute}
@@ -9,7 +9,7 @@ use Rattle.md_safe.specs.TokenizerStates.{State, Data, Goes}
 use Rattle.md_safe.specs.Tokenizer.{step, IsRun}
 use Rattle.md_safe.proofs.EscapedCases.{IsPlain, by_escaped}
 use Rattle.md_safe.proofs.Joining.{runs-on, leads-back}
-use Rattle.md_safe.proofs.Steps.{AtValue, plain-ne, plain_step, value_step}
+use Rattle.md_safe.proofs.Steps.{AtValue, plain-ne, plain_step}
 use Rattle.md_safe.specs.Tokenizes.{Tokenizes}
 
 -- with the rest of the input first
@@ -68,9 +68,9 @@ ValueLeads left x = (tag : List ℕ) (earlier : List TokenAttribute) (name value
 
 value-plain : (left : List ℕ) (b : ℕ) (rest : List ℕ) → IsPlain b → ValueLeads left rest →
     ValueLeads left (b ∷ rest)
-value-plain left b rest p later tag earlier name value r t h = quiet
-    (value_step _ b _ p.no_quote p.no_and p.no_nul) (later tag earlier name (value ++ (b ∷ [])) r t
-    (rw append_assoc (rw (read_back-other b rest (plain-ne b p)) at h)))
+value-plain left b rest p later tag earlier name value r t h = quiet (grind arith) (later tag
+    earlier name (value ++ (b ∷ [])) r t (rw append_assoc (rw (read_back-other b rest (plain-ne b
+    p)) at h)))
 
 pub value-leads : (left x : List ℕ) → is_escaped x ≡ true → ValueLeads left x
 value-leads left x e = by_escaped _ (λ tag earlier name value r t h. rw append-nil at h)

@@ -1,8 +1,8 @@
 -- Texts that are escaped: line endings, digits, numbers and the text of code. They
 -- may stand anywhere.
-use Rattle.std.proofs.Common.{◌≡◌, ℕ, ◌-◌, ◌<◌, ◌/◌, ◌%◌, ◌==◌, zero, suc, Bool, true, false}
-use Rattle.std.proofs.Common.{not, ◌&&◌, ◌||◌, cond, List, [], ◌∷◌, ◌++◌, length, take, drop, refl}
-use Rattle.std.proofs.Common.{sym, ap, subst, arith, append_assoc, append-nil, eqb-true}
+use Rattle.std.proofs.Common.{◌≡◌, ℕ, ◌-◌, ◌<◌, ◌/◌, ◌%◌, ◌==◌, zero, suc, Bool, true, false, not}
+use Rattle.std.proofs.Common.{◌&&◌, ◌||◌, cond, List, [], ◌∷◌, ◌++◌, length, take, drop, refl, sym}
+use Rattle.std.proofs.Common.{ap, subst, arith, append_assoc, append-nil, eqb-true}
 use Rattle.std.specs.Fmt.{decimal, digits, digits_onto, digit_glyph}
 use Rattle.std.specs.List.{list_all}
 use Rattle.std.proofs.lemmas.Bool.{and_parts, cond_both, agree_below_at, and_from}
@@ -28,14 +28,11 @@ plain_first b rest plain h = by ((b == 0) || (b == 60) || (b == 62) || (b == 34)
         ((cond special false (cond and (completes_reference rest) true)) && is_escaped rest) ≡ true
     by special and e = grind (arith, h, e)
 
-end-plain : (b : ℕ) → ((b == 13) || (b == 10)) ≡ true → is_plain b ≡ true
-end-plain b h = grind arith
-
 pub line_ends-escaped : (text : List ℕ) → is_line_ends text ≡ true → Escaped text
 line_ends-escaped [] h = refl
 line_ends-escaped (b ∷ text) h =
     let parts = and_parts ((b == 13) || (b == 10)) (is_line_ends text) h in
-    plain_first b text (end-plain b parts.0) (line_ends-escaped text parts.1)
+    plain_first b text (grind arith) (line_ends-escaped text parts.1)
 
 pub digit-plain : (b : ℕ) → is_digit b ≡ true → is_plain b ≡ true
 digit-plain b h = grind arith

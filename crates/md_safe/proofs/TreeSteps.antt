@@ -1,23 +1,21 @@
 -- What a parser in a body or a cell does at a token of the grammar.
 use Rattle.std.proofs.Common.{◌≡◌, ℕ, ◌==◌, Bool, true, false, not, List, [], ◌∷◌, ◌++◌, refl, suc}
-use Rattle.std.proofs.Common.{ap, ◌∙◌, map, codes, arith}
+use Rattle.std.proofs.Common.{ap, ◌∙◌, map, arith}
 use Rattle.std.specs.Prelude.{Some, None, option_and_then}
 use Rattle.std.specs.List.{list_all}
 use Rattle.std.proofs.lemmas.Bool.{and_parts, not-true}
 use Rattle.md_text.specs.Bytes.{is_one_of}
 use Rattle.md_text.specs.References.{is_escaped, read_back}
 use Rattle.md_safe.specs.Input.{with_line_feeds}
-use Rattle.md_safe.specs.Token.{Token, Character, StartTag, EndTag, TokenAttribute}
+use Rattle.md_safe.specs.Token.{Token, Character, StartTag, TokenAttribute}
 use Rattle.md_safe.specs.Tokens.{seen}
 use Rattle.md_safe.proofs.EscapedCases.{IsPlain, by_escaped}
 use Rattle.md_safe.proofs.LineFeeds.{line_feeds-escaped}
-use Rattle.md_safe.proofs.Steps.{past}
-use Rattle.md_safe.specs.Node.{Nodes, Open, Entry, Marker, Formatting, Mode, InBody, InCell, Parser}
-use Rattle.md_safe.specs.Node.{with_character, Empty as NoNode}
-use Rattle.md_safe.specs.Stack.{say}
-use Rattle.md_safe.specs.Elements.{parts, cells, sections}
-use Rattle.md_safe.specs.InBody.{start_in_body, end_in_body, reconstructed, character_in_body}
-use Rattle.md_safe.specs.Construction.{character, step, run}
+use Rattle.md_safe.specs.Node.{Nodes, Open, Entry, Marker, Formatting, Mode, Parser, with_character}
+use Rattle.md_safe.specs.Node.{Empty as NoNode}
+use Rattle.md_safe.specs.Elements.{parts}
+use Rattle.md_safe.specs.InBody.{start_in_body, reconstructed}
+use Rattle.md_safe.specs.Construction.{step, run}
 use Rattle.md_safe.specs.Built.{at, is_body, AreOpen, with_characters}
 
 pub run-append : (p : Parser) (xs ys : List Token) →
@@ -71,10 +69,6 @@ within x name those active = record {
   created = suc x.created;
 }
 
--- what holds in a body and in a cell
-by_mode : (P : Mode → Type 0) → P InBody → P InCell → (mode : Mode) → is_body mode ≡ true → P mode
-by_mode P body cell mode is = grind arith
-
 -- ---- tags
 
 pub start-in-body : (x : Position) → is_body x.mode ≡ true →
@@ -82,11 +76,6 @@ pub start-in-body : (x : Position) → is_body x.mode ≡ true →
     is_one_of parts name ≡ false →
     step (parser_of x) (StartTag name attributes flag) ≡ start_in_body name attributes (parser_of x)
 start-in-body x is name attributes flag none = grind arith
-
-pub end-in-body : (x : Position) → is_body x.mode ≡ true → (name : List ℕ) →
-    is_one_of cells name ≡ false → is_one_of (codes "table" ∷ codes "tr" ∷ sections) name ≡ false →
-    step (parser_of x) (EndTag name) ≡ end_in_body name (parser_of x)
-end-in-body x is name uncelled none = grind arith
 
 -- nothing is to be reconstructed where all is open
 pub reconstructs : (x : Position) (change : Parser → Parser) → AreOpen (x.node ∷ x.others)
@@ -114,11 +103,8 @@ characters-run [] x is h o = refl
 characters-run (byte ∷ bytes) x is h o =
     let parts = and_parts (is_character byte) (list_all is_character bytes) h in
     let next = with_children x (with_character x.node.children byte) x.active x.created in
-    after-one (parser_of x) (parser_of next) (Character byte) (map Character bytes)
-    (past _ (not-true (byte == 0) parts.0) (by_mode (λ mode. character mode byte (parser_of x) ≡
-    character_in_body byte (parser_of x)) refl refl x.mode is
-    ∙ reconstructs x (λ parser. record parser { stack = say byte parser.stack }) o))
-    ∙ characters-run bytes next is parts.1 (same-open x.node next.node.children x.others x.active o)
+    let held = same-open x.node next.node.children x.others x.active o in
+    grind (arith, after-one, not-true, reconstructs, characters-run bytes next is parts.1 held)
 
 abbrev AreRead : List ℕ → Type 0
 AreRead x = list_all is_character (read_back x) ≡ true

@@ -52,14 +52,6 @@ meaning-reads p bytes names options document test ids built keeps =
     } in
     document-prints s (reads-whole p ids) document built keeps
 
--- a safe link passes
-link-test : (options : CompileOptions) → KeepsLinks options → IsTest is_safe_link options
-link-test options keeps = grind (arith, not-true, and_parts, kept-link)
-
--- a safe image passes
-image-test : (options : CompileOptions) → KeepsImages options → IsTest is_safe_image options
-image-test options keeps = grind (arith, and_parts, not-true, kept-image)
-
 pub one-reading : (bytes : List ℕ) (names : List (List ℕ × List ℕ)) (options : CompileOptions)
     (document : Forest) → IsBuilt bytes Blocks document → KeepsGrammar options →
     HasOneReadingWith any_attribute (meaning options names bytes document)
@@ -70,13 +62,13 @@ one-reading bytes names options document built keeps = only_reading any_attribut
 pub safe-links : (bytes : List ℕ) (names : List (List ℕ × List ℕ)) (options : CompileOptions)
     (document : Forest) → IsBuilt bytes Blocks document → KeepsLinks options →
     HasOneReadingWith is_safe_link (meaning options names bytes document)
-safe-links bytes names options document built keeps = only_reading is_safe_link
-    (meaning options names bytes document) (meaning-reads _ _ _ _ _ (link-test _ keeps)
+safe-links bytes names options document built keeps = only_reading is_safe_link (meaning options
+    names bytes document) (meaning-reads _ _ _ _ _ (grind (arith, not-true, and_parts, kept-link))
     (λ value. refl) built keeps.grammar)
 
 pub safe-images : (bytes : List ℕ) (names : List (List ℕ × List ℕ)) (options : CompileOptions)
     (document : Forest) → IsBuilt bytes Blocks document → KeepsImages options →
     HasOneReadingWith is_safe_image (meaning options names bytes document)
-safe-images bytes names options document built keeps = only_reading is_safe_image
-    (meaning options names bytes document) (meaning-reads _ _ _ _ _ (image-test _ keeps)
+safe-images bytes names options document built keeps = only_reading is_safe_image (meaning options
+    names bytes document) (meaning-reads _ _ _ _ _ (grind (arith, and_parts, not-true, kept-image))
     (λ value. refl) built keeps.links.grammar)

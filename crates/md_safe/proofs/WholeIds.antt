@@ -4,11 +4,11 @@
 use Rattle.std.proofs.Common.{◌≡◌, ℕ, ◌≤◌, ◌==◌, Bool, true, false, ◌&&◌, ◌||◌, List, [], ◌∷◌, ◌++◌}
 use Rattle.std.proofs.Common.{refl, sym, ap, ◌∙◌, arith, codes, bytes_eq, append-nil, ◌⊎◌, inl, inr}
 use Rattle.std.proofs.Common.{not, length, ◌<◌, ◌^◌, ◌+◌}
-use Rattle.std.specs.List.{list_any, list_all, list_any}
+use Rattle.std.specs.List.{list_any, list_all}
 use Rattle.std.specs.Fmt.{decimal}
-use Rattle.std.proofs.lemmas.Bool.{or_right, and_from, or_left, or_right}
+use Rattle.std.proofs.lemmas.Bool.{or_right, and_from, or_left}
 use Rattle.md_base.proofs.Lies.{lie}
-use Rattle.md_text.proofs.HtmlIds.{occurs, occurs, counted-once}
+use Rattle.md_text.proofs.HtmlIds.{occurs, counted-once}
 use Rattle.md_content.specs.Built.{is_digit, Blocks, IsBuilt}
 use Rattle.md_safe.proofs.Texts.{decimal-digits}
 use Rattle.std.specs.Str.{bytes_eq}
@@ -63,13 +63,9 @@ same-prefix (b ∷ p) [] x y h g e =
     lie (sym g ∙ ap has_fn after ∙ fn-inside p x)
 same-prefix (b ∷ p) (c ∷ q) x y h g e = grind (arith, same-prefix p q x y h g)
 
--- digits and what follows them
-digit-no_f : (b : ℕ) → is_digit b ≡ true → (b == 102) ≡ false
-digit-no_f b h = grind arith
-
 fn-past : (x y : List ℕ) → list_all is_digit x ≡ true → has_fn (x ++ y) ≡ has_fn y
 fn-past [] y h = refl
-fn-past (b ∷ x) y h = grind (arith, digit-no_f b, fn-past x y)
+fn-past (b ∷ x) y h = grind (arith, fn-past x y)
 
 fn-digits : (x : List ℕ) → list_all is_digit x ≡ true → has_fn x ≡ false
 fn-digits x h = ap has_fn (sym (append-nil x)) ∙ fn-past x [] h
@@ -77,9 +73,6 @@ fn-digits x h = ap has_fn (sym (append-nil x)) ∙ fn-past x [] h
 -- after `fn` of a footnote, and after that of a call
 pub note-once : (n : ℕ) → has_fn (45 ∷ decimal n) ≡ false
 note-once n = fn-digits (decimal n) (decimal-digits n)
-
-pub call-once : (n k : ℕ) → has_fn (codes "ref-" ++ (decimal n ++ (45 ∷ decimal k))) ≡ false
-call-once n k = grind (arith, fn-past, decimal-digits, fn-digits)
 
 -- what is found among some texts stands there once or more
 pub any-occurs : (x : List ℕ) (ys : List (List ℕ)) → list_any (λ y. bytes_eq y x) ys ≡ true →
@@ -146,7 +139,7 @@ known-id bytes names options document built underlined keeps f reading w some =
 -- what follows the prefix in the id of a footnote or of a call
 tail_of : (options : CompileOptions) (w : List ℕ) → IsNote options w ⊎ IsCall options w →
     (tail : List ℕ) × (has_fn tail ≡ false) × (w ≡ prefix_of options ++ (102 ∷ 110 ∷ tail))
-tail_of options w h = grind (arith, note-once, call-once)
+tail_of options w h = grind (arith, note-once, fn-past, decimal-digits, fn-digits)
 
 -- what follows two prefixes of one id proves that they are equal
 one-prefix : (options other : CompileOptions) (w : List ℕ) → IsNote options w ⊎ IsCall options w →

@@ -1,27 +1,14 @@
 -- A text that is contained without a link in a link is built as it is read.
-use Rattle.std.proofs.Common.{◌≡◌, ℕ, true, false, List, ◌∷◌, codes, refl, ap}
-use Rattle.std.proofs.Common.{◌∙◌, arith}
-use Rattle.std.specs.Prelude.{Some, None}
+use Rattle.std.proofs.Common.{◌≡◌, ℕ, true, false, List, refl, arith}
 use Rattle.md_text.specs.Html.{Forest, Empty, Text, Void, Element, is_forest, any_attribute}
 use Rattle.std.proofs.lemmas.Bool.{and_parts, and_from}
 use Rattle.md_text.proofs.HtmlReading.{all-any}
-use Rattle.md_base.proofs.Lies.{lie}
 use Rattle.md_safe.proofs.Tokenized.{read-tokenized}
 use Rattle.md_safe.specs.Contents.{Flow, is_contained, IsUnnested}
 use Rattle.md_safe.specs.Node.{Open, Entry, Mode}
-use Rattle.md_safe.specs.Formatting.{last_active}
-use Rattle.md_safe.specs.Built.{has_whole_texts, put, at, IsPlace, Builds, IsBuiltAsRead, AreOpen}
-use Rattle.md_safe.specs.Built.{has_none_active}
+use Rattle.md_safe.specs.Built.{has_whole_texts, IsPlace, Builds, IsBuiltAsRead}
 use Rattle.md_safe.proofs.TreeSteps.{Position}
-use Rattle.md_safe.proofs.Flow.{flow-done, kept-none}
-
-none-open : (node : Open) (others : List Open) (active : List Entry) →
-    has_none_active active ≡ true → AreOpen (node ∷ others) active
-none-open node others active h = grind arith
-
-none-linked : (active : List Entry) → has_none_active active ≡ true →
-    last_active (codes "a") active ≡ None
-none-linked active h = grind arith
+use Rattle.md_safe.proofs.Flow.{flow-done}
 
 -- the texts of a reading
 pub reading-texts : (forest : Forest) → is_forest forest ≡ true → has_whole_texts forest ≡ true
@@ -44,37 +31,9 @@ forest-built forest h c mode node others active created place =
       active = active;
       created = created;
     } in
-    let d = flow-done forest Flow refl h c x (record {
-      here = record {
-        body = place.body;
-        opened = none-open node others active place.none_active;
-        made = place.made;
-        no_link = λ free. none-linked active place.none_active;
-      };
-      no_p = place.no_paragraph;
-      plain = place.no_heading;
-      resets = place.leads_back;
-      no_item = λ items. lie items;
-    }) in (
-      d.more,
-      d.runs ∙ ap (λ left.
-          Some (at mode (record node { children = put node.children forest } ∷ others) left d.more))
-          (kept-none active d.left place.none_active d.keeps),
-    )
+    let d = flow-done forest Flow refl h c x (grind arith) in grind arith
 
 pub text-built : (text : List ℕ) → IsUnnested text → IsBuiltAsRead text
 text-built text h =
-    let read = read-tokenized any_attribute text (record {
-      forest = h.forest;
-      reading = h.reading;
-      passes = all-any h.forest;
-      only = h.only;
-    }) in
-    record {
-      forest = h.forest;
-      reading = h.reading;
-      only = h.only;
-      contained = h.contained;
-      tokenized = grind arith;
-      builds = grind (arith, forest-built, reading-texts);
-    }
+    let read = read-tokenized any_attribute text (grind (arith, all-any)) in
+    grind (arith, forest-built, reading-texts)

@@ -1,6 +1,5 @@
 -- The root is such a place.
-use Rattle.md_safe.specs.Node.{InBody}
-use Rattle.md_safe.specs.Node.{Empty as NoNode}
+use Rattle.md_safe.specs.Node.{InBody, Empty as NoNode}
 use Rattle.md_safe.specs.Built.{open_at}
 use Rattle.std.specs.Prelude.{[], codes}
 use Rattle.md_safe.proofs.Fragments.{fragment-built, root-place}
