@@ -1,8 +1,7 @@
 -- A derived `==` decides whether two values of an enum are one, also where some
 -- variants have fields.
-use Rattle.std.proofs.Common.{arith}
 use Rattle.std.proofs.Common.{◌≡◌, Bool, true, false, ◌⊎◌, Decides, List, [], ◌∷◌, refl, sym, ap}
-use Rattle.std.proofs.Common.{subst, inl, inr}
+use Rattle.std.proofs.Common.{subst, inl, inr, arith}
 use Rattle.std.proofs.lemmas.Bool.{false≢true}
 use denote.Struct.Field.{Field}
 use denote.Struct.Values.{Values}

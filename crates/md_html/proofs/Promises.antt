@@ -1,6 +1,5 @@
 -- What holds of a text that is what a checked document means: what holds of each meaning.
-use Rattle.std.proofs.Common.{ℕ, ◌+◌, ◌*◌, ◌≤◌, ◌<◌, ◌^◌, List, length}
-use Rattle.std.proofs.Common.{arith}
+use Rattle.std.proofs.Common.{ℕ, ◌+◌, ◌*◌, ◌≤◌, ◌<◌, ◌^◌, List, length, arith}
 use Rattle.md_text.specs.Html.{any_attribute}
 use Rattle.md_text.specs.Safe.{is_safe_link, is_safe_image}
 use Rattle.md_text.specs.declared.options.CompileOptions.{CompileOptions}

@@ -1,7 +1,6 @@
 -- What the code is supplied with is what the steps are given, before the definitions are known and
 -- after; then what is printed is the meaning of the document.
-use Rattle.std.proofs.Common.{arith}
-use Rattle.std.proofs.Common.{◌≡◌, ◌<◌, ℕ, Bool, true, false, Option, Some, None, List}
+use Rattle.std.proofs.Common.{◌≡◌, ◌<◌, ℕ, Bool, true, false, Option, Some, None, List, arith}
 use Rattle.std.proofs.Common.{[], length, refl, sym, ap, ◌∙◌, subst}
 use Rattle.std.specs.Prelude.{slice_get, map, option_and_then, if◌then◌else◌}
 use Rattle.std.specs.Option.{option_map_or}

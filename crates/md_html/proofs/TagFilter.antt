@@ -1,6 +1,5 @@
 -- Where HTML is escaped the tag filter changes no meaning.
-use Rattle.std.proofs.Common.{arith}
-use Rattle.std.proofs.Common.{◌≡◌, ℕ, Bool, false, ◌&&◌, zero, suc, List, [], ◌++◌}
+use Rattle.std.proofs.Common.{◌≡◌, ℕ, Bool, false, ◌&&◌, zero, suc, List, [], ◌++◌, arith}
 use Rattle.std.proofs.Common.{refl, ap, ◌∙◌}
 use Rattle.md_base.specs.declared.event.Name.{Name}
 use Rattle.md_base.specs.declared.event.Name.TheVariants.{BlockQuote}

@@ -105,7 +105,8 @@ none_stays zero (b ∷ rest) f e = elim (cases_eq b 38) [
       let first = referenced-goes_on rest in
       rw is (rw (protocol_of-goes_on (referenced rest) _ first) (rw later refl)))
   | inr ne ↦ rw (read_back-other b rest ne) (elim (cases_Bool (goes_on b)) [
-    | inl on ↦ (let tail = map_none b (protocol_of rest) (rw (protocol_of-goes_on b rest on) at e) in
+    | inl on ↦
+        (let tail = map_none b (protocol_of rest) (rw (protocol_of-goes_on b rest on) at e) in
         rw (protocol_of-goes_on b (read_back rest) on) (rw (none_stays 0 rest refl tail) refl))
     | inr off ↦ grind (arith, off, e)
   ])

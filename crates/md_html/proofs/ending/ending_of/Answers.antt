@@ -1,6 +1,5 @@
 -- The first line ending of the document is that of the event that was found.
-use Rattle.std.proofs.Common.{arith}
-use Rattle.std.proofs.Common.{[], ◌∙◌, ap, sym}
+use Rattle.std.proofs.Common.{[], ◌∙◌, ap, sym, arith}
 use Rattle.std.specs.Prelude.{unwrap_or}
 use Rattle.md_tree.specs.Grammar.{IsReadAs}
 use Rattle.md_meaning.specs.Meaning.{ending_at}

@@ -1,7 +1,6 @@
 -- A safe text's promises are those of the text, under safe options; the one search that proves the
 -- other clause refuses a mutant in a second.
-use Rattle.std.proofs.Common.{arith}
-use Rattle.std.proofs.Common.{rules}
+use Rattle.std.proofs.Common.{rules, arith}
 use Rattle.md_html.proofs.within.compile_safe_within.Goals as goal
 
 pub returns-clause-within : goal.returns-clause-within

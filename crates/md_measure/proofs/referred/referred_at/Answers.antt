@@ -1,6 +1,5 @@
 -- Elsewhere no mention refers to a definition.
-use Rattle.std.proofs.Common.{arith}
-use Rattle.std.proofs.Common.{ap, sym}
+use Rattle.std.proofs.Common.{ap, sym, arith}
 use Rattle.md_length.specs.Reuse.{length_at, definition_lengths}
 use Rattle.md_measure.specs.Counting.{capped}
 use Rattle.md_measure.proofs.Referring.{none-led}

@@ -1,6 +1,5 @@
 -- Each claim by its step.
-use Rattle.std.proofs.Common.{arith}
-use Rattle.std.proofs.Common.{ap, ◌∙◌, ◌∷◌, ◌≤◌, ◌^◌, ◌-◌, rules, subst, sym}
+use Rattle.std.proofs.Common.{ap, ◌∙◌, ◌∷◌, ◌≤◌, ◌^◌, ◌-◌, rules, subst, sym, arith}
 use Rattle.md_measure.specs.Counting.{moved}
 use Rattle.md_measure.proofs.Measuring.{read-step, cells-step, calls-step, depth-step, nested-step}
 use Rattle.md_measure.proofs.Measuring.{few-open, few-levels, few-calls, few-columns, few-images}
