@@ -4,7 +4,7 @@ use Rattle.std.proofs.Common.{◌≡◌, ℕ, zero, suc, ◌+◌, ◌-◌, ◌^�
 use Rattle.std.proofs.Common.{cond, leb, eqb, ltb, bit_or, bit_and, List, [], ◌∷◌, map, length}
 use Rattle.std.proofs.Common.{get_or, replicate, take_all, refl, sym, ap, ap₂, subst, add-one, ◌∙◌}
 use Rattle.std.proofs.Common.{arith, inl, inr}
-use Rattle.std.proofs.lemmas.Bool.{true≢false, ltb-false, leb-false, eq-eqb, eqb-true, cases_eq}
+use Rattle.std.proofs.lemmas.Bool.{ltb-false, leb-false, eq-eqb, eqb-true, cases_eq}
 use Rattle.std.proofs.lemmas.Bool.Decides.{nat_tests}
 use Rattle.std.proofs.lemmas.List.{length-map}
 use Rattle.std.proofs.lemmas.Simd.{get_or-zip2, get_or-chunk, get_or-replicate, length-chunk}
@@ -32,9 +32,7 @@ Singles text = (k : ℕ) → suc k < length text → (32 ≤ get_or text k 0)
     × (get_or text k 0 ≡ 32 → 33 ≤ get_or text (suc k) 0)
 
 as_singles : (text : List ℕ) → HasSingleSpaces text → Singles text
-as_singles text singles k inside =
-    let here = singles k (omega (arith, inside)) in
-    (here.0, λ space. subst (λ i. 33 ≤ get_or text i 0) (add-one k) (here.1 space))
+as_singles text singles k inside = grind (arith, add-one)
 
 later_singles : (b : ℕ) (text : List ℕ) → Singles (b ∷ text) → Singles text
 later_singles b text singles k inside = singles (suc k) (omega (arith, inside))
@@ -51,10 +49,9 @@ in_word-single (b ∷ c ∷ text) singles ends =
     in_word-single (c ∷ text) (later_singles b (c ∷ text) singles) (later_end b c text ends) in
     elim (cases_eq b 32) [
       | inl space ↦ (let black = above_is_black c (here.1 space) in
-          in_word-white b (c ∷ text) (ap is_white space) ∙ after_word-black c text black
-          ∙ ap₂ ◌∷◌ (sym space) (sym (in_word-black c text black) ∙ later))
-      | inr other ↦ in_word-black b (c ∷ text) (above_is_black b (omega (arith, here.0, other)))
-          ∙ ap (λ t. b ∷ t) later
+          let white : is_white b ≡ true = rw space refl in
+          rw (in_word-white b (c ∷ text) white, after_word-black c text black) (cc (later, in_word-black c text black, space)))
+      | inr other ↦ rw (in_word-black b (c ∷ text) (above_is_black b (omega (arith, here.0, other))), later) refl
     ]
 
 pub collapsed-single : (text : List ℕ) → 33 ≤ get_or text 0 0 → EndsBlack text →
@@ -75,19 +72,11 @@ marked low space white =
 
 unmarked : (low space white : Bool) → marked low space white ≡ false →
     (low ≡ false) × (space ≡ true → white ≡ false)
-unmarked true true true e = absurd (true≢false e)
-unmarked true true false e = absurd (true≢false e)
-unmarked true false true e = absurd (true≢false e)
-unmarked true false false e = absurd (true≢false e)
-unmarked false true true e = absurd (true≢false e)
-unmarked false true false e = (refl, λ _. refl)
-unmarked false false white e = (refl, λ h. absurd (true≢false (sym h)))
+unmarked low space white e = grind arith
 
 single_lane : (b next : ℕ) → marked (ltb b 32) (eqb b 32) (ltb next 33) ≡ false →
     (32 ≤ b) × (b ≡ 32 → 33 ≤ next)
-single_lane b next e =
-    let parts = unmarked (ltb b 32) (eqb b 32) (ltb next 33) e in
-    (ltb-false b 32 parts.0, λ space. ltb-false next 33 (parts.1 (eq-eqb b 32 space)))
+single_lane b next e = grind (arith, unmarked, ltb-false, eq-eqb)
 
 module _ (text : List ℕ) (at n : ℕ) (room : at + n < length text) (few : n ≤ 64) where
   abbrev block : List ℕ

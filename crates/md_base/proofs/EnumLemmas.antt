@@ -1,7 +1,7 @@
 -- A derived `==` decides whether two values of an enum are one, also where some
 -- variants have fields.
-use Rattle.std.proofs.Common.{◌≡◌, Bool, true, false, ◌⊎◌, Decides, List, [], ◌∷◌, refl, sym, ap}
-use Rattle.std.proofs.Common.{subst, inl, inr}
+use Rattle.std.proofs.Common.{arith, ◌≡◌, Bool, true, false, ◌⊎◌, Decides, List, [], ◌∷◌, refl, sym}
+use Rattle.std.proofs.Common.{ap, subst, inl, inr}
 use Rattle.std.proofs.lemmas.Bool.{false≢true}
 use denote.Struct.Field.{Field}
 use denote.Struct.Values.{Values}
@@ -74,6 +74,4 @@ by_decides ((field ∷ fields) ∷ variants) tests (inr x) (inr y) =
 pub same_decides : (enum : Record) (tests : Tests enum.parts) (a b : enum.D) →
     Decides (by false false enum.parts (each_of enum.parts tests) (enum.as_values a)
     (enum.as_values b)) (a ≡ b)
-same_decides enum tests a b =
-    let choices = by_decides enum.parts tests (enum.as_values a) (enum.as_values b) in
-    (λ e. values_one enum a b (choices.0 e), λ e. choices.1 (ap enum.as_values e))
+same_decides enum tests a b = grind (arith, by_decides, values_one)

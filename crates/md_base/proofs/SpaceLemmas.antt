@@ -1,15 +1,14 @@
 -- Spaces around a text leave it a text, and make no text of other bytes: a slice with cut tabs is a
 -- text where its bytes are.
-use Rattle.std.proofs.Common.{◌≡◌, ℕ, zero, suc, ◌<◌, Bool, true, cond, Option, Some, None, inl}
-use Rattle.std.proofs.Common.{inr, List, [], ◌∷◌, ◌++◌, length, get_or, replicate, IsUtf8, IsAscii}
-use Rattle.std.proofs.Common.{Decides, refl, sym, ap, ◌∙◌, arith, subst, lit<}
+use Rattle.std.proofs.Common.{◌≡◌, ℕ, zero, suc, Bool, true, cond, Option, Some, None}
+use Rattle.std.proofs.Common.{List, [], ◌∷◌, ◌++◌, length, replicate, IsUtf8, IsAscii}
+use Rattle.std.proofs.Common.{Decides, refl, sym, ap, arith, subst, lit<}
 use Rattle.std.specs.Str.{is_utf8}
 use Rattle.std.proofs.lemmas.List.{append_assoc, append-nil, length-append, get_or_at, take_at}
 use Rattle.std.proofs.lemmas.Str.{IsUtf8-append, IsUtf8-from_ascii, IsUtf8-take, IsUtf8-past_char}
 use Rattle.std.proofs.lemmas.Str.{IsCharBoundary-before_ascii, encode_ascii, IsUtf8-from_is_utf8}
 use Rattle.std.proofs.lemmas.Str.{is_utf8-from_IsUtf8}
 use Rattle.std.proofs.lemmas.Str.Ascii.{IsAscii-nil, IsAscii-cons}
-use Rattle.std.proofs.lemmas.Bool.{cases_Bool}
 use Rattle.md_base.specs.Place.{text_when}
 use Rattle.std.proofs.lemmas.Bool.Decides.{same_from_decides, Decides-like}
 
@@ -29,20 +28,15 @@ without_left (suc count) text utf8 =
 
 without_one : (text : List ℕ) → IsUtf8 (text ++ 32 ∷ []) → IsUtf8 text
 without_one text utf8 =
-    let at_end : get_or (text ++ 32 ∷ []) (length text) 0 ≡ 32 =
-    get_or_at text 32 [] 0 (length text) refl in
-    let inside : length text < length (text ++ 32 ∷ []) =
-    omega (arith, length-append text (32 ∷ [])) in
-    let edge = IsCharBoundary-before_ascii (text ++ 32 ∷ []) (length text) inside
-    (subst (λ b. b < 128) (sym at_end) (lit< tt)) in
-    subst IsUtf8 (take_at text (32 ∷ []) (length text) refl)
-    (IsUtf8-take (text ++ 32 ∷ []) (length text) utf8 edge)
+    let at_end = get_or_at text 32 [] 0 (length text) refl in
+    let edge = IsCharBoundary-before_ascii (text ++ 32 ∷ []) (length text)
+    (omega (arith, length-append text (32 ∷ []))) (omega (arith, at_end)) in
+    rw take_at at (IsUtf8-take (text ++ 32 ∷ []) (length text) utf8 edge)
 
 without_right : (count : ℕ) (text : List ℕ) → IsUtf8 (text ++ replicate count 32) → IsUtf8 text
 without_right zero text utf8 = subst IsUtf8 (append-nil text) utf8
 without_right (suc count) text utf8 =
-    without_one text (without_right count (text ++ 32 ∷ [])
-    (subst IsUtf8 (sym (append_assoc text (32 ∷ []) (replicate count 32))) utf8))
+    without_one text (without_right count (text ++ 32 ∷ []) (rw append_assoc utf8))
 
 is_utf8-Decides : (bytes : List ℕ) → Decides (is_utf8 bytes) (IsUtf8 bytes)
 is_utf8-Decides bytes = (IsUtf8-from_is_utf8 bytes, is_utf8-from_IsUtf8 bytes)
@@ -66,26 +60,10 @@ chosen bytes test = cond test (Some bytes) None
 
 pub padded_none : (before after : ℕ) (bytes : List ℕ) → None ≡ text_when true bytes →
     None ≡ text_when true (replicate before 32 ++ bytes ++ replicate after 32)
-padded_none before after bytes h =
-    elim (cases_Bool (is_utf8 bytes)) [
-      | inl good ↦
-          (let e : text_when true bytes ≡ Some bytes = ap (chosen bytes) good in absurd (cc))
-      | inr bad ↦ sym (ap (chosen (replicate before 32 ++ bytes ++ replicate after 32))
-          (is_utf8-padded before after bytes ∙ bad))
-    ]
+padded_none before after bytes h = grind (arith, is_utf8-padded)
 
 pub padded_some : (before after : ℕ) (bytes inner all : List ℕ) →
     Some inner ≡ text_when true bytes →
     all ≡ replicate before 32 ++ inner ++ replicate after 32 →
     Some all ≡ text_when true (replicate before 32 ++ bytes ++ replicate after 32)
-padded_some before after bytes inner all h e =
-    elim (cases_Bool (is_utf8 bytes)) [
-      | inl good ↦ (
-          let is : text_when true bytes ≡ Some bytes = ap (chosen bytes) good in
-          let same : inner ≡ bytes = cc in
-          ap Some (e ∙ ap (λ t. replicate before 32 ++ t ++ replicate after 32) same)
-          ∙ sym (ap (chosen (replicate before 32 ++ bytes ++ replicate after 32))
-          (is_utf8-padded before after bytes
-          ∙ good)))
-      | inr bad ↦ (let isnt : text_when true bytes ≡ None = ap (chosen bytes) bad in absurd (cc))
-    ]
+padded_some before after bytes inner all h e = grind (arith, is_utf8-padded)
