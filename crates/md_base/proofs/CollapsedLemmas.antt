@@ -2,9 +2,9 @@
 -- them.
 use Rattle.std.proofs.Common.{◌≡◌, ℕ, zero, suc, ◌+◌, ◌-◌, ◌^◌, ◌%◌, ◌<◌, ◌≤◌, Bool, true, false}
 use Rattle.std.proofs.Common.{cond, leb, eqb, ltb, bit_or, bit_and, List, [], ◌∷◌, map, length}
-use Rattle.std.proofs.Common.{get_or, replicate, take_all, refl, sym, ap, ap₂, ◌∙◌}
+use Rattle.std.proofs.Common.{get_or, replicate, take_all, refl, sym, ap, ap₂, subst, add-one, ◌∙◌}
 use Rattle.std.proofs.Common.{arith, inl, inr}
-use Rattle.std.proofs.lemmas.Bool.{true≢false, leb-false, eqb-true, cases_eq}
+use Rattle.std.proofs.lemmas.Bool.{ltb-false, leb-false, eq-eqb, eqb-true, cases_eq}
 use Rattle.std.proofs.lemmas.Bool.Decides.{nat_tests}
 use Rattle.std.proofs.lemmas.List.{length-map}
 use Rattle.std.proofs.lemmas.Simd.{get_or-zip2, get_or-chunk, get_or-replicate, length-chunk}
@@ -12,7 +12,7 @@ use Rattle.std.proofs.lemmas.Simd.{length-replicate, length-zip2, mask_l-mod, no
 use lib.Lanes.{chunk, mask_l, top, zip2}
 use Rattle.md_base.specs.Identifier.{is_white, collapsed}
 use Rattle.md_base.specs.Collapsed.{IsSingleAt, HasSingleSpaces}
-use Rattle.md_base.proofs.IdentifierLemmas.{in_word, in_word-black, after_word-black}
+use Rattle.md_base.proofs.IdentifierLemmas.{in_word, in_word-white, in_word-black, after_word-black}
 use Rattle.md_base.proofs.IdentifierLemmas.{collapsed-black}
 
 -- ---- such a text
@@ -32,7 +32,7 @@ Singles text = (k : ℕ) → suc k < length text → (32 ≤ get_or text k 0)
     × (get_or text k 0 ≡ 32 → 33 ≤ get_or text (suc k) 0)
 
 as_singles : (text : List ℕ) → HasSingleSpaces text → Singles text
-as_singles text singles k inside = grind arith
+as_singles text singles k inside = grind (arith, add-one)
 
 later_singles : (b : ℕ) (text : List ℕ) → Singles (b ∷ text) → Singles text
 later_singles b text singles k inside = singles (suc k) (omega (arith, inside))
@@ -48,8 +48,10 @@ in_word-single (b ∷ c ∷ text) singles ends =
     let later =
     in_word-single (c ∷ text) (later_singles b (c ∷ text) singles) (later_end b c text ends) in
     elim (cases_eq b 32) [
-      | inl space ↦ grind (arith, after_word-black)
-      | inr other ↦ grind arith
+      | inl space ↦ (let black = above_is_black c (here.1 space) in
+          let white : is_white b ≡ true = rw space refl in
+          rw (in_word-white b (c ∷ text) white, after_word-black c text black) (cc (later, in_word-black c text black, space)))
+      | inr other ↦ rw (in_word-black b (c ∷ text) (above_is_black b (omega (arith, here.0, other))), later) refl
     ]
 
 pub collapsed-single : (text : List ℕ) → 33 ≤ get_or text 0 0 → EndsBlack text →
@@ -57,7 +59,9 @@ pub collapsed-single : (text : List ℕ) → 33 ≤ get_or text 0 0 → EndsBlac
     collapsed text ≡ text
 collapsed-single [] first ends singles = refl
 collapsed-single (b ∷ text) first ends singles =
-    grind (arith, collapsed-black, in_word-single (b ∷ text) (as_singles (b ∷ text) singles) ends)
+    let black = above_is_black b first in
+    collapsed-black b text black ∙ sym (in_word-black b text black)
+    ∙ in_word-single (b ∷ text) (as_singles (b ∷ text) singles) ends
 
 -- ---- the facts that a load gives
 
@@ -68,17 +72,11 @@ marked low space white =
 
 unmarked : (low space white : Bool) → marked low space white ≡ false →
     (low ≡ false) × (space ≡ true → white ≡ false)
-unmarked true true true e = absurd (true≢false e)
-unmarked true true false e = absurd (true≢false e)
-unmarked true false true e = absurd (true≢false e)
-unmarked true false false e = absurd (true≢false e)
-unmarked false true true e = absurd (true≢false e)
-unmarked false true false e = (refl, λ _. refl)
-unmarked false false white e = (refl, λ h. absurd (true≢false (sym h)))
+unmarked low space white e = grind arith
 
 single_lane : (b next : ℕ) → marked (ltb b 32) (eqb b 32) (ltb next 33) ≡ false →
     (32 ≤ b) × (b ≡ 32 → 33 ≤ next)
-single_lane b next e = grind arith
+single_lane b next e = grind (arith, unmarked, ltb-false, eq-eqb)
 
 module _ (text : List ℕ) (at n : ℕ) (room : at + n < length text) (few : n ≤ 64) where
   abbrev block : List ℕ
@@ -104,7 +102,10 @@ module _ (text : List ℕ) (at n : ℕ) (room : at + n < length text) (few : n �
 
   length-compared : (test : ℕ → ℕ → Bool) (bytes : List ℕ) (limit : ℕ) → length bytes ≡ n →
       length (compared test bytes limit) ≡ n
-  length-compared test bytes limit long = grind (arith, length-zip2, length-replicate)
+  length-compared test bytes limit long =
+      length-zip2 (λ a b. cond {A = ℕ} (test a b) 255 0) bytes (replicate n limit)
+      (long ∙ sym (length-replicate n limit))
+      ∙ long
 
   compared-at : (test : ℕ → ℕ → Bool) (bytes : List ℕ) (limit k : ℕ) → length bytes ≡ n → k < n →
       get_or (compared test bytes limit) k 0 ≡ cond (test (get_or bytes k 0) limit) 255 0
@@ -115,10 +116,16 @@ module _ (text : List ℕ) (at n : ℕ) (room : at + n < length text) (few : n �
       (get_or-replicate n k limit 0 inside)
 
   length-pairs : length pairs ≡ n
-  length-pairs = grind (arith, length-zip2, length-compared, length-block, length-next)
+  length-pairs =
+      length-zip2 bit_and (compared eqb block 32) (compared ltb next 33)
+      (length-compared eqb block 32 length-block ∙ sym (length-compared ltb next 33 length-next))
+      ∙ length-compared eqb block 32 length-block
 
   length-lanes : length lanes ≡ n
-  length-lanes = grind (arith, length-zip2, length-compared, length-block, length-pairs)
+  length-lanes =
+      length-zip2 bit_or (compared ltb block 32) pairs
+      (length-compared ltb block 32 length-block ∙ sym length-pairs)
+      ∙ length-compared ltb block 32 length-block
 
   lanes-at : (k : ℕ) → k < n → get_or lanes k 0
       ≡ bit_or (cond (ltb (get_or block k 0) 32) 255 0)
@@ -156,4 +163,6 @@ module _ (text : List ℕ) (at n : ℕ) (room : at + n < length text) (few : n �
   pub single_in : eqb (mask_l (map (top 7) lanes) % 2 ^ 64) 0 ≡ true → (k : ℕ) →
       at ≤ k → k < at + n →
       IsSingleAt text k
-  single_in none k from to = grind (arith, single_at none (k - at) (omega (arith, from, to)))
+  single_in none k from to =
+      subst (IsSingleAt text) {x = at + (k - at)} {y = k} (omega (arith, from))
+      (single_at none (k - at) (omega (arith, from, to)))

@@ -1,11 +1,11 @@
 -- A derived `==` decides whether two values of an enum are one, also where some
 -- variants have fields.
-use Rattle.std.proofs.Common.{◌≡◌, Bool, true, false, ◌⊎◌, Decides, List, [], ◌∷◌, refl, sym, ap}
-use Rattle.std.proofs.Common.{subst, inl, inr, arith}
+use Rattle.std.proofs.Common.{arith, ◌≡◌, Bool, true, false, ◌⊎◌, Decides, List, [], ◌∷◌, refl, sym}
+use Rattle.std.proofs.Common.{ap, subst, inl, inr}
 use Rattle.std.proofs.lemmas.Bool.{false≢true}
 use denote.Struct.Field.{Field}
 use denote.Struct.Values.{Values}
-use denote.Enum.Declared.{Record, Choice}
+use denote.Enum.Declared.{Record, Choice, values_one}
 use denote.Enum.Compared.{Each, by}
 
 -- a test for each variant that has fields, which decides whether their values are equal
@@ -74,4 +74,4 @@ by_decides ((field ∷ fields) ∷ variants) tests (inr x) (inr y) =
 pub same_decides : (enum : Record) (tests : Tests enum.parts) (a b : enum.D) →
     Decides (by false false enum.parts (each_of enum.parts tests) (enum.as_values a)
     (enum.as_values b)) (a ≡ b)
-same_decides enum tests a b = grind (arith, by_decides)
+same_decides enum tests a b = grind (arith, by_decides, values_one)

@@ -1,8 +1,7 @@
 -- Case folding of ASCII, and of a text by its characters.
 use Rattle.std.proofs.Common.{◌≡◌, ℕ, zero, suc, ◌<◌, ◌≤◌, List, [], ◌∷◌, ◌++◌, map, length, get_or}
 use Rattle.std.proofs.Common.{encode_utf8, encode_utf8_all, chars, IsAscii, IsUtf8, refl, sym, ap}
-use Rattle.std.proofs.Common.{ap₂, ◌∙◌, arith, inl, inr}
-use Rattle.std.proofs.lemmas.Bool.{cases_lt}
+use Rattle.std.proofs.Common.{ap₂, ◌∙◌, arith}
 use Rattle.std.proofs.lemmas.Bool.Decides.{nat_tests}
 use Rattle.std.proofs.lemmas.List.{append_assoc, append-nil, get_or-map, get_or_past, length-map}
 use Rattle.std.proofs.lemmas.List.{map-append}
@@ -13,21 +12,21 @@ use Rattle.ucd_case.specs.CaseFolding.{full_fold, full_folding}
 use Rattle.ucd_case.proofs.CaseFoldingLemmas.{full_fold-ascii}
 use Rattle.caseless.specs.Caseless.{default_case_fold}
 use Rattle.caseless.proofs.CaselessLemmas.{default_case_fold-cons, default_case_fold-nil}
-use Rattle.caseless.proofs.CaselessLemmas.{default_case_fold-ascii, All-chars}
+use Rattle.caseless.proofs.CaselessLemmas.{default_case_fold-ascii, All-chars, full_fold-none}
 
 lower_ascii : (c : ℕ) → c < 128 → to_ascii_lowercase c < 128
 lower_ascii c narrow = grind (arith, nat_tests)
 
 lowered_ascii : (bytes : List ℕ) → IsAscii bytes → IsAscii (map to_ascii_lowercase bytes)
-lowered_ascii bytes ascii k = elim (cases_lt k (length bytes)) [
-  | inl inside ↦ grind (arith, get_or-map, lower_ascii (get_or bytes k 0) (ascii k))
-  | inr past ↦ grind (arith, get_or_past, length-map)
-]
+lowered_ascii bytes ascii k =
+    grind (arith, get_or-map, lower_ascii, get_or_past, length-map, ascii k)
 
 pub fold_ascii : (bytes : List ℕ) → IsAscii bytes → map to_ascii_lowercase bytes
     ≡ encode_utf8_all (default_case_fold (chars bytes))
 fold_ascii bytes ascii =
-    grind (arith, encodes-IsAscii, lowered_ascii, default_case_fold-ascii, All-chars, chars-IsAscii)
+    sym (encodes-IsAscii (map to_ascii_lowercase bytes) (lowered_ascii bytes ascii))
+    ∙ ap encode_utf8_all (sym (default_case_fold-ascii (chars bytes) (All-chars bytes ascii)
+    ∙ ap (map to_ascii_lowercase) (chars-IsAscii bytes ascii)))
 
 -- the written text and the result for the rest, at a character
 pub fold_step : (written rest old : List ℕ) (c : ℕ) → IsUtf8 old → old ≡ encode_utf8 c ++ rest →
@@ -37,8 +36,7 @@ fold_step written rest old c text e =
     grind (arith, append_assoc, encodes-append, chars_past_char, default_case_fold-cons)
 
 pub fold_end : encode_utf8_all (default_case_fold (chars [])) ≡ []
-fold_end = ap (λ cs. encode_utf8_all (default_case_fold cs)) chars-nil
-    ∙ ap encode_utf8_all default_case_fold-nil
+fold_end = grind (arith, chars-nil, default_case_fold-nil)
 
 pub lowered_folds : (c : ℕ) → c < 128 →
     encode_utf8 (to_ascii_lowercase c) ≡ encode_utf8_all (full_fold c)
@@ -59,22 +57,19 @@ lower_all_wide (b ∷ bytes) wide =
 wide_bytes : (c : ℕ) → 128 ≤ c → (k : ℕ) → k < length (encode_utf8 c) →
     128 ≤ get_or (encode_utf8 c) k 0
 wide_bytes c wide k inside =
-    grind (arith, inside_one c [] (encode_utf8 c) k, append-nil (encode_utf8 c))
+    let narrow = inside_one c [] (encode_utf8 c) k (sym (append-nil (encode_utf8 c))) inside in
+    grind (arith, narrow, wide)
 
 pub lowered_character : (c : ℕ) → c < 128 →
     map to_ascii_lowercase (encode_utf8 c) ≡ encode_utf8_all (full_fold c)
 lowered_character c narrow =
-    grind (
-      arith,
-      encode_ascii c narrow,
-      encode_ascii (to_ascii_lowercase c) (lower_ascii c narrow),
-      lowered_folds c narrow,
-    )
+    rw (encode_ascii c narrow, ← encode_ascii (to_ascii_lowercase c) (lower_ascii c narrow)) (lowered_folds c narrow)
 
 pub kept_character : (c : ℕ) (table : List ℕ) → 128 ≤ c →
     table ≡ full_folding c → length table < 1 →
     map to_ascii_lowercase (encode_utf8 c) ≡ encode_utf8_all (full_fold c)
-kept_character c table wide same none = grind (arith, lower_all_wide, wide_bytes, append-nil)
+kept_character c table wide same none =
+    grind (arith, lower_all_wide, wide_bytes, full_fold-none, append-nil)
 
 -- to fold these bytes is to lower ASCII letters
 abbrev pub IsLowered : List ℕ → Type 0
@@ -87,8 +82,4 @@ pub lowered_step : (old rest : List ℕ) (c : ℕ) → IsUtf8 old → old ≡ en
     map to_ascii_lowercase (encode_utf8 c) ≡ encode_utf8_all (full_fold c) →
     IsLowered rest → IsLowered old
 lowered_step old rest c text e first later =
-    grind (
-      arith,
-      map-append to_ascii_lowercase (encode_utf8 c) rest,
-      fold_step [] rest old c text e,
-    )
+    rw (e, map-append, first, later) (fold_step [] rest (encode_utf8 c ++ rest) c (rw e at text) refl)

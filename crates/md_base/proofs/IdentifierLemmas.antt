@@ -1,14 +1,13 @@
 -- White space collapsed in one pass: before the first word, inside a word, and after one. The loop
 -- of `collapse_white_space` follows these steps.
 use Rattle.std.proofs.Common.{◌≡◌, ℕ, zero, suc, ◌<◌, ◌≤◌, Bool, true, false, not, eqb, cond, List}
-use Rattle.std.proofs.Common.{[], ◌∷◌, ◌++◌, length, get_or, refl, sym, ap, ◌∙◌, arith, inl, inr}
-use Rattle.std.proofs.Common.{encode_utf8}
+use Rattle.std.proofs.Common.{[], ◌∷◌, ◌++◌, length, get_or, refl, ap, ◌∙◌, arith, encode_utf8}
 use Rattle.std.specs.Prelude.{filter}
 use Rattle.std.specs.List.{slice_split, onto_first, join_with_byte}
 use Rattle.std.proofs.lemmas.List.{append_assoc, append-nil}
-use Rattle.std.proofs.lemmas.Bool.{cases_lt, both_ways}
+use Rattle.std.proofs.lemmas.Bool.{true≢false}
 use Rattle.std.proofs.lemmas.Bool.Decides.{nat_tests}
-use Rattle.std.proofs.lemmas.Str.{encode_ascii, inside_one, length-encode}
+use Rattle.std.proofs.lemmas.Str.{encode_ascii, inside_one, length-encode, len_utf8_bounds}
 use Rattle.md_base.specs.Identifier.{is_white, is_nonempty, collapsed}
 
 -- further words, each after a space
@@ -31,20 +30,17 @@ after_word text = spaced (filter is_nonempty (slice_split is_white text))
 
 join-cons : (word : List ℕ) (words : List (List ℕ)) →
     join_with_byte 32 (word ∷ words) ≡ word ++ spaced words
-join-cons word [] = sym (append-nil word)
-join-cons word (next ∷ words) = refl
+join-cons word words = grind (arith, append-nil)
 
 -- ---- at a byte of white space
 
 white_split : (b : ℕ) (text : List ℕ) → is_white b ≡ true →
     slice_split is_white (b ∷ text) ≡ [] ∷ slice_split is_white text
-white_split b text white = ap (λ test. cond test ([] ∷ slice_split is_white text)
-    (onto_first b (slice_split is_white text))) white
+white_split b text white = grind arith
 
 pub collapsed-white : (b : ℕ) (text : List ℕ) → is_white b ≡ true →
     collapsed (b ∷ text) ≡ collapsed text
-collapsed-white b text white =
-    ap (λ parts. join_with_byte 32 (filter is_nonempty parts)) (white_split b text white)
+collapsed-white b text white = grind (arith, white_split)
 
 pub in_word-white : (b : ℕ) (text : List ℕ) → is_white b ≡ true →
     in_word (b ∷ text) ≡ after_word text
@@ -52,43 +48,36 @@ in_word-white b text white = ap word_on (white_split b text white)
 
 pub after_word-white : (b : ℕ) (text : List ℕ) → is_white b ≡ true →
     after_word (b ∷ text) ≡ after_word text
-after_word-white b text white =
-    ap (λ parts. spaced (filter is_nonempty parts)) (white_split b text white)
+after_word-white b text white = grind (arith, white_split)
 
 -- ---- at another byte
 
 black_split : (b : ℕ) (text : List ℕ) → is_white b ≡ false →
     slice_split is_white (b ∷ text) ≡ onto_first b (slice_split is_white text)
-black_split b text black = ap (λ test. cond test ([] ∷ slice_split is_white text)
-    (onto_first b (slice_split is_white text))) black
+black_split b text black = grind arith
 
 join_onto : (b : ℕ) (parts : List (List ℕ)) →
     join_with_byte 32 (filter is_nonempty (onto_first b parts)) ≡ b ∷ word_on parts
-join_onto b [] = refl
-join_onto b (first ∷ parts) = join-cons (b ∷ first) (filter is_nonempty parts)
+join_onto b parts = grind (arith, join-cons)
 
 spaced_onto : (b : ℕ) (parts : List (List ℕ)) →
     spaced (filter is_nonempty (onto_first b parts)) ≡ 32 ∷ b ∷ word_on parts
-spaced_onto b [] = refl
-spaced_onto b (first ∷ parts) =
-    ap (λ rest. 32 ∷ rest) (join-cons (b ∷ first) (filter is_nonempty parts))
+spaced_onto b parts = grind (arith, join-cons)
 
 word_onto : (b : ℕ) (parts : List (List ℕ)) → word_on (onto_first b parts) ≡ b ∷ word_on parts
-word_onto b [] = refl
-word_onto b (first ∷ parts) = refl
+word_onto b parts = grind arith
 
 pub collapsed-black : (b : ℕ) (text : List ℕ) → is_white b ≡ false →
     collapsed (b ∷ text) ≡ b ∷ in_word text
-collapsed-black b text black = grind (arith, join_onto)
+collapsed-black b text black = grind (arith, black_split, join_onto)
 
 pub in_word-black : (b : ℕ) (text : List ℕ) → is_white b ≡ false →
     in_word (b ∷ text) ≡ b ∷ in_word text
-in_word-black b text black =
-    ap word_on (black_split b text black) ∙ word_onto b (slice_split is_white text)
+in_word-black b text black = grind (arith, black_split, word_onto)
 
 pub after_word-black : (b : ℕ) (text : List ℕ) → is_white b ≡ false →
     after_word (b ∷ text) ≡ 32 ∷ b ∷ in_word text
-after_word-black b text black = grind (arith, spaced_onto)
+after_word-black b text black = grind (arith, black_split, spaced_onto)
 
 -- ---- at a character, with what is written so far and whether a space is owed
 
@@ -102,21 +91,20 @@ wide_is_black : (b : ℕ) → 128 ≤ b → is_white b ≡ false
 wide_is_black b wide = grind (arith, nat_tests)
 
 white_is_ascii : (c : ℕ) → is_white c ≡ true → c < 128
-white_is_ascii c white = grind arith
+white_is_ascii c white = grind (arith, true≢false, wide_is_black)
 
 white_step_ascii : (is_gap empty : Bool) (written : List ℕ) (c : ℕ) (rest : List ℕ) →
     is_white c ≡ true →
     empty ≡ eqb (length written) 0 →
     still (not empty) written rest ≡ still is_gap written (c ∷ rest)
-white_step_ascii is_gap empty [] c rest white e = sym (collapsed-white c rest white)
-white_step_ascii true empty (b ∷ written) c rest white e = grind arith
-white_step_ascii false empty (b ∷ written) c rest white e = grind arith
+white_step_ascii is_gap empty written c rest white e = grind arith
 
 pub white_step : (is_gap empty : Bool) (written : List ℕ) (c : ℕ) (rest : List ℕ) →
     is_white c ≡ true →
     empty ≡ eqb (length written) 0 →
     still (not empty) written rest ≡ still is_gap written (encode_utf8 c ++ rest)
-white_step is_gap empty written c rest white e = grind (arith, encode_ascii)
+white_step is_gap empty written c rest white e =
+    grind (arith, white_step_ascii, encode_ascii, white_is_ascii)
 
 -- no byte of the word is white space
 abbrev IsBlack : List ℕ → Type 0
@@ -124,10 +112,7 @@ IsBlack word = (k : ℕ) → k < length word → is_white (get_or word k 0) ≡ 
 
 encode_is_black : (c : ℕ) → is_white c ≡ false → IsBlack (encode_utf8 c)
 encode_is_black c black k inside =
-    elim (cases_lt (get_or (encode_utf8 c) k 0) 128) [
-      | inl narrow ↦ grind (arith, inside_one c [] (encode_utf8 c) k, append-nil (encode_utf8 c))
-      | inr wide ↦ wide_is_black (get_or (encode_utf8 c) k 0) wide
-    ]
+    grind (arith, inside_one c [] (encode_utf8 c) k, append-nil, wide_is_black, black, inside)
 
 word_runs : (word rest : List ℕ) → IsBlack word → in_word (word ++ rest) ≡ word ++ in_word rest
 word_runs [] rest black = refl
@@ -140,33 +125,20 @@ word_step : (is_gap : Bool) (written word rest : List ℕ) → 0 < length word �
     ++ still false (written ++ (cond is_gap (32 ∷ []) [] ++ word)) rest
     ≡ written ++ still is_gap written (word ++ rest)
 word_step is_gap written [] rest some black owed = absurd (omega (arith, some))
-word_step true [] (b ∷ word) rest some black owed = absurd (omega (arith, owed refl))
-word_step false [] (b ∷ word) rest some black owed =
-    sym (collapsed-black b (word ++ rest) (black zero some)
-    ∙ ap (λ t. b ∷ t) (word_runs word rest (λ k inside. black (suc k) (omega (arith, inside)))))
-word_step true (w ∷ written) (b ∷ word) rest some black owed =
-    let more = after_word-black b (word ++ rest) (black zero some) ∙ ap (λ t. 32 ∷ b ∷ t)
-    (word_runs word rest (λ k inside. black (suc k) (omega (arith, inside)))) in
-    append_assoc (w ∷ written) (32 ∷ b ∷ word) (in_word rest)
-    ∙ ap (λ t. w ∷ (written ++ t)) (sym more)
-word_step false (w ∷ written) (b ∷ word) rest some black owed =
-    grind (
-      arith,
-      word_runs (b ∷ word) rest black,
-      append_assoc (w ∷ written) (b ∷ word) (in_word rest),
-    )
+word_step is_gap written (b ∷ word) rest some black owed =
+    let first = black zero some in
+    let later = word_runs word rest (λ k inside. black (suc k) (omega (arith, inside))) in
+    grind (arith, collapsed-black, after_word-black, in_word-black, append_assoc, first, later, owed)
 
 pub black_step : (is_gap : Bool) (written : List ℕ) (c : ℕ) (rest : List ℕ) → is_white c ≡ false →
     (is_gap ≡ true → 0 < length written) → (written ++ (cond is_gap (32 ∷ []) [] ++ encode_utf8 c))
     ++ still false (written ++ (cond is_gap (32 ∷ []) [] ++ encode_utf8 c)) rest ≡ written
     ++ still is_gap written (encode_utf8 c ++ rest)
 black_step is_gap written c rest black owed =
-    grind (arith, word_step, length-encode, encode_is_black)
+    grind (arith, word_step, length-encode, len_utf8_bounds, encode_is_black)
 
 pub still_end : (is_gap : Bool) (written : List ℕ) → written ++ still is_gap written [] ≡ written
-still_end is_gap [] = refl
-still_end true (b ∷ written) = append-nil (b ∷ written)
-still_end false (b ∷ written) = append-nil (b ∷ written)
+still_end is_gap written = grind (arith, append-nil)
 
 pub still_start : (written rest value : List ℕ) → written ≡ [] → rest ≡ value →
     written ++ still false written rest ≡ collapsed value
@@ -175,5 +147,4 @@ still_start written rest value e same = ap (λ w. w ++ still false w rest) e ∙
 pub owed_after : (empty : Bool) (written : List ℕ) →
     empty ≡ eqb (length written) 0 → not empty ≡ true →
     0 < length written
-owed_after empty [] e owes = absurd (both_ways (not empty) (ap not e) owes)
-owed_after empty (b ∷ written) e owes = omega arith
+owed_after empty written e owes = grind arith

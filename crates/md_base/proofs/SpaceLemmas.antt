@@ -1,8 +1,8 @@
 -- Spaces around a text leave it a text, and make no text of other bytes: a slice with cut tabs is a
 -- text where its bytes are.
-use Rattle.std.proofs.Common.{◌≡◌, ℕ, zero, suc, ◌<◌, Bool, true, cond, Option, Some, None}
-use Rattle.std.proofs.Common.{List, [], ◌∷◌, ◌++◌, length, get_or, replicate, IsUtf8, IsAscii}
-use Rattle.std.proofs.Common.{Decides, refl, sym, arith, subst, lit<}
+use Rattle.std.proofs.Common.{◌≡◌, ℕ, zero, suc, Bool, true, cond, Option, Some, None}
+use Rattle.std.proofs.Common.{List, [], ◌∷◌, ◌++◌, length, replicate, IsUtf8, IsAscii}
+use Rattle.std.proofs.Common.{Decides, refl, sym, ap, arith, subst, lit<}
 use Rattle.std.specs.Str.{is_utf8}
 use Rattle.std.proofs.lemmas.List.{append_assoc, append-nil, length-append, get_or_at, take_at}
 use Rattle.std.proofs.lemmas.Str.{IsUtf8-append, IsUtf8-from_ascii, IsUtf8-take, IsUtf8-past_char}
@@ -22,28 +22,21 @@ utf8_spaces count = IsUtf8-from_ascii (replicate count 32) (ascii_spaces count)
 without_left : (count : ℕ) (text : List ℕ) → IsUtf8 (replicate count 32 ++ text) → IsUtf8 text
 without_left zero text utf8 = utf8
 without_left (suc count) text utf8 =
-    grind (
-      arith,
-      IsUtf8-past_char (32 ∷ (replicate count 32 ++ text)) (replicate count 32 ++ text) 32 utf8,
-      encode_ascii 32 (lit< tt),
-      without_left count text,
-    )
+    without_left count text
+    (IsUtf8-past_char (32 ∷ (replicate count 32 ++ text)) (replicate count 32 ++ text) 32 utf8
+    (ap (λ first. first ++ (replicate count 32 ++ text)) (sym (encode_ascii 32 (lit< tt)))))
 
 without_one : (text : List ℕ) → IsUtf8 (text ++ 32 ∷ []) → IsUtf8 text
 without_one text utf8 =
-    let at_end : get_or (text ++ 32 ∷ []) (length text) 0 ≡ 32 =
-    get_or_at text 32 [] 0 (length text) refl in
-    let inside : length text < length (text ++ 32 ∷ []) =
-    omega (arith, length-append text (32 ∷ [])) in
-    let edge = IsCharBoundary-before_ascii (text ++ 32 ∷ []) (length text) inside
-    (subst (λ b. b < 128) (sym at_end) (lit< tt)) in
-    subst IsUtf8 (take_at text (32 ∷ []) (length text) refl)
-    (IsUtf8-take (text ++ 32 ∷ []) (length text) utf8 edge)
+    let at_end = get_or_at text 32 [] 0 (length text) refl in
+    let edge = IsCharBoundary-before_ascii (text ++ 32 ∷ []) (length text)
+    (omega (arith, length-append text (32 ∷ []))) (omega (arith, at_end)) in
+    rw take_at at (IsUtf8-take (text ++ 32 ∷ []) (length text) utf8 edge)
 
 without_right : (count : ℕ) (text : List ℕ) → IsUtf8 (text ++ replicate count 32) → IsUtf8 text
 without_right zero text utf8 = subst IsUtf8 (append-nil text) utf8
 without_right (suc count) text utf8 =
-    grind (arith, without_one, append_assoc, without_right count (text ++ 32 ∷ []))
+    without_one text (without_right count (text ++ 32 ∷ []) (rw append_assoc utf8))
 
 is_utf8-Decides : (bytes : List ℕ) → Decides (is_utf8 bytes) (IsUtf8 bytes)
 is_utf8-Decides bytes = (IsUtf8-from_is_utf8 bytes, is_utf8-from_IsUtf8 bytes)

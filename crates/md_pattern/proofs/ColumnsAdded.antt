@@ -1,6 +1,6 @@
 -- The columns that a node adds to those of the tables around it, as the pass collects them.
-use Rattle.std.proofs.Common.{arith, ◌≡◌, ℕ, Bool, true, false, cond, List, [], ◌∷◌, ◌++◌, refl, ap}
-use Rattle.std.proofs.Common.{sym, ◌∙◌, append_assoc, append-nil}
+use Rattle.std.proofs.Common.{arith, ◌≡◌, ℕ, Bool, true, false, cond, List, [], ◌∷◌, ◌++◌}
+use Rattle.std.proofs.Common.{append_assoc, append-nil}
 use Rattle.std.proofs.lemmas.List.{take_at, drop_at}
 use Rattle.md_base.specs.declared.event.AlignKind.{AlignKind}
 use Rattle.md_base.specs.declared.event.Name.{Name}
@@ -11,7 +11,7 @@ use Rattle.md_base.specs.Tree.{Forest}
 use Rattle.md_base.specs.NameTests.{is_table, leads_to_values}
 use Rattle.md_base.specs.Is.{is}
 use Rattle.md_pattern.specs.Alignments.{alignment_of, alignments}
-use Rattle.md_pattern.specs.Summary.{empty_summary, summary_over, alignment}
+use Rattle.md_pattern.specs.Summary.{empty_summary, summary_over}
 use Rattle.md_pattern.specs.Columns.{Collected, part_of, collects_where, collects_in, entered_where}
 use Rattle.md_pattern.specs.Columns.{columns_entered, exited_where, columns_exited, tables_of}
 use Rattle.md_pattern.specs.Columns.{columns_after}
@@ -65,27 +65,17 @@ columns_part : (p : Part) (children : Forest) (collects : Bool) (columns : Colle
     exited_where p (summary_over children empty_summary) collects
     (columns_after children (collects_where p collects) (entered_where p columns))
     ≡ columns_next (is_table_part p) (is_value_part p) (is_leads_part p) children collects columns
-columns_part part.Table children collects columns =
-    grind (arith, both_made, append_assoc, drop_at, take_at, append-nil, cond-nil)
-columns_part part.Leads children collects columns =
-    both_made columns.starts _ _ _ _
-    (ap (λ tables. columns.tables ++ tables) (sym (append-nil (tables_of children)))) refl
-columns_part part.Value children collects columns =
-    both_made columns.starts _ _ _ _
-    (ap (λ tables. columns.tables ++ tables) (sym (append-nil (tables_of children)))) (by collects)
-  where
-    by : (c : Bool) → cond c ((columns.pending ++ []) ++ alignment
-        (summary_over children empty_summary)
-        ∷ []) (columns.pending ++ []) ≡ columns.pending ++ cond c (alignment_of children ∷ []) []
-    by true =
-        ap (λ before. before ++ alignment (summary_over children empty_summary) ∷ [])
-        (append-nil columns.pending)
-        ∙ ap (λ column. columns.pending ++ column ∷ []) (alignment-summary children)
-    by false = refl
-columns_part part.Apart children collects columns =
-    both_made columns.starts _ _ _ _
-    (ap (λ tables. columns.tables ++ tables) (sym (append-nil (tables_of children))))
-    (ap (λ none. columns.pending ++ none) (sym (cond-nil collects [])))
+columns_part p children collects columns =
+    grind (
+      arith,
+      both_made,
+      append_assoc,
+      drop_at,
+      take_at,
+      append-nil,
+      cond-nil,
+      alignment-summary,
+    )
 
 pub columns_node : (name : Name) (children : Forest) (collects : Bool) (columns : Collected) →
     columns_exited name (summary_over children empty_summary) collects

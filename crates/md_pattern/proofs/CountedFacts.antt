@@ -1,6 +1,6 @@
 -- How many facts and tables are defined of some nodes: a fact for each event.
-use Rattle.std.proofs.Common.{arith, ◌≡◌, ℕ, suc, Bool, true, false, cond, List, [], ◌∷◌, ◌++◌}
-use Rattle.std.proofs.Common.{length, refl, ap, sym, ◌∙◌, append_assoc, append-nil}
+use Rattle.std.proofs.Common.{arith, ◌≡◌, ℕ, suc, cond, List, [], ◌∷◌, ◌++◌}
+use Rattle.std.proofs.Common.{length, refl, ap, append_assoc, append-nil}
 use Rattle.md_base.specs.declared.event.AlignKind.{AlignKind}
 use Rattle.md_base.specs.declared.event.Name.{Name}
 use Rattle.md_pattern.specs.declared.facts.Fact.{Fact}
@@ -21,38 +21,27 @@ regrouped a b c x y = grind (arith, append_assoc)
 
 pub length_facts : (forest : Forest) (index tables : ℕ) (facts : List Fact) → length facts ≡ index →
     length (facts ++ facts_of index tables forest) ≡ index_after index forest
-length_facts Empty index tables facts e = ap length (append-nil facts) ∙ e
+length_facts Empty index tables facts e = rw append-nil e
 length_facts (Node name start end children rest) index tables facts e =
     let fact = fact_at index tables name children in
-    let inner = facts_of (suc index) tables children in
-    let more = tables_with name (tables_after tables children) in
-    let exit = index_after (suc index) children in
-    let inside = length_facts children (suc index) tables (facts ++ fact ∷ [])
-    (length_one facts fact ∙ ap suc e) in
-    ap length
-    (sym (regrouped facts inner (facts_of (suc exit) more rest) fact (partner_alone index)))
-    ∙ length_facts rest (suc exit) more (((facts ++ fact ∷ []) ++ inner) ++ partner_alone index
-    ∷ []) (length_one ((facts ++ fact ∷ []) ++ inner) (partner_alone index) ∙ ap suc inside)
+    let inside = length_facts children (suc index) tables (facts ++ fact ∷ []) in
+    let later = length_facts rest (suc (index_after (suc index) children))
+    (tables_with name (tables_after tables children))
+    (((facts ++ fact ∷ []) ++ facts_of (suc index) tables children) ++ partner_alone index ∷ []) in
+    grind (arith, length_one, append_assoc, inside, later, e)
 
 pub length_table : (name : Name) (xs : List (List AlignKind)) (x : List AlignKind) (n : ℕ) →
     length xs ≡ n →
     length (xs ++ cond (is_table name) (x ∷ []) []) ≡ tables_with name n
-length_table name xs x n e = by (is_table name)
-  where
-    by : (t : Bool) → length (xs ++ cond t (x ∷ []) []) ≡ cond t (suc n) n
-    by true = length_one xs x ∙ ap suc e
-    by false = ap length (append-nil xs) ∙ e
+length_table name xs x n e = grind (arith, length_one, append-nil)
 
 pub length_tables : (forest : Forest) (tables : ℕ) (ended : List (List AlignKind)) →
     length ended ≡ tables →
     length (ended ++ tables_of forest) ≡ tables_after tables forest
-length_tables Empty tables ended e = ap length (append-nil ended) ∙ e
+length_tables Empty tables ended e = rw append-nil e
 length_tables (Node name start end children rest) tables ended e =
     let own = cond (is_table name) (alignments children ∷ []) [] in
     let inside = length_table name (ended ++ tables_of children) (alignments children)
     (tables_after tables children) (length_tables children tables ended e) in
-    ap length (sym (append_assoc ended (tables_of children) (own ++ tables_of rest))
-    ∙ sym (append_assoc (ended ++ tables_of children) own (tables_of rest)))
-    ∙ length_tables rest (tables_with name (tables_after tables children))
-    ((ended ++ tables_of children)
-    ++ own) inside
+    simp append_assoc at (length_tables rest (tables_with name (tables_after tables children))
+    ((ended ++ tables_of children) ++ own) inside)

@@ -1,7 +1,6 @@
 -- What words say where a record has come, and where a word comes or changes.
-use Rattle.std.proofs.Common.{◌≡◌, ℕ, ◌-◌, ◌<◌, ◌^◌, List, [], ◌∷◌, ◌++◌, Result, length, ap, ◌∙◌}
-use Rattle.std.proofs.Common.{arith}
-use Rattle.std.specs.Prelude.{set, OnOk, ◌≤◌}
+use Rattle.std.proofs.Common.{◌≡◌, ℕ, ◌-◌, ◌<◌, ◌^◌, List, [], ◌∷◌, ◌++◌, length, ap, ◌∙◌, arith}
+use Rattle.std.specs.Prelude.{set, ◌≤◌}
 use Rattle.std.proofs.lemmas.List.{map-append, map-set, append-nil, length-map}
 use Rattle.std.proofs.lemmas.List.{set-append_left, set-append_right}
 use Rattle.std.proofs.lemmas.List.Elements.{All-head, All-tail, All-weaker, All-push, All-set}
@@ -90,8 +89,3 @@ facts-pushed records words rest partner none low =
     by_words records records words (words ++ partner ∷ []) rest (partner_alone partner ∷ []) none
     (λ facts. facts) (map-append (fact_of_word records) words (partner ∷ [])
     ∙ ap (λ f. facts_of_words records words ++ f ∷ []) (partner-low records partner low))
-
--- a result with one more known fact
-pub on_ok : {A E : Type 0} (P Q : Type 0) → (P → Q) → (result : Result A E) → OnOk result P →
-    OnOk result Q
-on_ok P Q f h3 p = grind arith

@@ -8,7 +8,7 @@ use Rattle.md_pattern.specs.declared.summary.Last.{Last}
 use Rattle.md_pattern.specs.declared.summary.Last.TheVariants as final
 use Rattle.md_pattern.specs.declared.summary.Summary.{Summary}
 use Rattle.md_base.specs.Is.{is}
-use Rattle.md_pattern.specs.Summary.{spaced, is_bare_last, quote_as, item_as, parts, loosens}
+use Rattle.md_pattern.specs.Summary.{spaced, is_bare_last, parts, loosens}
 use Rattle.md_pattern.specs.Summary.{is_nothing, is_marker_last, summary_with}
 
 -- the last child is a block quote's prefix
@@ -40,30 +40,6 @@ pub record IsLast (name : Name) (own before last : Last) : Type 0 where
   pub bare : is_bare_last last
       ≡ cond (is SpaceOrTab name) (is_bare_last (spaced before)) (bare_by name own)
   pub bare_spaced : is_bare_last (spaced last) ≡ bare_by name own
-
--- by the tests of each last child one after another, which compute
-abbrev AsTested : Name → Last → Last → Last → Type 0
-AsTested name own before last =
-    (is_quote_last last ≡ is BlockQuotePrefix name)
-    × (is_marker_last last ≡ is GfmTableDelimiterMarker name) × (is_nothing last ≡ false)
-    × (parts last ≡ not (is ListItem name && is_bare_last own)) × (loosens last
-    ≡ cond (is SpaceOrTab name) (not_prefix before) (not (is ListItemPrefix name)))
-    × (not_prefix last ≡ not (is ListItemPrefix name)) × (is_bare_last last
-    ≡ cond (is SpaceOrTab name) (is_bare_last (spaced before)) (bare_by name own))
-    × (is_bare_last (spaced last) ≡ bare_by name own)
-
-item_tested : (own before : Last) → AsTested ListItem own before (item_as own)
-item_tested own before = grind arith
-
-space_tested : (own before : Last) → AsTested SpaceOrTab own before (spaced before)
-space_tested own before = grind arith
-
-quote_tested : (own before : Last) → AsTested BlockQuote own before (quote_as own)
-quote_tested own before = grind arith
-
-tested : (name : Name) (own summary : Summary) →
-    AsTested name own.last summary.last (Summary.last (summary_with name own summary))
-tested name own summary = grind arith
 
 pub last_with : (name : Name) (own summary : Summary) →
     IsLast name own.last summary.last (Summary.last (summary_with name own summary))

@@ -1,6 +1,6 @@
 -- The open nodes; the vector has the innermost last: the list after that one changes.
 use Rattle.std.proofs.Common.{◌≡◌, ℕ, false, ◌+◌, ◌-◌, ◌<◌, List, [], ◌∷◌, ◌++◌, length, get_or}
-use Rattle.std.proofs.Common.{Result, refl, sym, ap, subst, ◌∙◌, arith}
+use Rattle.std.proofs.Common.{Result, refl, sym, ap, ◌∙◌, arith}
 use Rattle.std.specs.Prelude.{set, reverse, OnOk}
 use Rattle.std.proofs.Math.Seq.{set-append_seam, get_or-append_seam}
 use Rattle.std.proofs.lemmas.List.{length-append, reverse-append, reverse-reverse}
@@ -32,22 +32,17 @@ last-place r x = ap (λ n. n - 1) (length-append r (x ∷ [])) ∙ one_less (len
 
 set-by : (r items : List OpenNode) (d w : OpenNode) → items ≡ reverse r → 0 < length items →
     opens (set items (length items - 1) w) d ≡ w ∷ others_outer (opens items d)
-set-by [] items d w is some = absurd (omega (arith, subst (λ xs. 0 < length xs) is some))
+set-by [] items d w is some = grind (arith, is, some)
 set-by (x ∷ r) items d w is some =
     let parts = is ∙ reverse-append (x ∷ []) r in
-    rw parts (ap (λ n. opens (set (reverse r ++ x ∷ []) n w) d) (last-place (reverse r) x)
-    ∙ ap (λ xs. opens xs d) (set-append_seam (reverse r) x [] w)
-    ∙ opens-seam r w d
-    ∙ ap (λ o. w ∷ others_outer o) (sym (opens-seam r x d)))
+    rw (parts, last-place, set-append_seam, opens-seam, opens-seam) refl
 
 last-by : (r items : List OpenNode) (d x : OpenNode) → items ≡ reverse r → 0 < length items →
     get_or items (length items - 1) x ≡ next_outer (opens items d)
-last-by [] items d x is some = absurd (omega (arith, subst (λ xs. 0 < length xs) is some))
+last-by [] items d x is some = grind (arith, is, some)
 last-by (y ∷ r) items d x is some =
     let parts = is ∙ reverse-append (y ∷ []) r in
-    rw parts (ap (λ n. get_or (reverse r ++ y ∷ []) n x) (last-place (reverse r) y)
-    ∙ get_or-append_seam (reverse r) y [] x
-    ∙ ap next_outer (sym (opens-seam r y d)))
+    rw (parts, last-place, get_or-append_seam, opens-seam) refl
 
 pub opens-set : (items : List OpenNode) (d w : OpenNode) → 0 < length items →
     opens (set items (length items - 1) w) d ≡ w ∷ others_outer (opens items d)
@@ -60,12 +55,6 @@ opens-last items d x some = last-by (reverse items) items d x (sym (reverse-reve
 pub opens-alone : (items : List OpenNode) (d : OpenNode) → length items ≡ 0 → opens items d ≡ d ∷ []
 opens-alone [] d none = refl
 opens-alone (x ∷ items) d none = absurd (omega (arith, none))
-
-grounded-next : (r : List OpenNode) → next_outer (grounded r) ≡ next_outer r
-grounded-next r = grind arith
-
-grounded-others : (r : List OpenNode) → others_outer (grounded r) ≡ others_outer r
-grounded-others r = grind arith
 
 -- the exit of a node, by the results of each step: the node, the rest, and its new value
 pub passed_exit-by :

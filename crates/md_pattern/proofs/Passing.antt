@@ -92,7 +92,6 @@ exit_after index tables name children pass e t =
       length_facts,
       length_one,
       length_tables,
-      entered_tables,
       fact_same,
       append_assoc,
       set_at,
@@ -153,28 +152,22 @@ pub passed_more : (events : List Event) (index : ℕ) (d : Event) (pass before n
     ≡ passed (Event.kind (get_or events index d)) (Event.name (get_or events index d)) pass →
     next ≡ passed_over (take (index + 1) events) before
 passed_more events index d pass before next inside so_far step =
-    rw add-one (step
-    ∙ ap (λ p. passed (Event.kind (get_or events index d)) (Event.name (get_or events index d)) p)
-    so_far ∙ sym (ap (λ es. passed_over es before) (take-suc events index d inside)
-    ∙ passed_over-append (take index events) (get_or events index d ∷ []) before))
+    let last = take-suc events index d inside in
+    let more = passed_over-append (take index events) (get_or events index d ∷ []) before in
+    rw add-one (cc (last, more))
 
 -- from the first event on
 pub facts-flatten : (forest : Forest) (events : List Event) → flatten forest ≡ events →
     PassState.facts (passed_over events pass_beginning) ≡ facts_of 0 0 forest
 facts-flatten forest events e =
-    ap (λ es. PassState.facts (passed_over es pass_beginning)) (sym e)
-    ∙ ap (λ (p : PassState). p.facts) (passed_over-flatten forest 0 0 pass_beginning refl refl)
+    let all = passed_over-flatten forest 0 0 pass_beginning refl refl in cc all
 
 pub tables-flatten : (forest : Forest) (events : List Event) → flatten forest ≡ events →
     Collected.tables (PassState.columns (passed_over events pass_beginning)) ≡ tables_of forest
 tables-flatten forest events e =
-    ap (λ es. Collected.tables (PassState.columns (passed_over es pass_beginning))) (sym e)
-    ∙ ap (λ (p : PassState). p.columns.tables)
-    (passed_over-flatten forest 0 0 pass_beginning refl refl)
+    let all = passed_over-flatten forest 0 0 pass_beginning refl refl in cc all
 
 pub definitions-flatten : (forest : Forest) (events : List Event) → flatten forest ≡ events →
     PassState.definitions (passed_over events pass_beginning) ≡ definition_entries 0 forest
 definitions-flatten forest events e =
-    ap (λ es. PassState.definitions (passed_over es pass_beginning)) (sym e)
-    ∙ ap (λ (p : PassState). p.definitions)
-    (passed_over-flatten forest 0 0 pass_beginning refl refl)
+    let all = passed_over-flatten forest 0 0 pass_beginning refl refl in cc all

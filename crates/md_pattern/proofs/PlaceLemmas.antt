@@ -1,7 +1,7 @@
 -- The table of places: what its letters encode, row by row and symbol by symbol.
-use Rattle.std.proofs.Common.{◌≡◌, ℕ, zero, suc, ◌+◌, ◌<◌, ◌≤◌, Bool, true, false, ◌&&◌}
-use Rattle.std.proofs.Common.{Option, Some, None, List, [], ◌∷◌, map, length, get_or, take}
-use Rattle.std.proofs.Common.{cond, eqb, ltb, ◌||◌, refl, sym, ap, ◌∙◌, subst, arith}
+use Rattle.std.proofs.Common.{◌≡◌, ℕ, zero, suc, ◌+◌, ◌<◌, ◌≤◌, Bool, true, false}
+use Rattle.std.proofs.Common.{Option, None, List, [], ◌∷◌, map, length, get_or, take}
+use Rattle.std.proofs.Common.{eqb, ltb, refl, sym, ap, ◌∙◌, subst, arith}
 use Rattle.std.specs.List.{list_all}
 use Rattle.std.proofs.lemmas.List.{length-map, get_or-map, get_or-take}
 use Rattle.std.proofs.lemmas.Bool.{and_parts, eqb-true, eqb-false, ltb-true, ltb-false}
@@ -16,22 +16,17 @@ use Rattle.md_pattern.specs.declared.state.Stage.TheVariants.{Whole}
 use Rattle.md_pattern.specs.Places.{At, at, places, symbols, all_roles, place_at, decoded}
 use Rattle.md_pattern.specs.Places.{decoded_from, moves, moved_from, encodes_row, encodes_rows_from}
 use Rattle.md_pattern.specs.Places.{state_at, AreRows, AreEnds, AreStarts}
-use Rattle.md_pattern.specs.declared.state.State.{State}
-use Rattle.md_pattern.specs.declared.state.Stage.{Stage}
 use Rattle.md_pattern.specs.Steps.{is_complete, may_hold, start_of}
-use Rattle.std.specs.Prelude.{option_map}
 
 pub symbol-numbered : (seen : Symbol) →
     get_or symbols (tag_of symbol_contract.the_type seen) symbol.Text ≡ seen
 unfolding symbols
-symbol-numbered symbol.Text = refl
-symbol-numbered _ = refl
+symbol-numbered seen = grind arith
 
 pub role-numbered : (seen : Role) →
     get_or all_roles (tag_of role_contract.the_type seen) role.Childless ≡ seen
 unfolding all_roles
-role-numbered role.Flow = refl
-role-numbered _ = refl
+role-numbered seen = grind arith
 
 -- ---- the places that rows encode
 
@@ -55,9 +50,7 @@ unfolding encodes_rows_from
 encodes-row n i k [] e inside all = absurd (omega (arith, inside))
 encodes-row n zero k (row ∷ rows) e inside all = grind arith
 encodes-row n (suc i) k (row ∷ rows) e inside all =
-    encodes-row (n + 1) i k rows (omega (arith, e)) (omega (arith, inside))
-    (and_parts (list_all (λ letter. encodes_row n letter) row) (encodes_rows_from (n + 1) rows)
-    all).1
+    let later = encodes-row (n + 1) i k rows in grind (arith, later, e, inside, all)
 
 letter-encodes_row : (k i : ℕ) (row : List ℕ) → i < length row →
     list_all (λ letter. encodes_row k letter) row ≡ true →
@@ -75,36 +68,30 @@ symbols-counted : length symbols ≡ 47
 unfolding symbols
 symbols-counted = refl
 
-rows-counted : (rows : List (List ℕ)) → AreRows rows → length rows ≡ 114
-rows-counted rows are =
-    sym (length-decoded 0 rows) ∙ ap length are.decodes
-    ∙ length-map places (λ place. moves place) ∙ counted
+pub rows-count : (rows : List (List ℕ)) → AreRows rows → length rows ≡ 114
+rows-count rows are = grind (arith, are.decodes, length-decoded, length-map, counted)
 
 row-decoded : (rows : List (List ℕ)) (i : ℕ) → AreRows rows → i < length rows →
     map (λ letter. decoded i letter) (get_or rows i []) ≡ moves (place_at i)
 row-decoded rows i are inside =
-    let few : i < length places = subst (λ n. i < n) (rows-counted rows are ∙ sym counted) inside in
-    sym (decoded-row 0 i i rows (omega arith) inside) ∙ ap (λ all. get_or all i []) are.decodes
-    ∙ get_or-map (λ place. moves place) places i (at role.Childless 0 Whole) [] few
+    rw (← decoded-row 0 i i rows (omega arith) inside, are.decodes)
+    (get_or-map (λ place. moves place) places i _ [] (omega (arith, inside, counted, rows-count rows are)))
 
 row-long : (rows : List (List ℕ)) (i : ℕ) → AreRows rows → i < length rows →
     length (get_or rows i []) ≡ 47
 row-long rows i are inside =
-    sym (length-map (get_or rows i []) (λ letter. decoded i letter))
-    ∙ ap length (row-decoded rows i are inside)
-    ∙ length-map symbols (λ seen. moved_from (place_at i) seen) ∙ symbols-counted
+    grind (arith, length-map, row-decoded rows i are inside, symbols-counted)
 
 pub letter-decoded : (rows : List (List ℕ)) (i k : ℕ) (seen : Symbol) → AreRows rows →
     i < length rows → k < 47 →
     get_or symbols k symbol.Text ≡ seen →
     decoded i (get_or (get_or rows i []) k 0) ≡ moved_from (place_at i) seen
 letter-decoded rows i k seen are inside few is =
-    let row = get_or rows i [] in
-    sym (get_or-map (λ letter. decoded i letter) row k 0 None
-    (subst (λ n. k < n) (sym (row-long rows i are inside)) few))
-    ∙ ap (λ all. get_or all k None) (row-decoded rows i are inside)
-    ∙ get_or-map (λ seen. moved_from (place_at i) seen) symbols k symbol.Text None
-    (subst (λ n. k < n) (sym symbols-counted) few) ∙ ap (λ s. moved_from (place_at i) s) is
+    let here = get_or-map (λ letter. decoded i letter) (get_or rows i []) k 0 None
+    (omega (arith, few, row-long rows i are inside)) in
+    let there = get_or-map (λ seen. moved_from (place_at i) seen) symbols k symbol.Text None
+    (omega (arith, few, symbols-counted)) in
+    cc (here, there, row-decoded rows i are inside)
 
 pub letter-led : (rows : List (List ℕ)) (i k : ℕ) → AreRows rows → i < length rows → k < 47 →
     encodes_row i (get_or (get_or rows i []) k 0) ≡ true
@@ -120,18 +107,9 @@ pub place-outside : (i : ℕ) → 114 ≤ i → place_at i ≡ at role.Childless
 place-outside i past =
     get_or-outside places i (at role.Childless 0 Whole) (subst (λ n. n ≤ i) (sym counted) past)
 
-pub rows-count : (rows : List (List ℕ)) → AreRows rows → length rows ≡ 114
-rows-count rows are = rows-counted rows are
-
 -- past the rows nothing follows
 pub moved-outside : (i : ℕ) (seen : Symbol) → 114 ≤ i → moved_from (place_at i) seen ≡ None
 moved-outside i seen past = ap (λ place. moved_from place seen) (place-outside i past)
-
-otherwise : (b : Bool) (x : Option At) → (b ≡ true → ⊥) → cond b None x ≡ x
-otherwise b x other = grind arith
-
-led : (a b c : Bool) (x : ℕ) → (a ≡ true → ⊥) → (a || (b && c)) ≡ true → (b ≡ true) × (c ≡ true)
-led a b c x other all = grind arith
 
 pub encodes_row-some : (i letter : ℕ) → (letter ≡ 46 → ⊥) → encodes_row i letter ≡ true →
     (letter ≤ 122) × (109 ≤ i + letter)
@@ -140,9 +118,7 @@ encodes_row-some i letter other all = grind arith
 -- ---- where spines end, and where they begin
 
 pub ends-count : (letters : List ℕ) → AreEnds letters → length letters ≡ 114
-ends-count letters are =
-    sym (length-map letters (λ letter. eqb letter 101)) ∙ ap length are
-    ∙ length-map places (λ place. is_complete (state_at place None)) ∙ counted
+ends-count letters are = grind (arith, are, length-map, counted)
 
 -- the last symbol of a spine doesn't decide whether the spine may end
 whole-complete : (place : At) (before : Option Symbol) →
@@ -153,13 +129,10 @@ pub ends-at : (letters : List ℕ) (i letter : ℕ) (before : Option Symbol) →
     i < length letters →
     letter ≡ get_or letters i 0 → eqb letter 101 ≡ is_complete (state_at (place_at i) before)
 ends-at letters i letter before are inside is =
-    let few : i < length places =
-    subst (λ n. i < n) (ends-count letters are ∙ sym counted) inside in
-    ap (λ l. eqb l 101) is ∙ sym (get_or-map (λ l. eqb l 101) letters i 0 true inside)
-    ∙ ap (λ all. get_or all i true) are
-    ∙ get_or-map (λ place. is_complete (state_at place None)) places i
-    (at role.Childless 0 Whole) true few
-    ∙ whole-complete (place_at i) before
+    let here = get_or-map (λ l. eqb l 101) letters i 0 true inside in
+    let there = get_or-map (λ place. is_complete (state_at place None)) places i
+    (at role.Childless 0 Whole) true (omega (arith, inside, ends-count letters are, counted)) in
+    cc (here, there, is, are)
 
 pub ends-outside : (i : ℕ) (before : Option Symbol) → 114 ≤ i →
     true ≡ is_complete (state_at (place_at i) before)
@@ -176,13 +149,11 @@ pub start-at : (rows : List ℕ) (i : ℕ) (r : Role) → AreStarts rows → i <
     get_or all_roles i role.Childless ≡ r →
     state_at (place_at (get_or rows i 0)) None ≡ start_of r
 start-at rows i r are few is =
-    ap (λ place. state_at place None)
-    (sym (get_or-map (λ row. place_at row) rows i 0 (at role.Childless 0 Whole)
-    (subst (λ n. i < n) (sym (starts-count rows are)) few))
-    ∙ ap (λ all. get_or all i (at role.Childless 0 Whole)) are
-    ∙ get_or-map (λ r. at r 0 Whole) all_roles i role.Childless (at role.Childless 0 Whole)
-    (subst (λ n. i < n) (sym roles-counted) few)
-    ∙ ap (λ r. at r 0 Whole) is)
+    let here = get_or-map (λ row. place_at row) rows i 0 (at role.Childless 0 Whole)
+    (omega (arith, few, starts-count rows are)) in
+    let there = get_or-map (λ r. at r 0 Whole) all_roles i role.Childless (at role.Childless 0 Whole)
+    (omega (arith, few, roles-counted)) in
+    cc (here, there, is, are)
 
 -- ---- nodes without children
 
@@ -207,8 +178,7 @@ unfolding places
 taken-counted = refl
 
 last-or : (i : ℕ) (b : Bool) → eqb i 113 ≡ b → 113 ≤ i → false ≡ may_hold (place_at i).role
-last-or i true e past = sym (ap (λ n. may_hold (place_at n).role) (eqb-true i 113 e) ∙ last-holds)
-last-or i false e past = grind (arith, eqb-false, place-outside)
+last-or i b e past = grind (arith, eqb-true, last-holds, eqb-false, place-outside)
 
 holds-by : (i : ℕ) (b : Bool) → ltb i 113 ≡ b → b ≡ may_hold (place_at i).role
 holds-by i true e =
@@ -221,12 +191,3 @@ holds-by i false e = grind (arith, last-or, ltb-false)
 
 pub place-holds : (i : ℕ) → ltb i 113 ≡ may_hold (place_at i).role
 place-holds i = holds-by i (ltb i 113) refl
-
--- ---- where a spine is after a symbol
-
-mapped : (r : Role) (seen : Symbol) (next : Option (ℕ × Stage)) →
-    option_map (λ place. state_at place (Some seen))
-    (option_map {U = At} (λ n. record { role = r; position = n.0; stage = n.1 }) next)
-    ≡ option_map {U = State}
-    (λ n. record { role = r; before = Some seen; position = n.0; stage = n.1 }) next
-mapped r seen next = grind arith

@@ -1,7 +1,5 @@
 -- The facts that the pass finds about children are those of the definitions.
-use Rattle.std.proofs.Common.{◌≡◌, Bool, true, false, not, ◌&&◌, ◌||◌, cond, Option}
-use Rattle.std.proofs.Common.{refl, ap, ◌∙◌, arith, inl, inr}
-use Rattle.std.proofs.lemmas.Bool.{cases_Bool}
+use Rattle.std.proofs.Common.{◌≡◌, Bool, false, not, ◌&&◌, ◌||◌, cond, Option, refl, ap, ◌∙◌, arith}
 use Rattle.std.proofs.Math.Bool.{or_assoc, and-true}
 use Rattle.std.specs.Prelude.{unwrap_or}
 use Rattle.std.specs.Option.{option_map_or}
@@ -73,12 +71,8 @@ bare_step : (rest : Forest) (name : Name) (children : Forest) (own summary : Sum
     bare_after (Summary.last (summary_with name own summary)) rest
     ≡ cond (is SpaceOrTab name && is_empty rest) (is_bare_last (spaced summary.last))
     (cond (is_end rest) (is_bare name children) (ends_bare rest))
-bare_step Empty name children own summary quote =
-    rw (IsLast.bare (last_with name own summary)) (rw quote
-    (elim (cases_Bool (is SpaceOrTab name)) [ inl s ↦ rw s refl | inr s ↦ rw s refl ]))
-bare_step (Node next start end inner rest) name children own summary quote =
-    rw (IsLast.bare_spaced (last_with name own summary)) (rw quote
-    (elim (cases_Bool (is SpaceOrTab name)) [ inl s ↦ rw s refl | inr s ↦ rw s refl ]))
+bare_step rest name children own summary quote =
+    let last = last_with name own summary in grind (arith, last.bare, last.bare_spaced, quote)
 
 bare_over : (forest : Forest) (summary : Summary) → is_bare_last
     (Summary.last (summary_over forest summary))
@@ -89,21 +83,7 @@ bare_over (Node name start end children rest) summary =
     grind (arith, bare_step, quote_over, later)
 
 ends_bare-end : (forest : Forest) → bare_after final.Nothing forest ≡ ends_bare forest
-ends_bare-end Empty = refl
-ends_bare-end (Node name start end children Empty) = by name
-  where
-    by : (name : Name) →
-        cond (is SpaceOrTab name && true) false (is_bare name children) ≡ is_bare name children
-    by SpaceOrTab = refl
-    by _ = refl
-ends_bare-end (Node name start end children (Node next begin stop inner rest)) =
-    by (is SpaceOrTab name)
-  where
-    by : (s : Bool) → cond (s && false) false (ends_bare
-        (Node name start end children (Node next begin stop inner rest)))
-        ≡ ends_bare (Node name start end children (Node next begin stop inner rest))
-    by true = refl
-    by false = refl
+ends_bare-end forest = grind arith
 
 without_over : (forest : Forest) (summary : Summary) → Summary.without_items
     (summary_over forest summary)
@@ -134,25 +114,18 @@ item_over : (forest : Forest) (summary : Summary) → Summary.of_item (summary_o
 item_over Empty summary = or-false summary.of_item
 item_over (Node name start end children rest) summary =
     let own = summary_over children empty_summary in
-    item_over rest (summary_with name own summary)
-    ∙ ap (λ b. b || ((begins_blank rest && loosens (Summary.last (summary_with name own summary)))
-    || ((begins_space_blank rest && not_prefix (Summary.last (summary_with name own summary)))
-    || has_inner_blank rest))) (item_with name own summary)
-    ∙ ap (λ b. (summary.of_item || (is BlankLineEnding name && loosens summary.last))
-    || ((begins_blank rest && b)
-    || ((begins_space_blank rest && not_prefix (Summary.last (summary_with name own summary)))
-    || has_inner_blank rest))) (IsLast.loosening (last_with name own summary))
-    ∙ ap (λ b. (summary.of_item || (is BlankLineEnding name && loosens summary.last))
-    || ((begins_blank rest
-    && cond (is SpaceOrTab name) (not_prefix summary.last) (not (is ListItemPrefix name)))
-    || ((begins_space_blank rest && b) || has_inner_blank rest)))
-    (IsLast.prefix (last_with name own summary))
-    ∙ ap (λ b. (summary.of_item || (is BlankLineEnding name && loosens summary.last))
-    || b) (rearranged (is SpaceOrTab name) (is ListItemPrefix name) (begins_blank rest)
-    (begins_space_blank rest) (not_prefix summary.last) (has_inner_blank rest))
-    ∙ or_assoc summary.of_item (is BlankLineEnding name && loosens summary.last)
+    let last = last_with name own summary in
+    rw (
+      item_over rest (summary_with name own summary),
+      item_with name own summary,
+      last.loosening,
+      last.prefix,
+      rearranged (is SpaceOrTab name) (is ListItemPrefix name)
+          (begins_blank rest) (begins_space_blank rest) (not_prefix summary.last)
+          (has_inner_blank rest),
+    ) (or_assoc summary.of_item (is BlankLineEnding name && loosens summary.last)
     (((is SpaceOrTab name && begins_blank rest) && not_prefix summary.last)
-    || has_inner_blank (Node name start end children rest))
+    || has_inner_blank (Node name start end children rest)))
 
 -- an item's children
 of_item_summary : (children : Forest) →

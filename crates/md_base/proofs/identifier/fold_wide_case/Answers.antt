@@ -1,6 +1,6 @@
 -- The written text, followed by the result for the rest, is the folding of the text at each
 -- character.
-use Rattle.std.proofs.Common.{◌++◌, string_bytes, encode_utf8_all, chars, sym, ap, ◌∙◌}
+use Rattle.std.proofs.Common.{arith, ◌++◌, string_bytes, encode_utf8_all, chars, ap, ◌∙◌}
 use Rattle.std.proofs.lemmas.List.{append-nil, nil_from_length}
 use Rattle.std.proofs.lemmas.Str.{IsUtf8-past_char}
 use Rattle.std.specs.Str.Iter.{chars_rest}
@@ -24,10 +24,4 @@ loop-character-preserved c =
     }
 
 pub returns : goal.returns
-returns c =
-    let written = string_bytes c.loop-character.folded in
-    let rest = chars_rest c.loop-character.character-iterator in
-    sym (append-nil written)
-    ∙ ap (λ t. written ++ t) (sym (ap (λ t. encode_utf8_all (default_case_fold (chars t)))
-    (nil_from_length rest c.in-None.ensures.steps.0.0) ∙ fold_end))
-    ∙ c.loop-character.invariant.whole
+returns c = grind (arith, append-nil, nil_from_length, fold_end)

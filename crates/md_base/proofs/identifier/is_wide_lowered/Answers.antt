@@ -1,9 +1,9 @@
 -- Each character that is passed is lowered as ASCII.
-use Rattle.std.proofs.Common.{refl, subst, sym}
+use Rattle.std.proofs.Common.{arith, refl}
 use Rattle.std.proofs.lemmas.List.{nil_from_length}
 use Rattle.std.proofs.lemmas.Str.{IsUtf8-past_char}
 use Rattle.std.specs.Str.Iter.{chars_rest}
-use Rattle.md_base.proofs.FoldLemmas.{IsLowered, lowered_step, lowered_end}
+use Rattle.md_base.proofs.FoldLemmas.{lowered_step, lowered_end}
 use Rattle.md_base.proofs.identifier.is_wide_lowered.Goals as goal
 
 pub loop-character-preserved : goal.loop-character-preserved
@@ -19,7 +19,4 @@ loop-character-preserved c =
     }
 
 pub returns : goal.returns
-returns c holds =
-    c.loop-character.invariant.whole (subst IsLowered
-    (sym (nil_from_length (chars_rest c.loop-character.character-iterator)
-    c.in-None.ensures.steps.0.0)) lowered_end)
+returns c holds = grind (arith, nil_from_length, lowered_end)
