@@ -128,7 +128,16 @@ word_step is_gap written [] rest some black owed = absurd (omega (arith, some))
 word_step is_gap written (b ∷ word) rest some black owed =
     let first = black zero some in
     let later = word_runs word rest (λ k inside. black (suc k) (omega (arith, inside))) in
-    grind (arith, collapsed-black, after_word-black, in_word-black, append_assoc, first, later, owed)
+    grind (
+      arith,
+      collapsed-black,
+      after_word-black,
+      in_word-black,
+      append_assoc,
+      first,
+      later,
+      owed,
+    )
 
 pub black_step : (is_gap : Bool) (written : List ℕ) (c : ℕ) (rest : List ℕ) → is_white c ≡ false →
     (is_gap ≡ true → 0 < length written) → (written ++ (cond is_gap (32 ∷ []) [] ++ encode_utf8 c))

@@ -75,7 +75,8 @@ row-decoded : (rows : List (List ℕ)) (i : ℕ) → AreRows rows → i < length
     map (λ letter. decoded i letter) (get_or rows i []) ≡ moves (place_at i)
 row-decoded rows i are inside =
     rw (← decoded-row 0 i i rows (omega arith) inside, are.decodes)
-    (get_or-map (λ place. moves place) places i _ [] (omega (arith, inside, counted, rows-count rows are)))
+    (get_or-map (λ place. moves place) places i _ []
+    (omega (arith, inside, counted, rows-count rows are)))
 
 row-long : (rows : List (List ℕ)) (i : ℕ) → AreRows rows → i < length rows →
     length (get_or rows i []) ≡ 47
@@ -151,7 +152,8 @@ pub start-at : (rows : List ℕ) (i : ℕ) (r : Role) → AreStarts rows → i <
 start-at rows i r are few is =
     let here = get_or-map (λ row. place_at row) rows i 0 (at role.Childless 0 Whole)
     (omega (arith, few, starts-count rows are)) in
-    let there = get_or-map (λ r. at r 0 Whole) all_roles i role.Childless (at role.Childless 0 Whole)
+    let there =
+    get_or-map (λ r. at r 0 Whole) all_roles i role.Childless (at role.Childless 0 Whole)
     (omega (arith, few, roles-counted)) in
     cc (here, there, is, are)
 
