@@ -61,8 +61,7 @@ pub added-characters : {picks : List ℕ → Bool}
     added test attribute n (map Character x ++ ts) ≡ map Character x ++ added test attribute n ts
 added-characters test attribute n [] ts p = refl
 added-characters test attribute n (b ∷ x) ts p =
-    added-other test attribute n (Character b) (map Character x ++ ts) (p.characters b)
-    ∙ ap (λ y. Character b ∷ y) (added-characters test attribute n x ts p)
+    grind (arith, added-characters test attribute n x ts p)
 
 -- ---- attributes
 

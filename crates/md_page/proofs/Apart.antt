@@ -1,5 +1,5 @@
 -- Two texts that are equal, each a prefix and digits: one prefix is the other with digits.
-use Rattle.std.proofs.Common.{◌≡◌, ◌≤◌, inl, inr, ℕ, suc, true, List, ◌++◌, length, take, drop}
+use Rattle.std.proofs.Common.{◌≡◌, ◌≤◌, ℕ, suc, true, List, ◌++◌, length, take, drop}
 use Rattle.std.proofs.Common.{refl, sym, ap, ◌∙◌, arith}
 use Rattle.std.specs.List.{list_all}
 use Rattle.std.specs.Fmt.{decimal}
@@ -30,12 +30,10 @@ never one other first second digits apart low same =
 pub headings-apart : (one other : List ℕ) (m n : ℕ) → AreApart one other →
     shown one ++ decimal (suc m) ≡ shown other ++ decimal (suc n) → ⊥
 headings-apart one other m n apart same =
-    let first = decimal (suc m) in
-    let second = decimal (suc n) in
-    elim (cases_lt (length (shown other)) (length (shown one))) [
-      | inl shorter ↦
-          never (shown other) (shown one) second first (decimal-digits (suc n)) apart.1
-          (omega arith) (sym same)
-      | inr longer ↦
-          never (shown one) (shown other) first second (decimal-digits (suc m)) apart.0 longer same
-    ]
+    grind (
+      arith,
+      cases_lt (length (shown other)) (length (shown one)),
+      never,
+      decimal-digits (suc n),
+      decimal-digits (suc m),
+    )

@@ -13,12 +13,11 @@ use Rattle.std.proofs.lemmas.Fmt.{decimal_injective}
 use Rattle.std.proofs.lemmas.List.{append_cancel_left}
 use Rattle.std.proofs.lemmas.List.Folds.{list_any-append}
 use Rattle.md_base.proofs.Lies.{lie}
-use Rattle.md_text.specs.Bytes.{is_one_of}
 use Rattle.md_text.specs.Ids.{are_distinct}
 use Rattle.md_text.proofs.HtmlIds.{occurs, occurs-append, distinct-ids}
 use Rattle.md_safe.specs.Token.{Token, TokenAttribute, StartTag}
 use Rattle.md_safe.proofs.IdsOnce.{occurs-other}
-use Rattle.md_page.specs.Added.{added, with_attribute, has_attribute, gets_id, heading_names, shown}
+use Rattle.md_page.specs.Added.{added, with_attribute, has_attribute, gets_id, shown}
 use Rattle.md_page.specs.Added.{with_heading_ids, headings_after, headings_of}
 use Rattle.md_page.specs.GivenIds.{is_among}
 use Rattle.md_page.specs.Ids.{ids_in, ids_at, ids_among, none_begins}
@@ -67,9 +66,7 @@ past-ids [] y h = refl
 past-ids (a ∷ x) y h = let later = past-ids x y in grind (arith, later, h)
 
 old-none : (t : Token) → gets_id t ≡ true → ids_at t ≡ []
-old-none (StartTag name x flag) h =
-    ap ids_in (sym (append-nil x))
-    ∙ past-ids x [] (not-true _ (and_parts (is_one_of heading_names name) _ h).1)
+old-none (StartTag name x flag) h = grind (arith, append-nil x, past-ids x [])
 old-none t h = lie h
 
 new-one : (values : ℕ → List ℕ) (n : ℕ) (t : Token) → gets_id t ≡ true →
@@ -106,8 +103,7 @@ unbegun : (prefix w : List ℕ) (n k : ℕ) → starts_with nat_eq w prefix ≡ 
     occurs w (values_from (numbered prefix) n k) ≡ 0
 unbegun prefix w n zero h = refl
 unbegun prefix w n (suc k) h =
-    occurs-other w (numbered prefix n) _ (λ e. lie (sym (rw (← e) at h)
-    ∙ begins-itself prefix (decimal (suc n)))) ∙ unbegun prefix w (suc n) k h
+    grind (arith, occurs-other, begins-itself, unbegun prefix w (suc n) k h)
 
 -- a text that begins with the prefix isn't among texts that don't
 begun : (prefix w : List ℕ) (xs : List (List ℕ)) → starts_with nat_eq w prefix ≡ true →
@@ -138,11 +134,6 @@ distinct-headings prefix x few d h =
     let start = shown prefix in
     let n = length (headings_of x) in
     distinct-made (numbered start) x (λ w. elim (cases_Bool (starts_with nat_eq w start)) [
-      | inl is ↦
-          omega (
-            arith,
-            begun start w (ids_among x) is h,
-            numbers-once start w 0 n (omega (arith, few)),
-          )
+      | inl is ↦ grind (arith, begun, numbers-once)
       | inr not_so ↦ omega (arith, unbegun start w 0 n not_so, once (ids_among x) d w)
     ])

@@ -12,11 +12,11 @@ use Rattle.md_text.specs.Html.{written}
 use Rattle.md_safe.specs.Token.{Token, TokenAttribute, StartTag}
 use Rattle.md_safe.specs.Tokenizer.{IsTokenized}
 use Rattle.md_safe.specs.Tokens.{seen_attributes}
-use Rattle.md_safe.specs.Contents.{Content, Flow, held_in, voids_in, may_say, is_contained}
+use Rattle.md_safe.specs.Contents.{Content, Flow, held_in, is_contained}
 use Rattle.md_safe.specs.Built.{has_whole_texts, IsBuiltAsRead}
 use Rattle.md_safe.proofs.WholeTrees.{forest-built}
 use Rattle.md_page.specs.Added.{added}
-use Rattle.md_page.specs.Pieces.{Piece, Words, Opening, Single, Closing, all_written, are_plain}
+use Rattle.md_page.specs.Pieces.{Piece, Words, Opening, Single, are_plain}
 use Rattle.md_page.specs.Pieces.{is_tag_name, void_names, IsWritten}
 use Rattle.md_page.specs.Scan.{with_new}
 use Rattle.md_page.specs.Built.{is_plain_forest, IsBuiltAsWritten}
@@ -60,9 +60,7 @@ element-grown : {test : Token → Bool} {new : ℕ → Attribute} {n m : ℕ} {n
 element-grown {name = name} {y = y} {inner = inner} {rest = rest} opens named plain g r = record {
   after = r.after;
   forest = Element name y g.forest r.forest;
-  pieces = λ more. opens (pieces_of inner (Closing name ∷ pieces_of rest more))
-      ∙ ap (λ z. Opening name y ∷ z) (g.pieces (Closing name ∷ pieces_of rest more)
-      ∙ ap (λ z. pieces_of g.forest (Closing name ∷ z)) (r.pieces more));
+  pieces = grind arith;
   texts = refl;
   plain = and_from _ _ named (and_from _ _ plain (and_from _ _ g.plain r.plain));
   contained = λ nested content.
@@ -94,10 +92,8 @@ grow may n (Text bytes rest) h =
       forest = Text bytes r.forest;
       pieces = λ more. ap (λ z. Words bytes ∷ z) (r.pieces more);
       texts = refl;
-      plain = and_from _ _ p.0
-          (and_from _ _ p.1 (and_from _ _ (ap not r.texts ∙ q.0) r.plain));
-      contained = λ nested content.
-          ap (λ b. may_say content bytes && b) (r.contained nested content);
+      plain = grind arith;
+      contained = grind arith;
     }
 grow may n (Void name x rest) h =
     let p = and3 (is_one_of void_names name) (are_plain x) (is_plain_forest rest) h in
@@ -108,8 +104,7 @@ grow may n (Void name x rest) h =
       pieces = λ more. ap (λ z. Single name x ∷ z) (r.pieces more);
       texts = refl;
       plain = and_from _ _ p.0 (and_from _ _ p.1 r.plain);
-      contained = λ nested content.
-          ap (λ b. is_one_of (voids_in content) name && b) (r.contained nested content);
+      contained = grind arith;
     }
 grow {test} {new} may n (Element name x inner rest) h =
     let p = and3 (is_tag_name name) (are_plain x) _ h in
@@ -150,9 +145,7 @@ grown-built {picks} {new = new} by may text b =
     let f = b.forest in
     let g = grow may 0 f b.plain in
     let r = changed-pieces by may 0 (pieces_of f []) (plain-sound f [] b.plain refl refl) in
-    let after : written g.forest ≡ with_new picks new text =
-    sym (whole-written g.forest) ∙ ap all_written (sym (g.pieces [])) ∙ sym r.written
-    ∙ ap (with_new picks new) (whole-written f ∙ b.written_so) in
+    let after : written g.forest ≡ with_new picks new text = grind (arith, whole-written) in
     built-so g.forest (with_new picks new text) g.plain after (g.contained false Flow ∙ b.contained)
 
 -- ---- what is known of a text after the additions of a rule

@@ -3,13 +3,11 @@ use Rattle.std.proofs.Common.{◌≡◌, ℕ, Bool, true, not, List, [], ◌∷�
 use Rattle.std.proofs.Common.{filter, refl, ◌∙◌, append-nil, append_assoc}
 use Rattle.std.specs.List.{list_all}
 use Rattle.std.proofs.lemmas.Bool.{and_parts, and_from}
-use Rattle.md_text.specs.Bytes.{is_one_of}
 use Rattle.md_text.specs.Html.{Forest, Empty, Text, Void, Element, is_forest, is_tag}
 use Rattle.md_text.specs.Html.{begins_with_text, elements, void_tags, written, HasOneReadingWith}
 use Rattle.md_text.specs.Safe.{is_safe_link, is_safe_image}
 use Rattle.md_safe.specs.Token.{Token, StartTag, EndOfFile, TokenAttribute}
 use Rattle.md_safe.specs.Tokens.{tokens, is_listed, is_tag_of}
-use Rattle.md_safe.specs.SafeTokens.{has_safe_links}
 use Rattle.md_safe.proofs.Cases.{all-weaker}
 use Rattle.md_safe.proofs.TokenTests.{all-append, all-tokens, forest-listed}
 use Rattle.md_safe.proofs.SafeTokens.{links-pass, images-pass}
@@ -70,11 +68,8 @@ pub plain-sound : (f : Forest) (more : List Piece) → is_plain_forest f ≡ tru
     not (begins_with_words more) ≡ true →
     are_sound more ≡ true → are_sound (pieces_of f more) ≡ true
 plain-sound Empty more h n s = s
-plain-sound (Text bytes rest) more h n s =
-    let lone = alone rest more in
-    let later = plain-sound rest more in grind (arith, lone, later, h, n, s)
-plain-sound (Void name x rest) more h n s =
-    let later = plain-sound rest more in grind (arith, later, h, n, s)
+plain-sound (Text bytes rest) more h n s = grind (arith, plain-sound rest more)
+plain-sound (Void name x rest) more h n s = grind (arith, plain-sound rest more)
 plain-sound (Element name x inner rest) more h n s =
     let p = and3 (is_tag_name name) (are_plain x) _ h in
     let q = and_parts (is_plain_forest inner) (is_plain_forest rest) p.2 in
@@ -96,9 +91,7 @@ tag-filter : (rules : List (List ℕ × List (List ℕ))) (name : List ℕ) (kee
     (x : List TokenAttribute) → is_tag_of rules name x ≡ true →
     is_tag_of rules name (filter keep x) ≡ true
 tag-filter [] name keep x h = h
-tag-filter (rule ∷ rules) name keep x h =
-    let this = filter-all (λ a. is_one_of rule.1 a.name) keep x in
-    let later = tag-filter rules name keep x in grind (arith, this, later, h)
+tag-filter (rule ∷ rules) name keep x h = grind (arith, filter-all, tag-filter rules name keep x)
 
 beside : (t : Token) → is_listed t ≡ true → is_listed_beside t ≡ true
 beside (StartTag name x flag) h = tag-filter _ name (λ a. not (is_addition name a)) x h
@@ -120,9 +113,7 @@ written-safe text links images =
       pieces = pieces_of f [];
       sound = plain-sound f [] (forest-plain f h) refl refl;
       written_so = whole-written f ∙ links.reading.written_so;
-      listed = forest-passes is_listed_beside f refl
-          (all-weaker is_listed is_listed_beside beside (tokens f) (forest-listed f h));
-      safe_links = forest-passes has_safe_links f refl
-          (all-tokens has_safe_links is_safe_link links-pass f h links.passes);
+      listed = grind (arith, forest-passes, all-weaker, beside, forest-listed);
+      safe_links = grind (arith, forest-passes, all-tokens, links-pass);
       safe_images = grind (arith, forest-passes, all-tokens, images-pass);
     }

@@ -1,4 +1,5 @@
 -- The page around a title and a safe text.
+use Rattle.std.proofs.Common.{arith}
 use Rattle.std.proofs.Common.{◌≡◌, ℕ, true, List, [], ◌∷◌, refl, ap, ◌∙◌}
 use Rattle.std.proofs.lemmas.Bool.{and_from}
 use Rattle.std.proofs.lemmas.List.{append-nil}
@@ -53,8 +54,7 @@ page_given title body text e safe =
       titled = ap read_back (titled_by-written escaped) ∙ read_back-encoded title;
       reading = safe.safe_links.reading;
       safe_links = safe.safe_links.passes;
-      safe_images =
-          rw (safe.safe_images.only inside safe.safe_links.reading) safe.safe_images.passes;
+      safe_images = grind arith;
     }
 
 -- the same in the Standard's words
@@ -70,13 +70,11 @@ pub page_constructed : (title body text : List ℕ) → text ≡ page_text title
     IsBuiltAsRead body →
     IsBuiltPage (shown title) body text
 page_constructed title body text e safe built =
-    let escaped = encoded true title in
-    let emitted = page_emitted title body text e safe in
-    record {
-      inside = built.forest;
-      reading = built.reading;
-      only = built.only;
-      tokenized = rw (built.only emitted.inside emitted.reading) at emitted.tokenized;
-      built = text-page-built (shown title) body
-          (rw (← seen-encoded title) (seen-characters escaped (is_escaped-encoded title))) built;
-    }
+    grind (
+      arith,
+      page_emitted title body text e safe,
+      text-page-built (shown title) body,
+      seen-encoded title,
+      seen-characters,
+      is_escaped-encoded title,
+    )

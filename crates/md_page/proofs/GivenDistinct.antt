@@ -27,9 +27,7 @@ given ids n = shown (id_text ids n)
 given-values : (ids : List (List ℕ)) (n : ℕ) (x : List Token) →
     ids_after ids n x ≡ values_from (given ids) n (length (headings_after n x))
 given-values ids n [] = refl
-given-values ids n (t ∷ x) =
-    let on = given-values ids (suc n) x in
-    let off = given-values ids n x in grind (arith, on, off)
+given-values ids n (t ∷ x) = grind (arith, given-values ids (suc n) x, given-values ids n x)
 
 pub distinct-given : (ids : List (List ℕ)) (x : List Token) →
     are_distinct (ids_among x ++ ids_given ids x) ≡ true →

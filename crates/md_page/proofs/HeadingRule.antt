@@ -52,8 +52,7 @@ by_name P (t ∷ ts) each name h =
 pub by_heading : (P : List ℕ → Type 0) → P (codes "h1") → P (codes "h2") →
     P (codes "h3") → P (codes "h4") →
     P (codes "h5") → P (codes "h6") → (name : List ℕ) → is_one_of heading_names name ≡ true → P name
-by_heading P one two three four five six name h =
-    by_name P heading_names (one, (two, (three, (four, (five, (six, tt)))))) name h
+by_heading P one two three four five six name h = grind (arith, by_name P heading_names)
 
 -- each has two bytes
 no_heading : (name : List ℕ) → (length name ≡ 2 → ⊥) → is_one_of heading_names name ≡ false
@@ -87,8 +86,7 @@ picks-name [] x r b n h = lie b
 picks-name (b ∷ []) x r l n h =
     and_left _ _ (short b x r)
     ∙ sym (and_left _ _ (no_heading (b ∷ []) (λ e. omega (arith, e))))
-picks-name (b ∷ c ∷ []) x r l n h =
-    rw (before-attributes x r h, wants-id x h, pair-named b c) refl
+picks-name (b ∷ c ∷ []) x r l n h = grind (arith, before-attributes, wants-id, pair-named)
 picks-name (b ∷ c ∷ d ∷ name) x r l n h =
     let p = and3 (is_name_byte b) (is_name_byte c) (list_all is_name_byte (d ∷ name)) n in
     let third = (and_parts (is_name_byte d) (list_all is_name_byte name) p.2).0 in
@@ -104,9 +102,7 @@ picks-name (b ∷ c ∷ d ∷ name) x r l n h =
 
 pub heading-picks : PicksBy picks_heading gets_id
 heading-picks = record {
-  elements = λ name x r named plain.
-      (let p = and3 (begins_with_letter name) (list_all is_name_byte name) _ named in
-      picks-name name x r p.0 p.1 plain);
+  elements = grind (arith, picks-name);
   voids = λ name r h.
       not-true (picks_heading (name ++ r))
       (void-name (λ n. not (picks_heading (n ++ r))) name refl h);

@@ -31,8 +31,7 @@ text-first : (digit : ℕ) (out words tag : List ℕ) {rest out' whole : List �
     rest ≡ words ++ (60 ∷ tag) →
     list_all (differs 60) words ≡ true → out' ≡ out ++ with_line_feeds words →
     out ++ text_before digit false rest ≡ whole → out' ++ text_before digit false (60 ∷ tag) ≡ whole
-text-first digit out words tag is none first all =
-    rw (first, ← all, is, text-run digit words (60 ∷ tag) none refl, append_assoc) refl
+text-first digit out words tag is none first all = grind (arith, text-run, append_assoc)
 
 -- the heading ends
 pub text-ends : (digit : ℕ) (out words tag : List ℕ) {rest out' whole : List ℕ} →
@@ -67,5 +66,4 @@ heading-turn n at found rest h next number is more all =
 pub headings-all : (n : ℕ) (x : List ℕ) → clear picks_heading (length x) x ≡ true →
     scanned_headings n x ≡ []
 headings-all n x h =
-    clear-headings n (length x) x h
-    ∙ ap (scanned_headings n) (drop_all (length x) x (omega arith))
+    grind (arith, clear-headings n (length x) x h, drop_all (length x) x (omega arith))

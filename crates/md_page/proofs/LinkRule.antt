@@ -60,8 +60,7 @@ value_of-found key (a ∷ x) h =
     let p = plain_attribute a x h in
     let later = written_attributes x in
     let front : list_all (differs 34) (framed a.name) ≡ true =
-    all-join (differs 34) a.name (61 ∷ [])
-    (name-differs 34 a.name refl (and_parts _ (list_all is_name_byte a.name) p.0).1) refl in
+    grind (arith, all-join, name-differs) in
     rw (← append_assoc a.name (61 ∷ []) (34 ∷ (a.value ++ (34 ∷ later))))
     (rw (parts-run (framed a.name) (a.value ++ (34 ∷ later)) front)
     (rw (parts-run a.value later (escaped-differs 34 a.value (λ rest. refl) p.1))
@@ -135,8 +134,7 @@ picks-a : (x : List Attribute) (r : List ℕ) → are_plain x ≡ true →
     picks_link (97 ∷ (written_attributes x ++ (62 ∷ r)))
     ≡ gets_rel (StartTag (codes "a") (seen_attributes x) false)
 picks-a [] r h = refl
-picks-a (a ∷ x) r h =
-    ap (λ v. option_map_or want_rel v false) (before-attributes (a ∷ x) r h) ∙ wants (a ∷ x) h
+picks-a (a ∷ x) r h = grind (arith, before-attributes (a ∷ x) r h, wants (a ∷ x) h)
 
 -- any other name
 no-a : (name tail : List ℕ) → list_all is_name_byte name ≡ true →
@@ -171,8 +169,7 @@ same-names key (a ∷ x) = ap (λ t. bytes_eq key a.name || t) (same-names key x
 
 -- what a tokenizer sees of an escaped text
 pub seen-encoded : (text : List ℕ) → seen (encoded true text) ≡ shown text
-seen-encoded text = seen-is (encoded true text) (is_escaped-encoded text)
-    ∙ ap with_line_feeds (read_back-encoded text)
+seen-encoded text = grind (arith, seen-is, is_escaped-encoded, read_back-encoded)
 
 pub link-rule : (text : List ℕ) → IsRule picks_link gets_rel (new_rel text) (rel_of text)
 link-rule text = record {

@@ -10,7 +10,7 @@ use Rattle.md_text.specs.References.{begins_with}
 use Rattle.md_text.specs.Html.{written_attributes}
 use Rattle.md_safe.proofs.EscapedCases.{begins-is}
 use Rattle.md_page.specs.Headings.{listed}
-use Rattle.md_page.specs.Scan.{before_angle, parts_of, value_in, onto_first, is_away, want_rel}
+use Rattle.md_page.specs.Scan.{before_angle, value_in, is_away, want_rel}
 use Rattle.md_page.specs.Scan.{picks_link, picks_heading, scanned}
 use Rattle.md_page.specs.Scan.{scanned_headings, with_new, new_id, new_rel, IsScannedTo}
 use Rattle.md_page.specs.declared.headings.Heading.{Heading}
@@ -24,20 +24,10 @@ want_of parts =
     && is_none (value_in (codes " rel=") parts)
 
 hash-stays : (a : List ℕ) → want_rel (codes " href=\"#" ++ a) ≡ false
-hash-stays a = by (parts_of a)
-  where
-    by : (parts : List (List ℕ)) → want_of (codes " href=" ∷ onto_first 35 parts) ≡ false
-    by [] = refl
-    by (part ∷ []) = refl
-    by ([] ∷ next ∷ more) = refl
-    by ((b ∷ part) ∷ next ∷ more) = refl
+hash-stays a = grind arith
 
 nothing-stays : (a : List ℕ) → want_rel (codes " href=\"\"" ++ a) ≡ false
-nothing-stays a = by (parts_of a)
-  where
-    by : (parts : List (List ℕ)) → want_of (codes " href=" ∷ [] ∷ parts) ≡ false
-    by [] = refl
-    by (part ∷ more) = refl
+nothing-stays a = grind arith
 
 -- bytes before what comes up to a `>`
 abbrev onto : List ℕ → Option (List ℕ) → Option (List ℕ)
@@ -78,8 +68,7 @@ pub unheaded : (headings : List Heading) (prefix text : List ℕ) → (length he
     map listed headings ≡ scanned_headings 0 text →
     text ≡ with_new picks_heading (new_id prefix) text
 unheaded (heading ∷ headings) prefix text none all = absurd (omega (arith, eqb-true _ 0 none))
-unheaded [] prefix text none all =
-    sym (none-picked (λ n. written_attributes (new_id prefix n ∷ [])) 0 0 text all)
+unheaded [] prefix text none all = grind (arith, none-picked)
 
 -- ---- a text without links that are picked
 

@@ -1,6 +1,6 @@
 -- A number in decimal digits, as it is written and seen.
 use Rattle.std.proofs.Common.{◌≡◌, ℕ, ◌==◌, Bool, true, false, not, ◌&&◌}
-use Rattle.std.proofs.Common.{List, [], ◌∷◌, ◌++◌, refl, ap, arith, append-nil}
+use Rattle.std.proofs.Common.{List, [], ◌∷◌, ◌++◌, refl, arith, append-nil}
 use Rattle.std.specs.Fmt.{decimal}
 use Rattle.std.specs.List.{list_all}
 use Rattle.std.proofs.lemmas.Bool.{and_parts, eqb-false}
@@ -43,8 +43,7 @@ itself-back [] h = refl
 itself-back (b ∷ x) h = grind (arith, read_back-other, eqb-false, itself_parts, itself-back x)
 
 pub itself-returns : (x : List ℕ) → list_all is_itself x ≡ true → list_all no_return x ≡ true
-itself-returns x h =
-    all-weaker is_itself no_return (λ b own. ap not (itself_parts b own).no_return) x h
+itself-returns x h = grind (arith, all-weaker)
 
 itself-begins : (x : List ℕ) → list_all is_itself x ≡ true → begins_with_line_feed x ≡ false
 itself-begins [] h = refl
@@ -53,8 +52,7 @@ itself-begins (b ∷ x) h = (itself_parts b (and_parts (is_itself b) _ h).0).no_
 -- an escaped text and a number
 pub numbered-escaped : (prefix : List ℕ) (n : ℕ) →
     is_escaped (encoded true prefix ++ decimal n) ≡ true
-numbered-escaped prefix n =
-    escaped-append (encoded true prefix) (decimal n) (is_escaped-encoded prefix) (decimal-escaped n)
+numbered-escaped prefix n = grind (arith, escaped-append, is_escaped-encoded, decimal-escaped)
 
 pub numbered-seen : (prefix : List ℕ) (n : ℕ) →
     seen (encoded true prefix ++ decimal n) ≡ shown prefix ++ decimal n

@@ -4,12 +4,12 @@ use Rattle.std.proofs.Common.{◌≡◌, ℕ, suc, MatchOption, ◌<◌, ◌+◌
 use Rattle.std.proofs.Common.{cond, List, [], ◌∷◌, ◌++◌, length, get_or, take, drop, refl, sym, ap}
 use Rattle.std.proofs.Common.{◌∙◌, Option, Some, None, arith}
 use Rattle.std.specs.List.{list_all}
-use Rattle.std.proofs.lemmas.Bool.{and_from, eqb-true, cond_both, false_from_ne_true}
+use Rattle.std.proofs.lemmas.Bool.{and_from, eqb-true, false_from_ne_true}
 use Rattle.std.proofs.lemmas.List.{take-append-drop, drop_more, length-take, length-drop}
 use Rattle.std.proofs.lemmas.List.{get_or-take, take_rest}
 use Rattle.memchr.specs.Find.{IsFirstByte, is_byte}
 use Rattle.md_base.proofs.Lies.{lie}
-use Rattle.md_page.specs.Scan.{differs, IsFirstOf, before_angle, parts_of, onto_first, value_in}
+use Rattle.md_page.specs.Scan.{differs, IsFirstOf, before_angle, parts_of, value_in}
 use Rattle.md_page.specs.Scan.{value_of}
 
 -- ---- the parts of attributes
@@ -20,12 +20,7 @@ is_filled (part ∷ more) = true
 
 pub parts-filled : (x : List ℕ) → is_filled (parts_of x) ≡ true
 parts-filled [] = refl
-parts-filled (b ∷ x) =
-    cond_both (b == 34) _ _ (λ y. is_filled y ≡ true) (λ _. refl) (λ _. on b (parts_of x))
-  where
-    on : (b : ℕ) (parts : List (List ℕ)) → is_filled (onto_first b parts) ≡ true
-    on b [] = refl
-    on b (part ∷ more) = refl
+parts-filled (b ∷ x) = grind arith
 
 -- up to a `"`
 pub parts-run : (x r : List ℕ) → list_all (differs 34) x ≡ true →
@@ -57,8 +52,7 @@ before-none (b ∷ x) h = let later = before-none x in grind (arith, later, h)
 -- a text at one of its bytes
 pub around : (byte : ℕ) (text : List ℕ) (at : ℕ) → IsFirstOf byte text at →
     text ≡ take at text ++ (byte ∷ drop (at + 1) text)
-around byte text at h =
-    sym (rw (drop_more text at 0 h.within, h.is) at (take-append-drop at text))
+around byte text at h = grind (arith, drop_more, take-append-drop)
 
 -- where a test fails at each place, it fails of each byte
 pub nowhere : (byte : ℕ) (x : List ℕ) →

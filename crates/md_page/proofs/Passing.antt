@@ -47,8 +47,7 @@ pub clear-scanned : (picks : List ℕ → Bool) (add : ℕ → List ℕ) (n k : 
     scanned picks add false n text ≡ take k text ++ scanned picks add false n (drop k text)
 clear-scanned picks add n zero text h = refl
 clear-scanned picks add n (suc k) [] h = refl
-clear-scanned picks add n (suc k) (b ∷ rest) h =
-    let later = clear-scanned picks add n k rest in grind (arith, later, h)
+clear-scanned picks add n (suc k) (b ∷ rest) h = grind (arith, clear-scanned picks add n k rest)
 
 pub clear-headings : (n k : ℕ) (text : List ℕ) → clear picks_heading k text ≡ true →
     scanned_headings n text ≡ scanned_headings n (drop k text)

@@ -30,8 +30,7 @@ after_words x r h n = grind arith
 
 pub after_text : (x : List Piece) → not (begins_with_words x) ≡ true →
     begins_with_line_feed (all_written x) ≡ false
-after_text x h =
-    ap begins_with_line_feed (sym (append-nil (all_written x))) ∙ after_words x [] h refl
+after_text x h = grind arith
 
 pub characters-on : (x : List ℕ) (more t : List Token) →
     going_on (map Character x ++ more) t ≡ map Character x ++ going_on more t

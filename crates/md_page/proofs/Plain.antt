@@ -42,18 +42,14 @@ plain_attribute a x h = grind arith
 
 pub good_attributes : (x : List Attribute) → are_plain x ≡ true → are_good x ≡ true
 good_attributes [] h = refl
-good_attributes (a ∷ x) h =
-    let bytes = good_bytes a.name in
-    let later = good_attributes x in grind (arith, bytes, later, h)
+good_attributes (a ∷ x) h = grind (arith, good_bytes, good_attributes x)
 
 -- ---- the tables
 
 attributes-plain : (listed : List (List ℕ)) (x : List Attribute) → list_all is_name listed ≡ true →
     are_attributes listed x ≡ true → are_plain x ≡ true
 attributes-plain listed [] g e = refl
-attributes-plain listed (a ∷ x) g e =
-    let named = one_of-passes is_name listed a.name g in
-    let later = attributes-plain listed x g in grind (arith, named, later, e)
+attributes-plain listed (a ∷ x) g e = grind (arith, one_of-passes, attributes-plain listed x g)
 
 -- each rule has a name that passes a test, and names of attributes
 tag-plain : (named : List ℕ → Bool) (rules : List (List ℕ × List (List ℕ))) (name : List ℕ)

@@ -14,7 +14,7 @@ use Rattle.md_page.specs.Pieces.{are_sound, are_plain, is_tag_name, void_names, 
 use Rattle.md_page.specs.Scan.{differs, scanned}
 use Rattle.md_page.proofs.Plain.{and3}
 use Rattle.md_page.proofs.Tags.{PicksBy, picks-tag, is_sound_tag, token_of, inside, tag-written}
-use Rattle.md_page.proofs.Tags.{tag-tokens, tag-sound, escaped-differs, tag-differs, opens, closes}
+use Rattle.md_page.proofs.Tags.{tag-sound, escaped-differs, tag-differs, opens, closes}
 use Rattle.md_page.proofs.Adding.{changed, MayAdd, seen_new, seen-append, added-other}
 use Rattle.md_page.proofs.Adding.{added-characters, plain-more}
 
@@ -25,8 +25,7 @@ pub scanned-run : (picks : List ℕ → Bool) (add : ℕ → List ℕ) (n : ℕ)
     list_all (differs 60) x ≡ true →
     scanned picks add false n (x ++ r) ≡ x ++ scanned picks add false n r
 scanned-run picks add n [] r h = refl
-scanned-run picks add n (b ∷ x) r h =
-    let later = scanned-run picks add n x r in grind (arith, later, h)
+scanned-run picks add n (b ∷ x) r h = grind (arith, scanned-run picks add n x r)
 
 -- inside a tag that is picked
 pub scanned-inside : (picks : List ℕ → Bool) (add : ℕ → List ℕ) (n : ℕ) (x r : List ℕ) →
@@ -34,14 +33,12 @@ pub scanned-inside : (picks : List ℕ → Bool) (add : ℕ → List ℕ) (n : �
     scanned picks add true n (x ++ (62 ∷ r))
     ≡ x ++ (add n ++ (62 ∷ scanned picks add false (suc n) r))
 scanned-inside picks add n [] r h = refl
-scanned-inside picks add n (b ∷ x) r h =
-    let later = scanned-inside picks add n x r in grind (arith, later, h)
+scanned-inside picks add n (b ∷ x) r h = grind (arith, scanned-inside picks add n x r)
 
 pub scanned-unclosed : (picks : List ℕ → Bool) (add : ℕ → List ℕ) (n : ℕ) (x : List ℕ) →
     list_all (differs 62) x ≡ true → scanned picks add true n x ≡ x
 scanned-unclosed picks add n [] h = refl
-scanned-unclosed picks add n (b ∷ x) h =
-    let later = scanned-unclosed picks add n x in grind (arith, later, h)
+scanned-unclosed picks add n (b ∷ x) h = grind (arith, scanned-unclosed picks add n x)
 
 -- ---- over pieces
 
@@ -73,8 +70,7 @@ kept : {picks : List ℕ → Bool} {test : Token → Bool} {new : ℕ → Attrib
     test (token_of tag) ≡ false → AreChanged picks test new n more y →
     AreChanged picks test new n (tag ∷ more) (tag ∷ y)
 kept {picks} {test} {new} {n} {more} {y} by tag sound fails r = record {
-  tokens = rw (tag-tokens tag y sound, r.tokens, tag-tokens tag more sound)
-      (rw (added-other test (seen_new new) n (token_of tag) (all_tokens more) fails) refl);
+  tokens = grind arith;
   sound = tag-sound tag y sound r.sound;
   words = words tag;
   written = rw (tag-written tag more sound, tag-written tag y sound)
@@ -123,8 +119,7 @@ changed-pieces {picks} {test} {new} by may n (Words text ∷ more) h =
           ∙ sym (added-characters test (seen_new new) n (seen text) (all_tokens more) by);
       sound = and_from _ _ q.0 (and_from _ _ (ap not r.words ∙ q.1) r.sound);
       words = refl;
-      written = scanned-run picks (inserted new) n text (all_written more)
-          (escaped-differs 60 text opens.escaped q.0) ∙ ap (λ z. text ++ z) r.written;
+      written = grind (arith, scanned-run, escaped-differs);
     }
 changed-pieces {picks} {test} {new} by may n (Opening name x ∷ more) h =
     let q = and3 (is_tag_name name) (are_plain x) (are_sound more) h in

@@ -79,9 +79,7 @@ attributes_found (a ∷ x) r later plain f pre u id h =
     let p = plain_attribute a x plain in
     let name : Unquoted a.name =
     name-differs 34 a.name refl (and_parts _ (list_all is_name_byte a.name) p.0).1 in
-    let unquoted : Unquoted (up_to pre a.name) =
-    all-join (differs 34) pre (32 ∷ (a.name ++ (61 ∷ []))) u
-    (and_from _ _ refl (all-join (differs 34) a.name (61 ∷ []) name refl)) in
+    let unquoted : Unquoted (up_to pre a.name) = grind (arith, all-join) in
     let whole : pre ++ (written_attributes (a ∷ x) ++ r)
     ≡ up_to pre a.name ++ (34 ∷ (a.value ++ (34 ∷ (written_attributes x ++ r)))) =
     simp append_assoc in
@@ -159,5 +157,4 @@ pub id-turn : (before value more : List ℕ) (found : List (List ℕ)) {after re
     after ≡ value ++ (34 ∷ more) → list_all (differs 34) value ≡ true →
     found' ≡ found ++ cond (ends_at_id before) (with_line_feeds value ∷ []) [] →
     found ++ scanned_ids rest ≡ whole → found' ++ scanned_ids more ≡ whole
-id-turn before value more found is b also v put all =
-    rw (put, ← all, is, also, value_step before value more b v, append_assoc) refl
+id-turn before value more found is b also v put all = grind (arith, value_step, append_assoc)
