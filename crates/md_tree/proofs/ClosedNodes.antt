@@ -6,7 +6,8 @@ use Rattle.md_tree.proofs.Common.{Through, Space, Solid, Referral, Missing, Stat
 use Rattle.md_tree.proofs.Common.{Outer, Forest, Empty, Node, spine, shown, EachNode, IsStanding}
 use Rattle.md_tree.proofs.Common.{role_for, place, target_at, target_after, target_of, may_hold}
 use Rattle.md_tree.proofs.Common.{start_of, Reads, Course, ExitsWhere, entered_on}
-use Rattle.md_tree.proofs.Spots.{Feeds, advance_role, option_map-some, matches_feeds}
+use Rattle.md_tree.proofs.Spots.{Feeds, advance_role, option_map-some}
+use Rattle.md_tree.proofs.SpinesRead.{matches_feeds}
 use Rattle.md_tree.proofs.NodesRead.{IsReadWhere, IsFine}
 
 -- a node that ends is valid, and extends its parent's spine

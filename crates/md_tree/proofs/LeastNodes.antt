@@ -12,7 +12,7 @@ use Rattle.md_pattern.specs.declared.kinds.Role.TheVariants as role
 use Rattle.md_pattern.specs.Shape.{item_in, prefix_in, label_in}
 use Rattle.md_tree.proofs.OpenPaths.{joined, spine-joined, EachNode-joined}
 use Rattle.md_tree.proofs.ClosedNodes.{not_childless}
-use Rattle.md_tree.proofs.Spots.{ends_after, matches_after, IsFed, fed}
+use Rattle.md_tree.proofs.SpinesRead.{ends_after, matches_after, IsFed, fed}
 use Rattle.md_pattern.specs.declared.kinds.Class.TheVariants.{String, Phrasing, Flow, Only, Either}
 use Rattle.md_pattern.specs.declared.kinds.Class.TheVariants.{OrLine}
 use Rattle.md_tree.proofs.NodesRead.{after_nodes, Runs-nodes}
