@@ -1,11 +1,11 @@
 -- A node that breaks a rule where it ends: what follows of the events up to there.
-use Rattle.std.proofs.Common.{arith, ◌≡◌, ℕ, Option, Some, None, List, [], ◌∷◌, ◌++◌, refl, sym, ap}
-use Rattle.std.proofs.Common.{◌∙◌, subst, append_assoc}
+use Rattle.std.proofs.Common.{arith, ◌≡◌, ℕ, Option, Some, None, List, [], ◌∷◌, ◌++◌, sym, ap, ◌∙◌}
+use Rattle.std.proofs.Common.{subst, append_assoc}
 use Rattle.md_tree.proofs.Common.{Point, Name, Event, Standing, Referral, Missing, Rule, State}
 use Rattle.md_tree.proofs.Common.{Open, Outer, Forest, Empty, Node, exiting, standing_of, spine}
 use Rattle.md_tree.proofs.Common.{AreShaped, broken_rule, reading_of, target_of, symbol_after}
-use Rattle.md_tree.proofs.Common.{EndsBroken, Course, Exits, ExitsWhere, after_exit, entered_on}
-use Rattle.md_tree.proofs.Common.{Unbroken, BreaksWhere, BreaksAtExit}
+use Rattle.md_tree.proofs.Common.{EndsBroken, Course, Exits, ExitsWhere, entered_on, Unbroken}
+use Rattle.md_tree.proofs.Common.{BreaksWhere, BreaksAtExit}
 use Rattle.md_tree.specs.Walk.{Broken}
 use Rattle.md_tree.proofs.NodesRead.{Feeds-context}
 use Rattle.md_tree.proofs.OpenPaths.{Stands-context, Reached}
@@ -18,8 +18,7 @@ module _ (bytes : List ℕ) (names : List (List ℕ × List ℕ)) (broken : Rule
       (course : Course) → BreaksWhere bytes names broken outer start point course →
       (next : Course) × ExitsWhere (Broken bytes names broken) outer start point others course next
   exits_broken_where None start point others course breaks = absurd breaks
-  exits_broken_where (Some outer) start point others course breaks =
-      (after_exit outer start point others course, (breaks.0, breaks.1, refl))
+  exits_broken_where (Some outer) start point others course breaks = grind arith
 
   exits_broken : (opens : List Open) (name : Name)
       (point : Point) (course : Course) → BreaksAtExit bytes names broken opens name point course →

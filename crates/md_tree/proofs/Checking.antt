@@ -143,9 +143,7 @@ IsRefusal-undone given course runs undone = grind (arith, LeaveOpen-undone, Runs
 -- a document of the same events is the one that was read
 document_one : (given : Handed) (mentions : List Mentioned) (walked : IsWalked given mentions)
     (checked : IsChecked given) → checked.0 ≡ walked.forest
-document_one given mentions walked checked =
-    flatten_one Data somewhere checked.0 walked.forest
-    (IsReadAs.flattened checked.1 ∙ sym walked.flattened)
+document_one given mentions walked checked = grind (arith, flatten_one)
 
 -- an unresolved mention, among the mentions of the document
 module _ (given : Handed) (mentioned : List Mentioned) (index : ℕ) (mention : Mention)
@@ -201,9 +199,7 @@ refused_lost given mentioned index _ walked lost = absurd lost
 
 pub IsRefusal-lost : (given : Handed) (mentioned : List Mentioned) (refused : CompileError) →
     IsWalked given mentioned → IsUnresolved given.bytes mentioned refused → IsRefusal given refused
-IsRefusal-lost given mentioned error.Memory walked lost = search rules
-IsRefusal-lost given mentioned (error.Event index broken) walked lost =
-    refused_lost given mentioned index broken walked lost
+IsRefusal-lost given mentioned refused walked lost = grind (arith, refused_lost)
 
 -- ---- what passes
 pub IsChecked-walked : (given : Handed) (mentioned : List Mentioned) → IsWalked given mentioned →

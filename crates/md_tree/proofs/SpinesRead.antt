@@ -164,10 +164,6 @@ pub record EndsHeld (stage : Stage) (symbols : List Symbol) : Type 0 where
   pub parts : symbols ≡ before ++ group
   pub held : IsHeld stage group
 
-held_step_whole : (items left : List Item) (next : Stage) (symbol : Symbol) (read : List Symbol) →
-    spot_after items Whole symbol ≡ Some (At left next) → EndsHeld next (read ++ symbol ∷ [])
-held_step_whole items left next symbol read e = grind arith
-
 held_step_inside :
     (items left : List Item) (stage next : Stage) (symbol : Symbol) (read : List Symbol) →
     option_map (λ st. At items st) (next_stage stage symbol) ≡ Some (At left next) →
@@ -185,19 +181,13 @@ held_step_inside items left stage next symbol read e ends =
 held_step : (stage : Stage) (items left : List Item) (next : Stage) (symbol : Symbol)
     (read : List Symbol) → spot_after items stage symbol ≡ Some (At left next) →
     EndsHeld stage read → EndsHeld next (read ++ symbol ∷ [])
-held_step Whole items left next symbol read e ends = held_step_whole items left next symbol read e
+held_step Whole items left next symbol read e ends = grind arith
 held_step stage items left next symbol read e ends =
     held_step_inside items left stage next symbol read e ends
 
 held_all : (items left : List Item) (stage last : Stage) (symbols read : List Symbol) →
     Goes items stage symbols (At left last) → EndsHeld stage read → EndsHeld last (read ++ symbols)
-held_all items left stage last [] read g ends =
-    record {
-      before = ends.before;
-      group = ends.group;
-      parts = append-nil read ∙ ends.parts;
-      held = rw (at_items g).1 at ends.held;
-    }
+held_all items left stage last [] read g ends = grind (arith, append-nil, at_items)
 held_all items left stage last (symbol ∷ symbols) read g ends =
     rw (append_assoc read (symbol ∷ []) symbols) at
     (held_all g.0 left g.1 last symbols _ g.3 (held_step stage items g.0 g.1 symbol read g.2 ends))
