@@ -1,10 +1,10 @@
 -- A node that matches the pattern of a role may occur in each node with that role: by computing
 -- over the patterns, once for each name. The proof that documents are built so depends on it.
 use denote.Enum.Bare.{sameb}
-use Rattle.std.proofs.Common.{◌≡◌, ℕ, zero, suc, Bool, true, false, ◌&&◌, List, []}
-use Rattle.std.proofs.Common.{◌∷◌, ◌++◌, length, replicate, refl, arith}
+use Rattle.std.proofs.Common.{◌≡◌, ℕ, zero, suc, Bool, true, false, ◌&&◌, List, [], ◌∷◌, ◌++◌}
+use Rattle.std.proofs.Common.{length, replicate, refl, arith}
 use Rattle.std.specs.List.{list_all, list_any}
-use Rattle.std.proofs.lemmas.Bool.{and_parts, and_from, or_cases}
+use Rattle.std.proofs.lemmas.Bool.{or_cases, and_parts, and_from}
 use Rattle.md_base.proofs.Lies.{lie}
 use Rattle.md_pattern.specs.contracts.kinds.Symbol.{the_type}
 use Rattle.md_pattern.specs.declared.kinds.Symbol.{Symbol}
@@ -16,14 +16,15 @@ use Rattle.md_pattern.specs.declared.kinds.Item.{Item}
 use Rattle.md_pattern.specs.declared.kinds.Item.TheVariants.{Once, Maybe, Many}
 use Rattle.md_pattern.specs.Pattern.{members, class_of, takes, pattern_of, Fits, IsCount}
 use Rattle.md_pattern.specs.Spine.{IsTail, IsGrouped, Matches}
-use Rattle.md_content.specs.Built.{Content, Blocks}
+use Rattle.md_content.specs.Built.{Content, Blocks, Chunks}
 use Rattle.md_content.proofs.Symbols.{may_show, past, admits, keeps, item_admits, pattern_admits}
 use Rattle.md_content.proofs.Tails.{each-tail}
 
 -- what may stand at the beginning may stand after others
 may_show-earlier : (content : Content) (symbol : Symbol) → may_show false content symbol ≡ true →
     may_show true content symbol ≡ true
-may_show-earlier content symbol h = grind arith
+may_show-earlier Chunks symbol h = lie h
+may_show-earlier _ symbol h = h
 
 pub shown_earlier : (earlier : Bool) (content : Content) (symbol : Symbol) →
     may_show earlier content symbol ≡ true →
@@ -60,8 +61,13 @@ one : (class : Class) (left : Bool → Content → Bool) (others own : List Symb
     admits earlier content (own ++ others) ≡ true
 one class left others [] rest count own_taken earlier content h = absurd (omega arith)
 one class left others (symbol ∷ []) rest count own_taken earlier content h =
-    grind (arith, taken, and_parts, and_from)
-one class left others (symbol ∷ another ∷ own) rest count own_taken earlier content h = grind arith
+    let here = taken (one_admits left earlier content) (members class) symbol
+    (and_parts _ _ own_taken).0 h in
+    let parts = and_parts _ _ here in
+    and_from _ _ parts.0
+    (rest true (past content symbol) parts.1)
+one class left others (symbol ∷ another ∷ own) rest count own_taken earlier content h =
+    absurd (omega arith)
 
 abbrev pub stays : Bool → Content → Symbol → Bool
 stays earlier content member = may_show earlier content member && keeps content

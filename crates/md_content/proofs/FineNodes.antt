@@ -1,5 +1,5 @@
 -- A node that has its shape and meets the rules.
-use Rattle.std.proofs.Common.{arith, ℕ, Option, List}
+use Rattle.std.proofs.Common.{ℕ, Option, List, arith}
 use Rattle.md_pattern.specs.declared.kinds.Symbol.{Symbol}
 use Rattle.md_pattern.specs.declared.kinds.Role.{Role}
 use Rattle.md_base.specs.Tree.{Forest, Empty, Node}

@@ -1,7 +1,7 @@
 -- The first node on a spine whose pattern begins with a symbol that occurs once: so a heading's
 -- mark, a fence and a label are found where the meaning looks for them.
-use Rattle.std.proofs.Common.{arith, ◌≡◌, Bool, true, false, Option, Some, None, List, [], ◌∷◌}
-use Rattle.std.proofs.Common.{if◌then◌else◌, ap, ◌∙◌, subst}
+use Rattle.std.proofs.Common.{◌≡◌, Bool, true, false, Option, Some, None, List, [], ◌∷◌}
+use Rattle.std.proofs.Common.{if◌then◌else◌, ap, ◌∙◌, subst, arith}
 use Rattle.md_base.specs.declared.event.Name.{Name}
 use Rattle.md_base.specs.declared.event.Point.{Point}
 use Rattle.md_pattern.specs.declared.kinds.Symbol.{Symbol}

@@ -1,5 +1,5 @@
 -- Grammar and meaning have the same identifiers of definitions and of footnote definitions.
-use Rattle.std.proofs.Common.{arith, ◌≡◌, ℕ, Bool, Option, List, [], ◌∷◌, ◌++◌, refl, ap, ◌∙◌}
+use Rattle.std.proofs.Common.{◌≡◌, ℕ, Bool, Option, List, [], ◌∷◌, ◌++◌, refl, ap, ◌∙◌, arith}
 use Rattle.std.specs.Prelude.{map, unwrap_or}
 use Rattle.std.proofs.lemmas.List.{map-append}
 use Rattle.md_base.specs.declared.event.Name.{Name}

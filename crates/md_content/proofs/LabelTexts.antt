@@ -1,9 +1,12 @@
 -- Labels: what leaves no target, and what a label leaves, the place of its text.
-use Rattle.std.proofs.Common.{◌≡◌, ◌≤◌, Bool, true, false, ◌&&◌, Option, Some, None, List, []}
-use Rattle.std.proofs.Common.{◌∷◌, ◌++◌, refl, ap, ◌∙◌, subst, length, arith, append-nil}
+use Rattle.std.proofs.Common.{◌≡◌, ◌≤◌, Bool, true, false, ◌&&◌, Option, Some, None, List, [], ◌∷◌}
+use Rattle.std.proofs.Common.{◌++◌, refl, ap, ◌∙◌, subst, length, arith, append-nil}
 use Rattle.std.specs.Prelude.{if◌then◌else◌}
 use Rattle.std.specs.List.{list_all}
+use Rattle.std.specs.Option.{option_map_or}
 use Rattle.std.proofs.lemmas.Bool.{and_parts, and_from}
+use Rattle.md_base.specs.declared.event.Name.{Name}
+use Rattle.md_base.specs.declared.event.Name.TheVariants as name
 use Rattle.md_base.specs.declared.event.Position.{Position}
 use Rattle.md_pattern.specs.declared.kinds.Symbol.{Symbol}
 use Rattle.md_pattern.specs.declared.kinds.Symbol.TheVariants as symbol
@@ -15,6 +18,7 @@ use Rattle.md_pattern.specs.declared.kinds.Role.TheVariants as role
 use Rattle.md_tree.specs.declared.mention.Referral.{Referral}
 use Rattle.md_tree.specs.declared.mention.Referral.TheVariants.{Missing, Label}
 use Rattle.md_base.specs.Tree.{Forest}
+use Rattle.md_pattern.specs.Standing.{standing_of}
 use Rattle.md_pattern.specs.Pattern.{takes, pattern_of, Fits}
 use Rattle.md_pattern.specs.Spine.{spine, IsGrouped, Matches}
 use Rattle.md_pattern.specs.Shape.{Claim, IsShapedNode, AreShaped, label_in}
@@ -22,6 +26,7 @@ use Rattle.md_tree.specs.Rules.{place, target_of}
 use Rattle.md_base.specs.NameTests.{is_label_text}
 use Rattle.md_meaning.specs.Places.{position, text_in_label}
 use Rattle.md_content.specs.References.{label_target}
+use Rattle.md_content.proofs.SymbolNames.{symbol_in}
 use Rattle.md_content.proofs.Stands.{Stand, stands, seen_of, spine-stands, target_by, sought, Stood}
 use Rattle.md_content.proofs.Stands.{EachStood, each-stood, target-stands, first_seen, first-stands}
 use Rattle.md_content.proofs.Letters.{letters, fits-all, own-all, tail-all, followed-all}
@@ -47,14 +52,17 @@ is_neutral _ = true
 symbol-told : (seen : Symbol) (found inner : Referral) (there : Position) →
     ((if is_neutral seen then target_by seen found inner there else found) ≡ found)
     × ((if is_text seen then target_by seen found inner there else Label there) ≡ Label there)
-symbol-told seen found inner there = grind arith
+symbol-told symbol.Text found inner there = (refl, refl)
+symbol-told _ found inner there = (refl, refl)
 
 sought-neutral : (nodes : List Stand) (found : Referral) →
     list_all is_neutral (seen_of nodes) ≡ true →
     sought nodes found ≡ found
 sought-neutral [] found h = refl
 sought-neutral (node ∷ nodes) found h =
-    grind (arith, symbol-told, sought-neutral nodes)
+    let there = place node.start node.end in
+    let told = symbol-told node.seen found (target_of node.children Missing) there in
+    grind (arith, told.0, sought-neutral nodes)
 
 grouped-neutral : (firsts spine : List Symbol) → list_all is_neutral firsts ≡ true →
     IsGrouped firsts spine → list_all is_neutral spine ≡ true
@@ -76,9 +84,13 @@ has_one_text [] = true
 has_one_text (seen ∷ others) = if is_text seen then list_all is_neutral others else is_neutral seen
     && has_one_text others
 
+text-agree : (n : Name) → is_label_text n ≡ option_map_or is_text (symbol_in (standing_of n)) false
+text-agree name.LabelText = refl
+text-agree _ = refl
+
 pub text-named : {holds : Claim} {around : Role} {before : Option Symbol} (node : Stand) →
     Stood holds around before node → is_label_text node.name ≡ is_text node.seen
-text-named node stood = grind arith
+text-named node stood = text-agree node.name ∙ ap (λ o. option_map_or is_text o false) stood.shows
 
 abbrev pub text_seen : List Stand → Option Position
 text_seen nodes = first_seen is_label_text position nodes
@@ -88,19 +100,30 @@ text-sought : (around : Role) (before : Option Symbol) (nodes : List Stand) →
     sought nodes Missing ≡ label_target (text_seen nodes)
 text-sought around before [] stood h = refl
 text-sought around before (node ∷ nodes) stood h =
+    let there = place node.start node.end in
+    let told = symbol-told node.seen Missing (target_of node.children Missing) there in
     grind (
       arith,
-      symbol-told,
-      text-named,
-      sought-neutral,
-      text-sought around (Some node.seen) nodes,
+      text-named node stood.0,
+      told.0,
+      told.1,
+      sought-neutral nodes (Label there),
+      text-sought around (Some node.seen) nodes stood.1,
     )
+
+neutral-no_text : (seen : Symbol) → (if is_neutral seen then is_text seen else false) ≡ false
+neutral-no_text symbol.Text = refl
+neutral-no_text _ = refl
 
 one_text-append : (symbols others : List Symbol) → list_all is_neutral symbols ≡ true →
     has_one_text others ≡ true →
     has_one_text (symbols ++ others) ≡ true
 one_text-append [] others h g = g
-one_text-append (seen ∷ symbols) others h g = grind (arith, one_text-append symbols)
+one_text-append (seen ∷ symbols) others h g =
+    let later : has_one_text (symbols ++ others) ≡ true =
+    one_text-append symbols others
+    (and_parts (is_neutral seen) (list_all is_neutral symbols) h).1 g in
+    grind (arith, neutral-no_text seen)
 
 -- so has a spine whose groups begin so
 one-text : (firsts spine : List Symbol) → has_one_text firsts ≡ true → IsGrouped firsts spine →

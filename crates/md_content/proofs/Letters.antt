@@ -2,16 +2,16 @@
 -- node with that role. So a test on symbols is computed over the patterns, and applies to every
 -- spine.
 use Rattle.md_content.proofs.Tails.{each-tail}
-use Rattle.std.proofs.Common.{arith, ◌≡◌, ℕ, zero, suc, Bool, true, List, [], ◌∷◌, ◌++◌}
-use Rattle.std.proofs.Common.{refl, sym, subst}
+use Rattle.std.proofs.Common.{arith, ◌≡◌, ℕ, zero, suc, Bool, true, List, [], ◌∷◌, ◌++◌, refl, sym}
+use Rattle.std.proofs.Common.{subst}
 use Rattle.std.specs.Prelude.{replicate}
 use Rattle.std.specs.List.{list_all}
 use Rattle.std.proofs.lemmas.Bool.{and_parts, and_from}
 use Rattle.std.proofs.lemmas.List.Folds.{list_all-append}
 use Rattle.md_pattern.specs.declared.kinds.Symbol.{Symbol}
 use Rattle.md_pattern.specs.declared.kinds.Symbol.TheVariants as symbol_variants
-use symbol_variants.{ReferenceNumeric, ReferenceHexadecimal, ReferenceValue}
-use symbol_variants.{SetextUnderline, LineEnding}
+use symbol_variants.{ReferenceNumeric, ReferenceHexadecimal, ReferenceValue, SetextUnderline}
+use symbol_variants.{LineEnding}
 use Rattle.md_pattern.specs.declared.kinds.Item.{Item}
 use Rattle.md_pattern.specs.declared.kinds.Class.{Class}
 use Rattle.md_pattern.specs.Pattern.{Fits, members, class_of, takes}

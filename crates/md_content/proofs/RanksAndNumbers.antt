@@ -1,6 +1,6 @@
 -- In nodes that meet the rules a heading's mark has a rank, and a list's number has only digits.
-use Rattle.std.proofs.Common.{◌≡◌, ℕ, ◌≤◌, Bool, true, if◌then◌else◌, Option, Some, None}
-use Rattle.std.proofs.Common.{List, [], ◌∷◌, ◌++◌, length, refl, sym, subst, arith}
+use Rattle.std.proofs.Common.{◌≡◌, ℕ, ◌≤◌, Bool, true, if◌then◌else◌, Option, Some, None, List, []}
+use Rattle.std.proofs.Common.{◌∷◌, ◌++◌, length, refl, sym, subst, arith}
 use Rattle.std.specs.Prelude.{nat_lt, unwrap_or}
 use Rattle.std.specs.Char.{digit_value}
 use Rattle.std.specs.Option.{option_map_or}
@@ -25,8 +25,8 @@ use Rattle.md_meaning.specs.Meaning.At.{text_in}
 use Rattle.md_meaning.specs.Meaning.Finds.{first_named, in_first_named, number_in_list}
 use Rattle.md_content.specs.Built.{is_digit, rank_in}
 use Rattle.md_content.proofs.FineNodes.{IsFine, AreFine, shaped}
-use Rattle.md_content.proofs.Stands.{Stand, stands, seen_of, spine-stands, EachStood}
-use Rattle.md_content.proofs.Stands.{each-stood, first_seen, first-stands, none_left}
+use Rattle.md_content.proofs.Stands.{Stand, stands, seen_of, spine-stands, EachStood, each-stood}
+use Rattle.md_content.proofs.Stands.{first_seen, first-stands, none_left}
 use Rattle.md_pattern.specs.declared.kinds.Item.{Item}
 use Rattle.md_content.proofs.Heads.{Head, head_of, head, head-found}
 

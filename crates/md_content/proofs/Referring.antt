@@ -1,7 +1,7 @@
 -- What links, images and calls refer by is the same in the grammar, which takes the last label on a
 -- spine, and in the meaning, which looks for one by name.
-use Rattle.std.proofs.Common.{◌≡◌, ◌≤◌, ◌⊎◌, inl, inr, true, Option, None, List, []}
-use Rattle.std.proofs.Common.{◌∷◌, ◌++◌, refl, sym, ap, ◌∙◌, subst, length, arith, append-nil}
+use Rattle.std.proofs.Common.{◌≡◌, ◌≤◌, ◌⊎◌, inl, inr, true, Option, None, List, [], ◌∷◌, ◌++◌}
+use Rattle.std.proofs.Common.{refl, sym, ap, ◌∙◌, subst, length, arith, append-nil}
 use Rattle.std.specs.Prelude.{if◌then◌else◌, unwrap_or, is_some, Some}
 use Rattle.std.specs.List.{list_all}
 use Rattle.md_base.proofs.Lies.{lie}
@@ -23,8 +23,8 @@ use Rattle.md_base.specs.Children.{first_on_spine}
 use Rattle.md_meaning.specs.Places.{position, text_in_label}
 use Rattle.md_content.specs.Labels.{label_in_node, referring_in}
 use Rattle.md_content.specs.References.{label_target}
-use Rattle.md_content.proofs.Stands.{Stand, stands, seen_of, sought, target-stands}
-use Rattle.md_content.proofs.Stands.{EachStood, first_seen, first-stands}
+use Rattle.md_content.proofs.Stands.{Stand, stands, seen_of, sought, target-stands, EachStood}
+use Rattle.md_content.proofs.Stands.{first_seen, first-stands}
 use Rattle.md_content.proofs.Heads.{Head, head, head-found}
 use Rattle.md_content.proofs.LabelTexts.{head-leaves, label-leaves}
 

@@ -1,7 +1,7 @@
 -- A node, its content and what follows it: what is allowed there, from the spine that it belongs
 -- to.
-use Rattle.std.proofs.Common.{arith, ◌≡◌, Bool, true, false, ◌||◌, cond, Option, Some}
-use Rattle.std.proofs.Common.{is_some, List, [], ◌∷◌, ◌++◌, refl, ap, ◌∙◌}
+use Rattle.std.proofs.Common.{arith, ◌≡◌, Bool, true, false, ◌||◌, cond, Option, Some, is_some}
+use Rattle.std.proofs.Common.{List, [], ◌∷◌, ◌++◌, refl, ap, ◌∙◌}
 use Rattle.std.specs.List.{list_all}
 use Rattle.std.proofs.lemmas.Bool.{and_parts}
 use Rattle.md_base.specs.declared.event.Name.{Name}
@@ -16,8 +16,8 @@ use Rattle.md_pattern.specs.Pattern.{pattern_of}
 use Rattle.md_pattern.specs.Spine.{spine, shown}
 use Rattle.md_pattern.specs.Shape.{AreShaped, IsStanding, role_for, inner_before, last_symbol}
 use Rattle.md_base.specs.NameTests.{is_transparent}
-use Rattle.md_content.specs.Built.{Content, may_stand, content_of, content_inside}
-use Rattle.md_content.specs.Built.{content_after, content_after_node}
+use Rattle.md_content.specs.Built.{Content, may_stand, content_of, content_inside, content_after}
+use Rattle.md_content.specs.Built.{content_after_node}
 use Rattle.md_content.proofs.SymbolNames.{is_through}
 use Rattle.md_content.proofs.Symbols.{may_show, past, admits, pattern_admits, roles_for, implies}
 use Rattle.md_content.proofs.Symbols.{Behaves, behaves}

@@ -1,18 +1,18 @@
 -- The nodes on a spine as a list: facts about a spine are stated for this list, which is easier to
 -- iterate over than the tree.
-use Rattle.std.proofs.Common.{arith, ◌≡◌, ℕ, Bool, false, Option, Some, None, List, [], ◌∷◌}
-use Rattle.std.proofs.Common.{◌++◌, refl}
+use Rattle.std.proofs.Common.{arith, ◌≡◌, ℕ, Bool, false, cond, Option, Some, None, List, [], ◌∷◌}
+use Rattle.std.proofs.Common.{◌++◌, refl, ap}
 use Rattle.std.specs.Prelude.{map, if◌then◌else◌}
 use Rattle.std.proofs.lemmas.List.{map-append}
 use Rattle.md_base.specs.declared.event.Name.{Name}
-use Rattle.md_base.specs.declared.event.Name.TheVariants.{BlockQuotePrefix, SpaceOrTab, Other}
+use Rattle.md_base.specs.declared.event.Name.TheVariants.{Data, BlockQuotePrefix, SpaceOrTab, Other}
 use Rattle.md_base.specs.declared.event.Point.{Point}
 use Rattle.md_base.specs.declared.event.Position.{Position}
 use Rattle.md_pattern.specs.declared.kinds.Symbol.{Symbol}
 use Rattle.md_pattern.specs.declared.kinds.Symbol.TheVariants as symbol
 use Rattle.md_pattern.specs.declared.kinds.Role.{Role}
 use Rattle.md_pattern.specs.declared.kinds.Standing.{Standing}
-use Rattle.md_pattern.specs.declared.kinds.Standing.TheVariants.{Through, Solid}
+use Rattle.md_pattern.specs.declared.kinds.Standing.TheVariants.{Through, Space, Solid, Mdx}
 use Rattle.md_tree.specs.declared.mention.Referral.{Referral}
 use Rattle.md_tree.specs.declared.mention.Referral.TheVariants.{Missing, Label, Resource}
 use Rattle.md_base.specs.Tree.{Forest, Empty, Node}
@@ -65,7 +65,11 @@ symbols_here standing name start end children inner = grind arith
 pub spine-stands : (forest : Forest) → spine forest ≡ seen_of (stands forest)
 spine-stands Empty = refl
 spine-stands (Node name start end children rest) =
-    grind (arith, symbols_here, map-append, spine-stands children, spine-stands rest)
+    rw (
+      symbols_here (standing_of name) name start end children (spine-stands children),
+      spine-stands rest,
+      map-append,
+    ) refl
 
 -- ---- a claim that holds for each node
 pub record Stood (holds : Claim) (around : Role) (before : Option Symbol) (node : Stand) : Type 0
@@ -124,7 +128,8 @@ leaves_by _ found inner there = found
 leaves : (name : Name) (found : Referral) (inner : Referral → Referral) (there : Position) →
     target_after (standing_of name) found inner there
     ≡ leaves_by (standing_of name) found inner there
-leaves name found inner there = grind arith
+leaves Data found inner there = refl
+leaves _ found inner there = refl
 
 -- the target after nodes, in sequence
 abbrev pub sought : List Stand → Referral → Referral
@@ -145,11 +150,27 @@ target-stands (Node name start end children rest) found =
     grind (arith, leaves, sought-append, target-stands children, target-stands rest)
 
 -- ---- their names
+names_here : (standing : Standing) (name : Name) (start end : Point) (children : Forest)
+    (around : Role) (before : Option Symbol) → IsStanding standing around before children →
+    spine_names children ≡ map (λ node. node.name) (stands children) →
+    cond (is_through standing) (spine_names children) (name ∷ [])
+    ≡ map (λ node. node.name) (stand_here standing name start end children (stands children))
+names_here Through name start end children around before is inner = inner
+names_here Space name start end children around before is inner = ap spine_names is
+names_here (Solid seen usual reading) name start end children around before is inner = refl
+names_here Mdx name start end children around before is inner = absurd is
+
 pub names-stand : (forest : Forest) (around : Role) (before : Option Symbol) →
     AreShaped forest around before → spine_names forest ≡ map (λ node. node.name) (stands forest)
 names-stand Empty around before shaped = refl
 names-stand (Node name start end children rest) around before shaped =
-    grind (arith, transparent, map-append, names-stand children, names-stand rest)
+    rw (
+      transparent name,
+      names_here (standing_of name) name start end children around before
+          shaped.0.1 (names-stand children _ _ shaped.1),
+      names-stand rest _ _ shaped.2,
+      map-append,
+    ) refl
 
 -- ---- the first whose name passes a test, which no transparent one does
 abbrev pub IsSolid : (Name → Bool) → Type 0

@@ -1,6 +1,6 @@
 -- A name for each symbol, which stands for all names that have it, and how a name stands on a
 -- spine.
-use Rattle.std.proofs.Common.{arith, ◌≡◌, Bool, true, false, if◌then◌else◌, Option, Some, None}
+use Rattle.std.proofs.Common.{◌≡◌, Bool, true, false, if◌then◌else◌, Option, Some, None, refl}
 use Rattle.md_base.specs.declared.event.Name.{Name}
 use Rattle.md_base.specs.declared.event.Name.TheVariants as name
 use Rattle.md_pattern.specs.declared.kinds.Symbol.{Symbol}
@@ -81,10 +81,12 @@ known_name (Solid seen usual reading) n = if is_shared seen then n else name_of 
 known_name _ n = n
 
 pub name-known : (n : Name) → known_name (standing_of n) n ≡ n
-name-known n = grind arith
+name-known name.Data = refl
+name-known _ = refl
 
 abbrev pub is_through : Standing → Bool
 is_through standing = elim standing [ Through ↦ true | Space ↦ true | _ ↦ false ]
 
 pub transparent : (n : Name) → is_transparent n ≡ is_through (standing_of n)
-transparent n = grind arith
+transparent name.Data = refl
+transparent _ = refl

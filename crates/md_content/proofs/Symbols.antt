@@ -1,6 +1,6 @@
 -- What may stand where, by the symbols of the grammar instead of by names, and that both say the
 -- same.
-use Rattle.std.proofs.Common.{arith, ◌≡◌, Bool, true, false, ◌&&◌, List, [], ◌∷◌}
+use Rattle.std.proofs.Common.{◌≡◌, Bool, true, false, ◌&&◌, List, [], ◌∷◌, arith}
 use Rattle.std.specs.List.{list_all}
 use Rattle.md_base.specs.declared.event.Name.{Name}
 use Rattle.md_pattern.specs.declared.kinds.Symbol.{Symbol}

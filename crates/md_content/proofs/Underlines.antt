@@ -4,13 +4,16 @@ use Rattle.std.proofs.Common.{arith, ◌≡◌, ℕ, zero, suc, Bool, true, fals
 use Rattle.std.proofs.Common.{◌∷◌, ◌++◌, refl, sym, ap, subst, ◌∙◌, Option, None}
 use Rattle.std.specs.Prelude.{replicate}
 use Rattle.std.specs.List.{list_all}
+use Rattle.md_base.proofs.Lies.{lie}
 use Rattle.md_base.specs.declared.event.Name.{Name}
+use Rattle.md_base.specs.declared.event.Name.TheVariants as name_variants
+use name_variants.{SpaceOrTab}
 use Rattle.md_base.specs.Tree.{Forest, Empty, Node}
 use Rattle.md_base.specs.NameTests.{is_transparent}
 use Rattle.md_base.specs.Children.{spine_names}
 use Rattle.md_pattern.specs.declared.kinds.Symbol.{Symbol}
-use Rattle.md_pattern.specs.declared.kinds.Symbol.TheVariants.{SetextText}
-use Rattle.md_pattern.specs.declared.kinds.Symbol.TheVariants.{SetextUnderline, LineEnding}
+use Rattle.md_pattern.specs.declared.kinds.Symbol.TheVariants.{SetextText, SetextUnderline}
+use Rattle.md_pattern.specs.declared.kinds.Symbol.TheVariants.{LineEnding}
 use Rattle.md_pattern.specs.declared.kinds.Role.{Role}
 use Rattle.md_pattern.specs.declared.kinds.Role.TheVariants as role
 use Rattle.md_pattern.specs.Standing.{standing_of}
@@ -19,7 +22,7 @@ use Rattle.md_pattern.specs.Shape.{AreShaped, IsStanding, inner_role}
 use Rattle.md_tree.specs.Grammar.{IsGrammatical}
 use Rattle.md_content.specs.Underlined.{is_underline, waits_past, waits_after, IsUnderlined}
 use Rattle.md_content.proofs.SymbolNames.{is_through, transparent}
-use Rattle.md_content.proofs.Tails.{each-tail}
+use Rattle.md_content.proofs.Tails.{is_lone, each-tail}
 use Rattle.md_content.proofs.Stands.{spine-stands, names-stand, none_left}
 use Rattle.md_pattern.specs.declared.kinds.Standing.{Standing}
 use Rattle.md_pattern.specs.declared.kinds.Standing.TheVariants.{Through, Space, Solid, Mdx}
@@ -66,7 +69,18 @@ no_underline _ = true
 tail-underlined : (others : List Symbol) → ((waits : Bool) → underlined waits others ≡ true) →
     (first : Symbol) (tail : List Symbol) → IsTail first tail → no_underline first ≡ true →
     (waits : Bool) → underlined waits (first ∷ tail ++ others) ≡ true
-tail-underlined others h = grind (arith, each-tail, endings-underlined)
+tail-underlined others h =
+    each-tail (λ first tail. no_underline first ≡ true → (waits : Bool) →
+    underlined waits (first ∷ tail ++ others) ≡ true)
+    (λ may waits. h false) (λ may waits. h false) (λ may waits. h false)
+    (λ endings may waits. endings-underlined endings others (h false)) alone
+  where
+    alone : (first : Symbol) → is_lone first ≡ true → no_underline first ≡ true → (waits : Bool) →
+        underlined waits (first ∷ others) ≡ true
+    alone SetextText lone may waits = lie lone
+    alone SetextUnderline lone may waits = lie may
+    alone LineEnding lone may waits = h waits
+    alone _ lone may waits = h false
 
 grouped-underlined : (firsts spine : List Symbol) → IsGrouped firsts spine →
     list_all no_underline firsts ≡ true →
@@ -87,7 +101,8 @@ node-waits :
     waits_after waits children ≡ waits_after_symbols waits (spine children)
     → cond (is_transparent name) (waits_after waits children) (waits_past waits name)
     ≡ waits_after_symbols waits (shown (standing_of name) (spine children))
-node-waits name children around before waits is same = grind arith
+node-waits SpaceOrTab children around before waits is same = ap (λ f. waits_after waits f) is
+node-waits _ children around before waits is same = grind arith
 
 -- and after some nodes as after their spine
 same-waits : (forest : Forest) (around : Role) (before : Option Symbol) (waits : Bool) →

@@ -1,33 +1,26 @@
 -- What a check may say of a list of events: why each refusal is one, and that a list that passes is
 -- of the grammar. The contracts of `check` and of `Reader` follow from it. First what follows of a
--- list of events from a node that breaks a rule, and from how a walk ends: something is left open,
--- or a whole document was read.
-use Rattle.std.proofs.Common.{arith, true≢false, ◌≡◌, ◌≢◌, ◌⊎◌, inl, inr, ℕ, zero, suc, Bool, true}
-use Rattle.std.proofs.Common.{false, Option, Some, None, List, [], ◌∷◌, ◌++◌, drop, refl, sym, ap}
-use Rattle.std.proofs.Common.{◌∙◌, subst, append_assoc, rules, ◌<◌, length, take, get_or}
-use Rattle.md_tree.proofs.Common.{list_all, Point, Name, Event, Flow, Standing, Referral, Missing}
-use Rattle.md_tree.proofs.Common.{Mentioned, Rule, State, Open, Outer, Forest, Empty, Node}
-use Rattle.md_tree.proofs.Common.{flatten, exiting, standing_of, spine, pattern_of, IsShaped}
-use Rattle.md_tree.proofs.Common.{AreShaped, broken_rule, reading_of, MeetRules, target_of, Handed}
-use Rattle.md_tree.proofs.Common.{IsGrammatical, IsReadAs, IsChecked, Level, symbol_after}
-use Rattle.md_tree.proofs.Common.{EndsInGroup, EndsBroken, is_complete, is_whole, is_optional}
-use Rattle.md_tree.proofs.Common.{start_of, Reads, Course, Runs, Exits, ExitsWhere, after_exit}
-use Rattle.md_tree.proofs.Common.{entered_on, beginning, Unbroken, BreaksWhere, BreaksAtExit}
-use Rattle.md_tree.proofs.Common.{mentions_of, map, slice_get, All, take-suc, slice_get_within}
-use Rattle.md_tree.proofs.Common.{get_or_from_slice_get, Data, Mention, CompileError}
-use Rattle.md_tree.proofs.Common.{mentions_among, IsResolved, IsRefusal, Steps, IsUnresolvedBy}
-use Rattle.md_tree.proofs.Common.{IsUnresolved, facts_at, numbered, number_for, facts_with}
+-- list of events from how a walk ends: something is left open, or a whole document was read.
+use Rattle.std.proofs.Common.{arith, ◌≡◌, ◌≢◌, ◌⊎◌, inl, inr, ℕ, zero, suc, Bool, true, false, Some}
+use Rattle.std.proofs.Common.{None, List, [], ◌∷◌, drop, refl, sym, ap, ◌∙◌, subst, rules, ◌<◌}
+use Rattle.std.proofs.Common.{length, take, get_or}
+use Rattle.md_tree.proofs.Common.{list_all, Event, Flow, Referral, Mentioned, Rule, State, Open}
+use Rattle.md_tree.proofs.Common.{Forest, flatten, spine, pattern_of, IsShaped, MeetRules, Handed}
+use Rattle.md_tree.proofs.Common.{IsGrammatical, IsReadAs, IsChecked, Level, EndsInGroup}
+use Rattle.md_tree.proofs.Common.{is_complete, is_whole, is_optional, start_of, Reads, Course, Runs}
+use Rattle.md_tree.proofs.Common.{beginning, Unbroken, mentions_of, map, slice_get, All, take-suc}
+use Rattle.md_tree.proofs.Common.{slice_get_within, get_or_from_slice_get, Data, Mention}
+use Rattle.md_tree.proofs.Common.{CompileError, mentions_among, IsResolved, IsRefusal, Steps}
+use Rattle.md_tree.proofs.Common.{IsUnresolvedBy, IsUnresolved, facts_at, numbered, number_for}
+use Rattle.md_tree.proofs.Common.{facts_with}
 use Rattle.md_tree.specs.Refusal.{Begins, LeaveOpen, EndsUnresolved}
-use Rattle.md_tree.specs.Walk.{Broken}
 use Rattle.md_tree.proofs.Listing.{listed, mentions_over-listed, resolved-listed, all-resolved}
 use Rattle.md_tree.proofs.Listing.{got-listed, numbered-listed}
 use Rattle.md_tree.proofs.Patterns.{and_both}
-use Rattle.md_tree.proofs.Spots.{EndsInGroup-feeds}
+use Rattle.md_tree.proofs.SpinesRead.{EndsInGroup-feeds}
 use Rattle.md_tree.proofs.NodesRead.{Feeds-context, Runs-append}
 use Rattle.md_tree.proofs.Completing.{IsDone-runs, BeginTree-runs}
 use Rattle.md_tree.proofs.OpenPaths.{path_none, Stands, Stands-context, Reached}
-use Rattle.md_tree.proofs.Paths.{Reached-left, Left-closed, Left-inner}
-use Rattle.md_tree.proofs.ClosedNodes.{Closed}
 use Rattle.md_tree.proofs.NodeClaims.{fine_shaped, fine_meets, fine_path_shaped}
 use Rattle.md_tree.proofs.Verdicts.{Runs-same, Runs-checked, Reached-runs}
 use Rattle.md_tree.specs.declared.rule.Rule.TheVariants as rule
@@ -35,83 +28,6 @@ use Rattle.md_tree.specs.declared.rule.CompileError.TheVariants as error
 use Rattle.md_tree.specs.Resolve.{RefersNowhere}
 use Rattle.md_tree.proofs.OneTree.{flatten_one}
 use Rattle.md_tree.proofs.LeastNodes.{somewhere}
-
--- ---- a node that breaks a rule
-
-module _ (bytes : List ℕ) (names : List (List ℕ × List ℕ)) (broken : Rule) where
-  exits_broken_where : (outer : Option Outer) (start point : Point) (others : List Open)
-      (course : Course) → BreaksWhere bytes names broken outer start point course →
-      (next : Course) × ExitsWhere (Broken bytes names broken) outer start point others course next
-  exits_broken_where None start point others course breaks = absurd breaks
-  exits_broken_where (Some outer) start point others course breaks =
-      (after_exit outer start point others course, (breaks.0, breaks.1, refl))
-
-  exits_broken : (opens : List Open) (name : Name)
-      (point : Point) (course : Course) → BreaksAtExit bytes names broken opens name point course →
-      (next : Course) × Exits (Broken bytes names broken) opens name point course next
-  exits_broken [] name point course breaks = absurd breaks
-  exits_broken (open_node ∷ others) name point course breaks =
-      let inside = exits_broken_where open_node.outer open_node.start point
-      others course breaks.1 in
-      (inside.0, (breaks.0, inside.1))
-
-  broken_there : (standing : Standing) (name : Name) (start end : Point) (children : Forest)
-      (here after base : State) (found inner target : Referral)
-      (waiting : Option Outer) (course : Course) → entered_on standing here found
-      ≡ Some (record { state = base; target = inner; outer = waiting }) →
-      BreaksWhere bytes names broken waiting start end course →
-      Closed (Broken bytes names broken) standing name start end children here after found target →
-      broken_rule bytes names (reading_of standing) here.role here.before start end
-      (target_of children Missing) ≡ Some broken
-  broken_there standing name start end children here after base found inner target
-      waiting course e breaks closed = grind arith
-
-  events_ended : (a c : List Event) (x y : Event) →
-      (((a ++ x ∷ []) ++ c) ++ y ∷ []) ≡ a ++ (x ∷ c ++ y ∷ [])
-  events_ended a c x y = append_assoc _ c (y ∷ []) ∙ append_assoc a (x ∷ []) _
-
-  -- the node that ends breaks the rule
-  pub EndsBroken-exit : (seen : List Event)
-      (name : Name) (point : Point) (course : Course) → Reached (Unbroken bytes names) seen course →
-      BreaksAtExit bytes names broken course.open_nodes name point course →
-      EndsBroken bytes names (seen ++ exiting name point ∷ []) broken
-  EndsBroken-exit seen name point course reached breaks =
-      let holds = Unbroken bytes names in
-      let ending = Broken bytes names broken in
-      let exits = exits_broken course.open_nodes name point course breaks in
-      let next = exits.0 in
-      let left = Reached-left ending name point next reached exits.1 in
-      let level = left.level in
-      let closed = Left-closed left in
-      let outer = Stands-context left.path left.others left.around left.found left.stands in
-      let context = Feeds-context left.around left.here (spine level.before) left.feeds in
-      let role_here = context.0 ∙ outer.0 in
-      let before_here = context.1 ∙ ap (λ b. symbol_after b level.before) outer.1 in
-      let node = Node level.name level.start point left.nodes Empty in
-      let inner = fine_shaped holds left.nodes _ _ (Left-inner left) in
-      let shaped_here : AreShaped node left.here.role left.here.before =
-      ((closed.apart, closed.shaped), inner, tt) in
-      let breaks_here = broken_there (standing_of level.name) level.name level.start point
-      left.nodes left.here next.state left.base (target_of level.before left.found) left.inner
-      next.target left.open_node.outer course left.entered_is
-      (rw left.start_is at
-      (subst (λ os. BreaksAtExit bytes names broken os name point course) left.opens_are breaks).1)
-      closed in
-      record {
-        path = left.path;
-        nodes = level.before;
-        name = level.name;
-        start = level.start;
-        end = point;
-        children = left.nodes;
-        events_are = ap (λ n. seen ++ exiting n point ∷ []) (sym left.name_is)
-            ∙ ap (λ es. es ++ exiting level.name point ∷ []) left.events_are ∙ events_ended _ _ _ _;
-        path_shaped = (fine_path_shaped holds (level ∷ left.path) left.path_fine).1;
-        nodes_shaped =
-            fine_shaped holds level.before _ _ left.path_fine.0;
-        shaped = rw (← role_here, ← before_here) shaped_here;
-        breaks = rw (← role_here, ← before_here) breaks_here;
-      }
 
 -- ---- the end
 
@@ -227,9 +143,7 @@ IsRefusal-undone given course runs undone = grind (arith, LeaveOpen-undone, Runs
 -- a document of the same events is the one that was read
 document_one : (given : Handed) (mentions : List Mentioned) (walked : IsWalked given mentions)
     (checked : IsChecked given) → checked.0 ≡ walked.forest
-document_one given mentions walked checked =
-    flatten_one Data somewhere checked.0 walked.forest
-    (IsReadAs.flattened checked.1 ∙ sym walked.flattened)
+document_one given mentions walked checked = grind (arith, flatten_one)
 
 -- an unresolved mention, among the mentions of the document
 module _ (given : Handed) (mentioned : List Mentioned) (index : ℕ) (mention : Mention)
@@ -285,9 +199,7 @@ refused_lost given mentioned index _ walked lost = absurd lost
 
 pub IsRefusal-lost : (given : Handed) (mentioned : List Mentioned) (refused : CompileError) →
     IsWalked given mentioned → IsUnresolved given.bytes mentioned refused → IsRefusal given refused
-IsRefusal-lost given mentioned error.Memory walked lost = search rules
-IsRefusal-lost given mentioned (error.Event index broken) walked lost =
-    refused_lost given mentioned index broken walked lost
+IsRefusal-lost given mentioned refused walked lost = grind (arith, refused_lost)
 
 -- ---- what passes
 pub IsChecked-walked : (given : Handed) (mentioned : List Mentioned) → IsWalked given mentioned →

@@ -1,12 +1,13 @@
 -- A node that ends is valid, and extends its parent's spine.
-use Rattle.std.proofs.Common.{arith, ◌≡◌, ◌≢◌, true, false, Option, Some, None, List, refl, sym, ap}
-use Rattle.std.proofs.Common.{◌∙◌, subst}
-use Rattle.md_tree.proofs.Common.{Point, Name, Symbol, Role, Childless, Reading, Free, Standing}
-use Rattle.md_tree.proofs.Common.{Through, Space, Solid, Referral, Missing, State, Entry, Open}
-use Rattle.md_tree.proofs.Common.{Outer, Forest, Empty, Node, spine, shown, EachNode, IsStanding}
-use Rattle.md_tree.proofs.Common.{role_for, place, target_at, target_after, target_of, may_hold}
-use Rattle.md_tree.proofs.Common.{start_of, Reads, Course, ExitsWhere, entered_on}
-use Rattle.md_tree.proofs.Spots.{Feeds, advance_role, option_map-some, matches_feeds}
+use Rattle.std.proofs.Common.{arith, ◌≡◌, ◌≢◌, true, false, Option, Some, List, refl, sym, ap, ◌∙◌}
+use Rattle.std.proofs.Common.{subst}
+use Rattle.md_tree.proofs.Common.{Point, Name, Symbol, Role, Childless, Reading, Standing, Through}
+use Rattle.md_tree.proofs.Common.{Solid, Referral, Missing, State, Entry, Open, Outer, Forest}
+use Rattle.md_tree.proofs.Common.{Empty, Node, spine, shown, EachNode, IsStanding, role_for, place}
+use Rattle.md_tree.proofs.Common.{target_at, target_after, target_of, may_hold, start_of, Reads}
+use Rattle.md_tree.proofs.Common.{Course, ExitsWhere, entered_on}
+use Rattle.md_tree.proofs.Spots.{Feeds, advance_role, option_map-some}
+use Rattle.md_tree.proofs.SpinesRead.{matches_feeds}
 use Rattle.md_tree.proofs.NodesRead.{IsReadWhere, IsFine}
 
 -- a node that ends is valid, and extends its parent's spine
@@ -25,11 +26,6 @@ nothing_inside : (holds : Reads) (children : Forest) (before : Option Symbol) �
     EachNode (IsFine holds) children Childless before → children ≡ Empty
 nothing_inside holds Empty before fine = refl
 nothing_inside holds (Node name start end children rest) before fine = absurd (fine.0.0.0 refl)
-
--- an entry's parts
-pub entry_is : (a b : Entry) → Some a ≡ Some b →
-    (a.state ≡ b.state) × (a.target ≡ b.target) × (a.outer ≡ b.outer)
-entry_is a b e = grind arith
 
 -- a node that ends, by how its name stands
 module _ (holds ending : Reads) (name : Name) (start end : Point) (children : Forest)
@@ -71,5 +67,4 @@ module _ (holds ending : Reads) (name : Name) (start end : Point) (children : Fo
       }
 
   pub closed : (standing : Standing) → Enters standing → Closes standing
-  closed standing e =
-      grind (arith, closed_through, closed_solid, entry_is, not_childless, nothing_inside)
+  closed standing e = grind (arith, closed_through, closed_solid, not_childless, nothing_inside)

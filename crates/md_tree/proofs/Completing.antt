@@ -13,7 +13,7 @@ use Rattle.md_tree.proofs.LeastNodes.{IsSettled, somewhere, completion, complete
 use Rattle.md_pattern.specs.declared.kinds.Role.TheVariants as role
 use Rattle.md_tree.specs.Refusal.{BeginTree}
 use Rattle.md_tree.proofs.Patterns.{and_left}
-use Rattle.md_tree.proofs.Spots.{matches_feeds, whole_stage}
+use Rattle.md_tree.proofs.SpinesRead.{matches_feeds, whole_stage}
 use Rattle.md_tree.proofs.NodesRead.{IsFine, after_nodes, Runs-append}
 use Rattle.md_tree.proofs.OpenPaths.{path_none}
 use Rattle.md_tree.proofs.NodeClaims.{fine_shaped}

@@ -1,7 +1,7 @@
 -- The least node of each symbol that must be there, or that ends a group, has the shape of the
 -- grammar.
-use Rattle.std.proofs.Common.{arith, ◌≡◌, ◌≢◌, Bool, true, false, Option, List, [], ◌∷◌, cond}
-use Rattle.std.proofs.Common.{refl, ℕ, zero, suc, ◌++◌, drop, ◌⊎◌, inl, inr, sym, subst}
+use Rattle.std.proofs.Common.{arith, ◌≡◌, ◌≢◌, Bool, true, false, Option, List, [], ◌∷◌, refl, ℕ}
+use Rattle.std.proofs.Common.{zero, suc, ◌++◌, drop, ◌⊎◌, inl, inr, sym, subst}
 use Rattle.md_tree.proofs.Common.{list_all, Point, Name, Symbol, Role, Forest, Empty, Node, spine}
 use Rattle.md_tree.proofs.Common.{AreShaped, start_of, may_hold, Matches, Class, Item, Once, Maybe}
 use Rattle.md_tree.proofs.Common.{Many, Stage, Whole, Setext, State, pattern_of, flatten}
@@ -9,10 +9,9 @@ use Rattle.md_tree.proofs.Common.{is_complete, Course, Runs, Anything}
 use Rattle.md_base.specs.declared.event.Name.TheVariants as name
 use Rattle.md_pattern.specs.declared.kinds.Symbol.TheVariants as symbol
 use Rattle.md_pattern.specs.declared.kinds.Role.TheVariants as role
-use Rattle.md_pattern.specs.Shape.{item_in, prefix_in, label_in}
 use Rattle.md_tree.proofs.OpenPaths.{joined, spine-joined, EachNode-joined}
 use Rattle.md_tree.proofs.ClosedNodes.{not_childless}
-use Rattle.md_tree.proofs.Spots.{ends_after, matches_after, IsFed, fed}
+use Rattle.md_tree.proofs.SpinesRead.{ends_after, matches_after, IsFed, fed}
 use Rattle.md_pattern.specs.declared.kinds.Class.TheVariants.{String, Phrasing, Flow, Only, Either}
 use Rattle.md_pattern.specs.declared.kinds.Class.TheVariants.{OrLine}
 use Rattle.md_tree.proofs.NodesRead.{after_nodes, Runs-nodes}
@@ -63,20 +62,9 @@ has_least one = elim (least one) [ Empty ↦ false | _ ↦ true ]
 abbrev Ends : Role → List Symbol → Type 0
 Ends around symbols = (ends_after (start_of around) symbols ≡ true) × (may_hold around ≡ true)
 
-item_ends : (around : Role) (before : Option Symbol) →
-    Ends (item_in around before) (symbol.ListItemPrefix ∷ [])
-item_ends around before = grind arith
-
-label_ends : (around : Role) → Ends (label_in around) (symbol.LabelText ∷ [])
-label_ends around = grind arith
-
 -- a spine without symbols may end
 bare : (around : Role) → ends_after (start_of around) [] ≡ true → Matches around []
 bare around e = matches_after around [] e
-
-prefix_shaped : (around : Role) (before : Option Symbol) → around ≢ role.Childless →
-    AreShaped (least symbol.ListItemPrefix) around before
-prefix_shaped around before apart = grind (arith, not_childless, matches_after, bare)
 
 footnote_shaped : (around : Role) (before : Option Symbol) → around ≢ role.Childless →
     AreShaped (least symbol.FootnotePrefix) around before
@@ -90,8 +78,7 @@ least_shaped : (one : Symbol) (around : Role) (before : Option Symbol) → aroun
     has_least one ≡ true → AreShaped (least one) around before
 least_shaped symbol.FootnotePrefix around before apart e = footnote_shaped around before apart
 least_shaped symbol.TableHead around before apart e = head_shaped around before apart
-least_shaped _ around before apart e =
-    grind (arith, matches_after, prefix_shaped, item_ends, not_childless, label_ends, bare)
+least_shaped _ around before apart e = grind (arith, matches_after, not_childless, bare)
 
 -- the least nodes of symbols, in sequence
 abbrev pub nodes_of : List Symbol → Forest

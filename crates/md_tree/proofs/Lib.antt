@@ -3,7 +3,9 @@
 pub mod Common
 pub mod Stopped
 pub mod Checking
+pub mod BrokenNodes
 pub mod Spots
+pub mod SpinesRead
 pub mod LeastNodes
 pub mod Completing
 pub mod Contributing

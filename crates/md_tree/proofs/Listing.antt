@@ -84,11 +84,6 @@ record GotListed (mentions : List Mention) (index : ℕ) (one : Mentioned) : Typ
   index_is : one.index ≡ index + at
   got : slice_get mentions at ≡ Some one.mention
 
-got_first : (mention : Mention) (mentions : List Mention) (index : ℕ) (one : Mentioned) →
-    Some (record { index = index; mention = mention }) ≡ Some one →
-    GotListed (mention ∷ mentions) index one
-got_first mention mentions index one e = grind arith
-
 got_later : (mention : Mention) (mentions : List Mention) (index : ℕ) (one : Mentioned) →
     GotListed mentions (suc index) one → GotListed (mention ∷ mentions) index one
 got_later mention mentions index one got =
@@ -100,8 +95,7 @@ got_listed : (mentions : List Mention) (index at : ℕ) (one : Mentioned) →
     slice_get (listed index mentions) at ≡ Some one → GotListed mentions index one
 got_listed [] index at one e = cc
 got_listed (Nothing ∷ mentions) index at one e = grind (arith, got_listed mentions, got_later)
-got_listed (mention ∷ mentions) index at one e =
-    grind (arith, got_first, got_later, got_listed mentions)
+got_listed (mention ∷ mentions) index at one e = grind (arith, got_later, got_listed mentions)
 
 pub got-listed : (mentions : List Mention) (at : ℕ) (one : Mentioned) →
     slice_get (listed 0 mentions) at ≡ Some one → slice_get mentions one.index ≡ Some one.mention

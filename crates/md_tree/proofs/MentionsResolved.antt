@@ -3,7 +3,7 @@
 use Rattle.std.proofs.Common.{arith, ◌≡◌, ℕ, suc, Bool, true, false, cond, Option, Some, None, List}
 use Rattle.std.proofs.Common.{◌∷◌, refl, ap, ◌∙◌, ◌+◌, ◌<◌, ◌≤◌, [], ◌++◌, length, get_or, drop}
 use Rattle.std.proofs.Common.{sym}
-use Rattle.std.specs.Prelude.{◌||◌, string_bytes, String, set, Bool}
+use Rattle.std.specs.Prelude.{◌||◌, string_bytes, String, set}
 use Rattle.std.specs.Option.{option_cmp, ok_or}
 use Rattle.std.specs.String.{string_cmp}
 use Rattle.std.specs.Ordering.{is_eq}
@@ -43,9 +43,6 @@ abbrev pub Known : Type 0
 Known = BTreeSet Text
 
 -- ---- identifiers that are the same
-pub same-self : (one : Identifier) → is_same one one ≡ true
-same-self one = grind (arith, bytes_eq-Decides)
-
 -- texts compare equal exactly where their identifiers are the same
 pub compared : (one other : Text) →
     is_eq (text_cmp one other) ≡ is_same (identifier_of one) (identifier_of other)
@@ -94,20 +91,12 @@ NumbersFrom-put old new text before later from updates wanted =
       | false ↦ from wanted ∙ counted_on before _
     ]
 
-none_more : (n : ℕ) → n ≡ 0 + n
-none_more n = omega arith
-
 -- how many more definitions there are with the last of some mentions
 pub defined-last : (bytes : List ℕ) (before : List Mentioned) (last : Mentioned) →
     length (defined bytes (mentions_among (before ++ last ∷ [])))
     ≡ length (defined bytes (mentions_among before)) + length (defined_by bytes last.mention [])
-defined-last bytes [] last = none_more _
-defined-last bytes (one ∷ before) last =
-    grind (arith, more one.mention, defined-last bytes before)
-  where
-    more : (mention : Mention) (later : List Identifier) → length (defined_by bytes mention later)
-        ≡ length (defined_by bytes mention []) + length later
-    more mention later = grind arith
+defined-last bytes [] last = grind arith
+defined-last bytes (one ∷ before) last = grind (arith, defined-last bytes before)
 
 -- a loop over mentions knows what they define, which F gives
 pub IdentifiersBefore-at : (F : List Mentioned → List Identifier) (mentioned : List Mentioned)
@@ -176,7 +165,7 @@ which_there xs y place e =
 
 which_lost : (xs : List Identifier) (y : Identifier) → which xs y ≡ None → Contains xs y → ⊥
 which_lost [] y e h = grind arith
-which_lost (x ∷ xs) y e h = grind (arith, same-self, which_lost xs y)
+which_lost (x ∷ xs) y e h = grind (arith, bytes_eq-Decides, which_lost xs)
 
 pub resolved-reference :
     (bytes : List ℕ) (mentions : List Mention) (label : Position) (number : Option ℕ) → number

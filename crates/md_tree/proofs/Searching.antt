@@ -13,7 +13,6 @@ use Rattle.md_tree.specs.Reads.{number_in}
 use Rattle.md_pattern.specs.declared.seeking.Wanted.TheVariants as want
 use Rattle.md_pattern.specs.declared.seeking.Found.{Found}
 use Rattle.md_pattern.specs.declared.seeking.Found.TheVariants as so_far
-use Rattle.md_pattern.specs.declared.seeking.Sight.TheVariants as looks
 use Rattle.md_pattern.specs.Seeking.{sight, seen_as, seen}
 use Rattle.md_base.specs.declared.event.Name.TheVariants as name_variants
 use name_variants.{HeadingAtx, ListOrdered, ListItem, ListItemPrefix, Link, Image, Label}

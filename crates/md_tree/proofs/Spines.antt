@@ -1,8 +1,8 @@
 -- The spine of shaped nodes is the same by names and by symbols.
-use Rattle.std.proofs.Common.{false, true, arith, ◌≡◌, Bool, cond, Option, List, [], ◌∷◌, ◌++◌}
-use Rattle.std.proofs.Common.{refl, append_assoc}
+use Rattle.std.proofs.Common.{false, true, arith, ◌≡◌, Bool, Option, List, [], ◌∷◌, ◌++◌, refl}
+use Rattle.std.proofs.Common.{append_assoc}
 use Rattle.md_tree.proofs.Common.{Space, Through, Name, Symbol, Role, Standing, Forest, Empty, Node}
-use Rattle.md_tree.proofs.Common.{standing_of, spine, shown, IsStanding, AreShaped, is_transparent}
+use Rattle.md_tree.proofs.Common.{spine, AreShaped}
 use Rattle.md_base.specs.Children.{spine_names}
 use Rattle.md_tree.specs.Laws.{symbols_of}
 
@@ -11,9 +11,6 @@ abbrev is_through : Standing → Bool
 is_through Through = true
 is_through Space = true
 is_through _ = false
-
-looked_through : (name : Name) → is_transparent name ≡ is_through (standing_of name)
-looked_through name = grind arith
 
 appended : (names others : List Name) →
     symbols_of (names ++ others) ≡ symbols_of names ++ symbols_of others
@@ -24,4 +21,4 @@ pub spine-names : (forest : Forest) (around : Role) (before : Option Symbol) →
     AreShaped forest around before → spine forest ≡ symbols_of (spine_names forest)
 spine-names Empty around before shaped = refl
 spine-names (Node name start end children rest) around before shaped =
-    grind (arith, looked_through, appended, spine-names children, spine-names rest)
+    grind (arith, appended, spine-names children, spine-names rest)

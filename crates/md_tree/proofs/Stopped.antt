@@ -16,7 +16,7 @@ use Rattle.md_pattern.specs.declared.kinds.Standing.TheVariants as standing
 use Rattle.md_tree.specs.Refusal.{IsOrder, IsMdx, IsBroken, IsLost}
 use Rattle.md_tree.specs.Refusal as refusal
 use Rattle.md_tree.proofs.Verdicts.{Reached-runs, BeginNoTree-stuck, outside-stopped}
-use Rattle.md_tree.proofs.Checking.{EndsBroken-exit}
+use Rattle.md_tree.proofs.BrokenNodes.{EndsBroken-exit}
 
 -- a rule that is judged when a node ends
 abbrev pub IsOfNode : Rule → Type 0

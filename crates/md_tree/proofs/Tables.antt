@@ -1,17 +1,17 @@
 -- The alignments of a table of the grammar are those of its delimiter row's values, and the tables
 -- of a document of the grammar have a table's shape. First which symbols a spine may have that
 -- matches a pattern.
-use Rattle.std.proofs.Common.{arith, ◌≡◌, Bool, true, List, [], ◌∷◌, ◌++◌, refl, ap, ◌∙◌, false}
-use Rattle.std.proofs.Common.{◌||◌, cond, Option, not, ◌&&◌, None, sym, ℕ, Some}
+use Rattle.std.proofs.Common.{arith, ◌≡◌, Bool, true, List, [], ◌∷◌, refl, ap, ◌∙◌, false, ◌||◌}
+use Rattle.std.proofs.Common.{cond, Option, not, None, sym, ℕ, Some}
 use Rattle.md_tree.proofs.Common.{list_all, list_all-append, Symbol, Role, Item, members, class_of}
-use Rattle.md_tree.proofs.Common.{takes, pattern_of, Fits, spine, IsTail, IsGrouped, Matches}
-use Rattle.md_tree.proofs.Common.{begun_by, is_whole, the_type, AlignKind, Name}
-use Rattle.md_tree.proofs.Common.{GfmTableDelimiterCellValue, Standing, Solid, Forest, Empty, Node}
-use Rattle.md_tree.proofs.Common.{is_transparent, is_table_head, is_delimiter_row, standing_of}
-use Rattle.md_tree.proofs.Common.{shown, EachNode, IsShapedNode, IsStanding, inner_role}
-use Rattle.md_tree.proofs.Common.{inner_before, alignment_of, alignments, in_each, map, map-append}
-use Rattle.md_tree.proofs.Common.{GfmTableHead, AreShaped, IsTable, All, Event, GfmTable, Handed}
-use Rattle.md_tree.proofs.Common.{IsChecked, IsReadAs, IsGrammatical, EntersAt, IsEnteredAt}
+use Rattle.md_tree.proofs.Common.{takes, pattern_of, Fits, spine, IsGrouped, Matches, begun_by}
+use Rattle.md_tree.proofs.Common.{is_whole, the_type, AlignKind, Name, GfmTableDelimiterCellValue}
+use Rattle.md_tree.proofs.Common.{Standing, Solid, Forest, Empty, Node, is_transparent}
+use Rattle.md_tree.proofs.Common.{is_table_head, is_delimiter_row, standing_of, shown, EachNode}
+use Rattle.md_tree.proofs.Common.{IsShapedNode, IsStanding, inner_role, inner_before, alignment_of}
+use Rattle.md_tree.proofs.Common.{alignments, in_each, map, map-append, GfmTableHead, AreShaped}
+use Rattle.md_tree.proofs.Common.{IsTable, All, Event, GfmTable, Handed, IsChecked, IsReadAs}
+use Rattle.md_tree.proofs.Common.{IsGrammatical, EntersAt, IsEnteredAt}
 use Rattle.md_tree.proofs.Patterns.{and_right, and_left, and_both, taken}
 use denote.Enum.Bare.{sameb}
 use Rattle.md_pattern.specs.declared.kinds.Symbol.TheVariants as symbol

@@ -1,6 +1,6 @@
 -- Runs of bytes that are texts: a part of a run is that part of the bytes.
-use Rattle.std.proofs.Common.{rules, ◌≡◌, ℕ, ◌+◌, ◌-◌, ◌≤◌, Bool, true, ◌&&◌, nat_le, Option, Some}
-use Rattle.std.proofs.Common.{List, ◌++◌, length, take, drop, take-add, sym, ap, ◌∙◌, arith}
+use Rattle.std.proofs.Common.{◌≡◌, ℕ, ◌+◌, ◌-◌, ◌≤◌, ◌&&◌, nat_le, Option, Some, List, ◌++◌, length}
+use Rattle.std.proofs.Common.{take, drop, take-add, sym, ap, ◌∙◌, arith}
 use Rattle.std.specs.Prelude.{slice_range, IfSome}
 use Rattle.std.proofs.lemmas.Str.{IsUtf8-append, is_utf8-from_IsUtf8}
 use Rattle.std.proofs.lemmas.List.{take-take, drop-drop, drop-take}
@@ -22,18 +22,13 @@ slice_range-run bytes text s start end is low ordered high =
     (drop s bytes) ∙ ap (take left) (drop-drop from s bytes ∙ ap (λ n. drop n bytes) there) in
     ap (λ n. take n (drop from text)) count ∙ ap (take _) rest ∙ take-take _ left _ (omega arith)
 
--- indices in order, within the bytes
-pub readable-ordered : (start end n : ℕ) → start ≤ end → end ≤ n →
-    (nat_le start end && nat_le end n) ≡ true
-readable-ordered start end n ordered within = search rules
-
 -- a part of a run's text is a text of the bytes
 pub run-part : (bytes text part : List ℕ) (s start end : ℕ) → s + length text ≤ length bytes →
     take (length text) (drop s bytes) ≡ text → s ≤ start → s ≤ end → start - s ≤ end - s →
     end - s ≤ length text → part ≡ slice_range text (start - s) (end - s) → IsUtf8 part → text_when
     (nat_le start end && nat_le end (length bytes)) (slice_range bytes start end) ≡ Some part
 run-part bytes text part s start end within is low low_end ordered high same utf8 =
-    grind (arith, readable-ordered, slice_range-run, is_utf8-from_IsUtf8)
+    grind (arith, slice_range-run, is_utf8-from_IsUtf8)
 
 -- what holds of an answer, where there is one
 pub some-weaken : {A : Type 0} (P Q : A → Type 0) → ((a : A) → P a → Q a) → (o : Option A) →
