@@ -183,8 +183,7 @@ means nested d (Node name start end children rest) around before content f =
       ready = rw (is_blocks-same (content_inside Blocks name) is) at within;
       heading = cond_both (is_transparent name) before.heading [] (Stands nested Phrasing)
           (λ _. f.heading) (λ _. stands-nothing);
-      linked = linked-inside nested d.context.options (is_loose children) content name around
-          f.linked;
+      linked = grind (arith, linked-inside);
       unnested = λ no. grind arith;
     }) in
     let one : Means nested d content here = any-node nested d f.white content name t inner refl
@@ -196,16 +195,14 @@ means nested d (Node name start end children rest) around before content f =
       ids = λ call value. refl;
       heading = λ is. f.heading;
       within = inside-means t Blocks name solid f.built.0 f.built.1 f.built.2 known;
-    }) f.built.0 f.placed.0 own (λ none. no_footnotes d (content_inside Blocks name) children
-    around' before' none f.built.2) (grind arith) in
+    }) f.built.0 f.placed.0 own (grind (arith, no_footnotes)) (grind arith) in
     let later : Means nested d content others = means nested d rest around next content (record {
       white = f.white;
       built = rw (after-blocks name children) at f.built.3;
       placed = f.placed.2;
       ready = rw (after-blocks name children) at
           (ready-after t name here f.built.0 f.built.2 found f.ready);
-      heading = on-either (Stands nested Phrasing) here.found.heading before.heading one.heading
-          f.heading;
+      heading = grind (arith, on-either);
       linked = f.linked;
       unnested = λ no. (unnested-parts name around.in_link start end children rest
           (f.unnested no)).1;

@@ -1,8 +1,7 @@
 -- What stands among blocks, in lists and in tables: each node prints the content that stands where
 -- it is.
-use Rattle.std.proofs.Common.{Bool, List, ap, append_assoc, codes, cond, drop, false, inl, inr, not}
-use Rattle.std.proofs.Common.{refl, sym, true, ℕ, ◌&&◌, ◌++◌, ◌||◌, ◌∙◌, ◌∷◌, ◌≡◌, ◌≤◌, [], subst}
-use Rattle.std.proofs.Common.{arith}
+use Rattle.std.proofs.Common.{Bool, List, ap, append_assoc, codes, cond, false, inl, inr, not, refl}
+use Rattle.std.proofs.Common.{sym, true, ℕ, ◌&&◌, ◌++◌, ◌||◌, ◌∙◌, ◌∷◌, ◌≡◌, ◌≤◌, [], subst, arith}
 use Rattle.std.specs.Fmt.{digits}
 use Rattle.std.specs.List.{flat_map, list_all}
 use Rattle.std.specs.Prelude.{None, Option, Some, bytes_eq, count_by, slice_get}
@@ -12,7 +11,6 @@ use name_variants.{GfmTableCell, GfmTableDelimiterRow, GfmTableHead, GfmTableRow
 use name_variants.{HeadingSetextUnderlineSequence, HtmlFlow, LineEnding, ListItem, ListOrdered}
 use name_variants.{ListUnordered, Paragraph, ThematicBreak}
 use Rattle.md_base.proofs.Lies.{lie}
-use Rattle.md_base.specs.Children.{spine_names}
 use Rattle.md_base.specs.Is.{is as named}
 use Rattle.md_base.specs.NameTests.{is_transparent}
 use Rattle.md_base.specs.declared.event.AlignKind.{AlignKind}
@@ -175,8 +173,7 @@ flow-node m t name solid whole stands inner k a = either _ _ (covered name)
     (λ is. lie (sym solid ∙ is)) (λ c. either _ _ c (λ is. lie (sym whole ∙ is)) (λ c. either _ _ c
     (λ is. adds-weaker m.wider (inline-node m t Phrasing name is inner k a
     (record { spans = refl; free = λ _. refl; plain = λ _. refl }))) (λ c. either _ _ c
-    (λ is. block-node m t name is inner k a) (λ c. either _ _ c (λ is. raw-node m t name is inner k)
-    (λ is. lie (sym (outer name stands) ∙ is))))))
+    (λ is. block-node m t name is inner k a) (grind (arith, raw-node, outer)))))
 
 spans-node : (m : Claims) (t : At) (content : Content) (name : Name) → is_transparent name ≡ false →
     (is_part name || is_source name) ≡ false → may_stand Phrasing (sort_of name) ≡ true →
@@ -212,8 +209,7 @@ inner-node m t Parts GfmTableHead other stands inner k a = block-pair m {held = 
 inner-node m t Parts GfmTableBody other stands inner k a = turned m {held = Rows} refl refl
     (plain_tag m (codes "tbody") refl refl) (framed-text m.beside) (a refl)
     (framed-needed m.beside m.ending)
-inner-node m t Rows GfmTableRow other stands inner k a = row-node m t.around.in_head (drop
-    (count_by (named GfmTableCell) (spine_names t.children)) t.before.columns) inner (a refl)
+inner-node m t Rows GfmTableRow other stands inner k a = grind (arith, row-node)
 inner-node m t Rows GfmTableDelimiterRow other stands inner k a = nothing m refl
 inner-node m t Cells GfmTableCell other stands inner k a = adds-cell_in m.s.test
     (m.element Phrasing Cells (codes "th") refl, m.element Phrasing Cells (codes "td") refl)
@@ -222,8 +218,7 @@ inner-node m t Cells GfmTableCell other stands inner k a = adds-cell_in m.s.test
     (layout m.s.context.ending inner) (adds-alone {f = m.holds Phrasing} (a refl))
 inner-node m t Characters CodeFlowChunk other stands inner k a = adds-weaker
     (λ x h. m.text Characters x h refl) (line-escaped m.s t CodeFlowChunk refl k.fit inner)
-inner-node m t content LineEnding other stands inner k a = alone m (grind arith) (ending-around m t
-    k.fit)
+inner-node m t content LineEnding other stands inner k a = grind (arith, alone, ending-around)
 inner-node m t content BlankLineEnding other stands inner k a = alone m (grind arith) (adds-when
     m.beside t.is_last (adds-needed m.beside m.ending))
 inner-node m t _ _ other stands inner k a = lie stands
@@ -235,6 +230,5 @@ pub solid-node : (m : Claims) (t : At) (content : Content) (name : Name) →
     Known m t name inner → Own m content name inner →
     (is_spans content ≡ true → Spanning t content name) → Prints m
     content (prints m.s.context t name inner)
-solid-node m t Flow name solid whole stands inner k a g = flow-node m t name solid whole stands
-    inner k a
+solid-node m t Flow name solid whole stands inner k a g = grind (arith, flow-node)
 solid-node m t content name solid whole stands inner k a g = grind (arith, spans-node, inner-node)

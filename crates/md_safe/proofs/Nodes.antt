@@ -106,8 +106,7 @@ solid-node s t Strings name solid stands k inner rest a b = adds-append
     k.fit inner a) b
 solid-node s t FirstFence name solid stands k inner rest a b = code_fence-node s t name k.follows
     stands inner rest a b
-solid-node s t FirstMathFence name solid stands k inner rest a b = math_fence-node s t name
-    k.follows stands inner rest a b
+solid-node s t FirstMathFence name solid stands k inner rest a b = grind (arith, math_fence-node)
 solid-node s t Chunks name solid stands k inner rest a b = adds-append escaped-append
     (line-node s t name k.follows stands k.fit inner a) b
 solid-node s t InfoAndMeta name solid stands k inner rest a b = info_or_meta-node s t name
