@@ -15,8 +15,9 @@ use Rattle.md_safe.proofs.Claims.{Claims, Known}
 use Rattle.md_safe.proofs.Insides.{is_blocks, is_blocks-same}
 use Rattle.md_content.specs.Built.{content_of, Blocks, is_part, is_source, may_stand}
 use Rattle.md_content.specs.Built.{content_inside, IsBuilt}
-use Rattle.md_safe.proofs.Linking.{place_in, with_links, is_spans, inner_place, inner-place-with}
-use Rattle.md_safe.proofs.Linking.{IsLinked, linked-inside, unnested-parts}
+use Rattle.md_safe.proofs.Linking.{unnested-inside, unlinked-here, place_in, with_links, is_spans}
+use Rattle.md_safe.proofs.Linking.{inner_place, inner-place-with, IsLinked, linked-inside}
+use Rattle.md_safe.proofs.Linking.{unnested-parts}
 use Rattle.md_safe.proofs.Elements.{adds-empty_cells}
 use Rattle.std.specs.Prelude.{Option}
 use Rattle.md_base.specs.NameTests.{is_transparent}
@@ -184,7 +185,8 @@ means nested d (Node name start end children rest) around before content f =
       heading = cond_both (is_transparent name) before.heading [] (Stands nested Phrasing)
           (λ _. f.heading) (λ _. stands-nothing);
       linked = grind (arith, linked-inside);
-      unnested = λ no. grind arith;
+      unnested = λ no. unnested-inside d.context.options (is_loose children) name around start end
+          children rest is (f.unnested no);
     }) in
     let one : Means nested d content here = any-node nested d f.white content name t inner refl
     (λ solid. record {
@@ -195,7 +197,12 @@ means nested d (Node name start end children rest) around before content f =
       ids = λ call value. refl;
       heading = λ is. f.heading;
       within = inside-means t Blocks name solid f.built.0 f.built.1 f.built.2 known;
-    }) f.built.0 f.placed.0 own (grind (arith, no_footnotes)) (grind arith) in
+    }) f.built.0 f.placed.0 own (grind (arith, no_footnotes)) (λ is. record {
+      spans = is;
+      free = λ prints. unlinked-here nested content name around start end children rest is prints
+          f.linked f.unnested;
+      plain = λ no. grind arith;
+    }) in
     let later : Means nested d content others = means nested d rest around next content (record {
       white = f.white;
       built = rw (after-blocks name children) at f.built.3;

@@ -1,7 +1,10 @@
 -- What stands among blocks, in lists and in tables: each node prints the content that stands where
 -- it is.
-use Rattle.std.proofs.Common.{Bool, List, ap, append_assoc, codes, cond, false, inl, inr, not, refl}
-use Rattle.std.proofs.Common.{sym, true, ℕ, ◌&&◌, ◌++◌, ◌||◌, ◌∙◌, ◌∷◌, ◌≡◌, ◌≤◌, [], subst, arith}
+use Rattle.md_safe.proofs.Stands.{is_spaced}
+use Rattle.md_base.specs.Children.{spine_names}
+use Rattle.std.proofs.Common.{drop, Bool, List, ap, append_assoc, codes, cond, false, inl, inr, not}
+use Rattle.std.proofs.Common.{refl, sym, true, ℕ, ◌&&◌, ◌++◌, ◌||◌, ◌∙◌, ◌∷◌, ◌≡◌, ◌≤◌, [], subst}
+use Rattle.std.proofs.Common.{arith}
 use Rattle.std.specs.Fmt.{digits}
 use Rattle.std.specs.List.{flat_map, list_all}
 use Rattle.std.specs.Prelude.{None, Option, Some, bytes_eq, count_by, slice_get}
@@ -43,9 +46,9 @@ use Rattle.md_safe.proofs.RawElements.{IsInfo, IsRaw, adds-raw, code-end, code_t
 use Rattle.md_safe.proofs.SpanCases.{Spanning, inline-node, is_inline}
 use Rattle.md_safe.proofs.Tags.{Turns, adds-flat, attribute, framed-forced, framed-needed}
 use Rattle.md_safe.proofs.Tags.{framed-text, turns-two}
-use Rattle.md_safe.specs.Contents.{Cells, Characters, Content, Flow, Items, Parts, Phrasing}
+use Rattle.md_safe.specs.Contents.{Linked, Cells, Characters, Content, Flow, Items, Parts, Phrasing}
 use Rattle.md_safe.specs.Contents.{Preformatted, Rows, held_in}
-use Rattle.md_safe.specs.Placed.{may_stand, sort_of, is_inner}
+use Rattle.md_safe.specs.Placed.{Ending, may_stand, sort_of, is_inner}
 
 -- ---- headings
 
@@ -185,6 +188,10 @@ spans-node m t content name solid whole stands inner k a g = either _ _ (covered
 
 -- ---- lists, tables and code
 
+-- where a line ending may stand, what may be around a text may
+ending-spaced : (content : Content) → may_stand content Ending ≡ true → is_spaced content ≡ true
+ending-spaced content stands = grind arith
+
 row-node : (m : Claims) (in_head : Bool) (kinds : List AlignKind) (inner : List Piece) →
     Prints m Cells inner → Prints m Rows (on_own_line (codes "<tr>") ++ (inner ++ (flat_map
     (cell_of in_head []) kinds ++ on_own_line (codes "</tr>"))))
@@ -209,7 +216,8 @@ inner-node m t Parts GfmTableHead other stands inner k a = block-pair m {held = 
 inner-node m t Parts GfmTableBody other stands inner k a = turned m {held = Rows} refl refl
     (plain_tag m (codes "tbody") refl refl) (framed-text m.beside) (a refl)
     (framed-needed m.beside m.ending)
-inner-node m t Rows GfmTableRow other stands inner k a = grind (arith, row-node)
+inner-node m t Rows GfmTableRow other stands inner k a = row-node m t.around.in_head (drop
+    (count_by (named GfmTableCell) (spine_names t.children)) t.before.columns) inner (a refl)
 inner-node m t Rows GfmTableDelimiterRow other stands inner k a = nothing m refl
 inner-node m t Cells GfmTableCell other stands inner k a = adds-cell_in m.s.test
     (m.element Phrasing Cells (codes "th") refl, m.element Phrasing Cells (codes "td") refl)
@@ -218,9 +226,10 @@ inner-node m t Cells GfmTableCell other stands inner k a = adds-cell_in m.s.test
     (layout m.s.context.ending inner) (adds-alone {f = m.holds Phrasing} (a refl))
 inner-node m t Characters CodeFlowChunk other stands inner k a = adds-weaker
     (λ x h. m.text Characters x h refl) (line-escaped m.s t CodeFlowChunk refl k.fit inner)
-inner-node m t content LineEnding other stands inner k a = grind (arith, alone, ending-around)
-inner-node m t content BlankLineEnding other stands inner k a = alone m (grind arith) (adds-when
-    m.beside t.is_last (adds-needed m.beside m.ending))
+inner-node m t content LineEnding other stands inner k a = alone m (ending-spaced content stands)
+    (ending-around m t k.fit)
+inner-node m t content BlankLineEnding other stands inner k a = alone m
+    (ending-spaced content stands) (adds-when m.beside t.is_last (adds-needed m.beside m.ending))
 inner-node m t _ _ other stands inner k a = lie stands
 
 -- a node that isn't transparent prints what its place allows
@@ -230,5 +239,11 @@ pub solid-node : (m : Claims) (t : At) (content : Content) (name : Name) →
     Known m t name inner → Own m content name inner →
     (is_spans content ≡ true → Spanning t content name) → Prints m
     content (prints m.s.context t name inner)
-solid-node m t Flow name solid whole stands inner k a g = grind (arith, flow-node)
-solid-node m t content name solid whole stands inner k a g = grind (arith, spans-node, inner-node)
+solid-node m t Flow name solid whole stands inner k a g = flow-node m t name solid whole stands
+    inner k a
+solid-node m t Phrasing name solid whole stands inner k a g = spans-node m t Phrasing name solid
+    whole stands inner k a (g refl)
+solid-node m t Linked name solid whole stands inner k a g = spans-node m t Linked name solid whole
+    stands inner k a (g refl)
+solid-node m t content name solid whole stands inner k a g = inner-node m t content name refl stands
+    inner k a

@@ -127,6 +127,13 @@ Before s t content name inner =
     → Prints s (Holds s.p (inside s.context.options (is_loose t.children) name t.around).is_escaping
     (inside s.context.options (is_loose t.children) name t.around).in_image content) (inner ++ rest)
 
+through-node : (s : Setting) (t : At) (content : Content) (name : Name) →
+    is_transparent name ≡ true →
+    (inner rest : List Piece) → Before s t content name inner →
+    Prints s (Here s t (content_after content t.children)) rest →
+    Prints s (Here s t content) (prints s.context t name inner ++ rest)
+through-node s t content name is inner rest a b = grind arith
+
 -- what a node that isn't transparent holds
 pub inside-alone : (s : Setting) (t : At) (content : Content) (name : Name) →
     may_stand content name ≡ true → IsFitAt s t name → IsBuilt s.context.bytes
@@ -145,8 +152,8 @@ pub any-node : (s : Setting) (t : At) (content : Content) (name : Name) →
     (content_of name content)) name inner → Prints s (Here s t (cond (is_transparent name)
     (content_after content t.children) (content_past content name))) rest →
     Prints s (Here s t content) (prints s.context t name inner ++ rest)
-any-node s t content name stands k inner rest built a b = cases (is_transparent name) (λ e. grind
-    arith) (λ e.
+any-node s t content name stands k inner rest built a b = cases (is_transparent name)
+    (λ e. through-node s t content name e inner rest (rw e at a) (rw e at b)) (λ e.
     let may : may_stand content name ≡ true = second _ _ e stands in
     solid-node s t content name e may k inner rest (inside-alone s t content name may k.fit (rw e at
     built) inner (rw e at a)) (rw e at b))

@@ -23,8 +23,8 @@ use Rattle.md_safe.proofs.BlockNodes.{hidden-prints, is_hidden, is_silent, silen
 use Rattle.md_safe.proofs.BlockNodes.{silent-prints}
 use Rattle.md_safe.proofs.Calls.{adds-call}
 use Rattle.md_safe.proofs.Cases.{either, cases}
-use Rattle.md_safe.proofs.Claims.{AreSpans, Claims, Here, Known, Own, Prints, SpanPrints, nothing}
-use Rattle.md_safe.proofs.Claims.{pair, plain_tag, says}
+use Rattle.md_safe.proofs.Claims.{are-spans, AreSpans, Claims, Here, Known, Own, Prints, SpanPrints}
+use Rattle.md_safe.proofs.Claims.{nothing, pair, plain_tag, says}
 use Rattle.md_safe.proofs.Elements.{adds-task, class-passes}
 use Rattle.md_safe.proofs.FlowNodes.{is_leaf, leaf-escaped}
 use Rattle.md_safe.proofs.Laid.{Adds, adds-alone, adds-text, adds-weaker}
@@ -160,7 +160,7 @@ inline-node m t content name is inner k own g = cases (is_hidden name)
     a) (grind (arith, escaped, leaf-escaped, silent-prints, silent-block)))))
   where
     spans : AreSpans m.nested content
-    spans = grind arith
+    spans = are-spans m.nested content g.spans
 
     here : is_hidden name ≡ false → Here m t content name inner
     here shown = record {
