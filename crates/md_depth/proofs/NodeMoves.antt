@@ -1,6 +1,6 @@
 -- A node among blocks leaves no element open, and opens two at most beside what its children open.
-use Rattle.std.proofs.Common.{◌≡◌, ℕ, ◌≤◌, suc, Bool, true, false, not, ◌||◌, List, refl, sym, ◌∙◌}
-use Rattle.std.proofs.Common.{ap, arith, inl, inr}
+use Rattle.std.proofs.Common.{◌≡◌, ℕ, ◌≤◌, suc, true, false, not, ◌||◌, List, sym, ◌∙◌, ap, arith}
+use Rattle.std.proofs.Common.{inl, inr}
 use Rattle.md_base.proofs.Lies.{lie}
 use Rattle.std.proofs.lemmas.Bool.{cases_Bool}
 use Rattle.md_base.specs.declared.event.Name.{Name}
@@ -10,6 +10,7 @@ use Rattle.md_meaning.specs.Meaning.Layout.{Piece}
 use Rattle.md_meaning.specs.Meaning.Means.{prints}
 use Rattle.md_content.specs.Underlined.{is_underline}
 use Rattle.md_content.specs.Built.{Blocks, is_part, is_source, is_autolink}
+use Rattle.md_safe.proofs.Cases.{either}
 use Rattle.md_safe.proofs.Texts.{Escaped}
 use Rattle.md_safe.proofs.Spot.{Setting, IsFitAt, IsGoodTarget, Inside}
 use Rattle.md_safe.proofs.StringNodes.{is_text, text-node}
@@ -21,11 +22,6 @@ use Rattle.md_depth.proofs.Machine.{Leads}
 use Rattle.md_depth.proofs.Moves.{Moves, none, more, adds-escaped}
 use Rattle.md_depth.proofs.SpanMoves.{Room, Below, span-moves, autolink-moves}
 use Rattle.md_depth.proofs.BlockMoves.{flow-moves, table-moves}
-
--- one of two tests holds
-pick : {P : Type 0} (a b : Bool) → (a || b) ≡ true → (a ≡ true → P) → (b ≡ true → P) → P
-pick true b h f g = f refl
-pick false b h f g = g h
 
 pub node-moves : (s : Setting) (t : At) (m n : ℕ) → Room m n → (name : Name) →
     t.around.is_escaping ≡ true → is_transparent name ≡ false →
@@ -39,12 +35,13 @@ node-moves s t m n room name e solid whole fit head good inner a below =
           let is : is_silent name ≡ true = ap not h in
           rw (silent-prints s.context t name is inner)
           (more (omega arith) (below (silent-block name is).0))
-      | inl h ↦ pick (is_transparent name) _ h (λ is. lie (sym solid ∙ is)) (λ c.
-          pick (is_part name || is_source name) _ c (λ is. lie (sym whole ∙ is)) (λ c.
-          pick (is_text name) _ c (λ is. adds-escaped (prints s.context t name inner)
+      | inl h ↦ either (is_transparent name) _ h (λ is. lie (sym solid ∙ is)) (λ c.
+          either (is_part name || is_source name) _ c (λ is. lie (sym whole ∙ is)) (λ c.
+          either (is_text name) _ c (λ is. adds-escaped (prints s.context t name inner)
           (text-node s t Escaped name (λ x h. h e) is fit inner)) (λ c.
-          pick (is_shown name) _ c (λ is. span-moves s t m n room name e is good inner a below)
-          (λ c. pick (is_autolink name) _ c (λ is. autolink-moves s t m n room name is inner) (λ c.
-          pick (is_flow name) _ c (λ is. flow-moves s t m n room name is fit head inner a below)
-          (grind (arith, pick, adds-escaped, leaf-escaped, hidden-prints, none, table-moves)))))))
+          either (is_shown name) _ c (λ is. span-moves s t m n room name e is good inner a below)
+          (λ c. either (is_autolink name) _ c (λ is. autolink-moves s t m n room name is inner)
+          (λ c. either (is_flow name) _ c
+          (λ is. flow-moves s t m n room name is fit head inner a below)
+          (grind (arith, either, adds-escaped, leaf-escaped, hidden-prints, none, table-moves)))))))
     ]

@@ -68,5 +68,3 @@ calls-few context around before forest =
     counted : (calls : List (List ℕ)) → length calls ≡ sum_of (λ identifier. 1) calls
     counted [] = refl
     counted (call ∷ calls) = omega (arith, counted calls)
-
--- ---- the target of a link or an image

@@ -68,8 +68,7 @@ prints-short context at inner _ few =
       encoded-short,
       serialized-short,
       number-short,
-      rank-one context
-          at,
+      rank-one context at,
       autolink-short,
       code-short,
       filled-short,

@@ -36,11 +36,9 @@ pub call_id-escaped : (options : CompileOptions) (identifier : List ℕ) (number
     Escaped (call_id options identifier number occurrence)
 call_id-escaped options identifier number occurrence =
     let first : Bool = not options.gfm_footnote_number_ids && occurrence == 1 in
-    escaped-append (id_of options (codes "fnref-") identifier number)
-    (cond first [] (45 ∷ decimal occurrence))
-    (id-escaped options (codes "fnref-") identifier number refl)
-    (cond_both first [] (45 ∷ decimal occurrence) Escaped (λ _. refl)
-    (λ _. decimal-escaped occurrence))
+    escaped-append (id_of options (codes "fnref-") identifier number) (cond first [] (45 ∷ decimal
+    occurrence)) (id-escaped options (codes "fnref-") identifier number refl)
+    (grind (arith, cond_both, decimal-escaped))
 
 pub a_call : (v w : List ℕ) → Escaped v → Escaped w →
     is_tag elements (codes "a") (attribute (codes "href") (35 ∷ v)
@@ -112,8 +110,7 @@ backreference-read {test = test} {Q = Q} {options = options} known inside a sup 
     let t : List ℕ = option_or (option_map string_bytes options.gfm_footnote_back_label)
     (codes "Back to content") in
     let mark : Q (occurrence_mark occurrence) = cond_both _ _ _ Q (λ _. inside.text [] refl) (λ _.
-    sup.tag [] (decimal occurrence) refl refl (inside.text (decimal occurrence)
-    (decimal-escaped occurrence))) in
+    sup.tag [] (decimal occurrence) refl refl (grind (arith, decimal-escaped))) in
     let id : Escaped v = call_id-escaped options identifier number occurrence in
     let label : Escaped t = grind (arith, is_escaped-encoded) in
     let link = known.anchor v in
@@ -122,8 +119,7 @@ backreference-read {test = test} {Q = Q} {options = options} known inside a sup 
     let class = known.other (codes "class") (codes "data-footnote-backref") refl in
     a.tag (attribute (codes "href") (35 ∷ v) ∷ attribute (codes "data-footnote-backref") []
     ∷ attribute (codes "aria-label") t ∷ attribute (codes "class") (codes "data-footnote-backref")
-    ∷ []) (arrow ++ occurrence_mark occurrence) (rw (id, label) refl) (rw (link, back, named, class)
-    refl)
+    ∷ []) (arrow ++ occurrence_mark occurrence) (rw (id, label) refl) (grind arith)
     (inside.both arrow (occurrence_mark occurrence) (inside.text arrow refl) mark)
 
 -- the ways back to calls

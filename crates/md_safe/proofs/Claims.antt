@@ -1,7 +1,7 @@
 -- Claims about texts, one for each content: the lemmas on nodes take them as a parameter. And what
 -- is known where a node stands, and of what its children print.
-use Rattle.std.proofs.Common.{◌≡◌, ℕ, Bool, true, false, cond, List, [], ◌∷◌, ◌++◌, refl, subst}
-use Rattle.std.proofs.Common.{append-nil, codes}
+use Rattle.std.proofs.Common.{arith, ◌≡◌, ℕ, Bool, true, false, cond, List, [], ◌∷◌, ◌++◌, refl}
+use Rattle.std.proofs.Common.{subst, append-nil, codes}
 use Rattle.std.proofs.lemmas.Bool.{cond_both}
 use Rattle.std.specs.List.{flat_map}
 use Rattle.md_base.specs.declared.event.Name.{Name}
@@ -30,7 +30,7 @@ use Rattle.md_safe.proofs.Tags.{Turns, TurnsTag, Tagged, Single, Takes, IsFramed
 use Rattle.md_safe.proofs.Tags.{framed-text, framed-needed}
 use Rattle.md_safe.proofs.Spot.{Setting, IsFitAt, IsGoodTarget, Inside, PassesIds}
 use Rattle.md_safe.proofs.Stands.{Opens, is_spaced}
-use Rattle.md_safe.proofs.Linking.{in_link, place_in}
+use Rattle.md_safe.proofs.Linking.{is_spans, in_link, place_in}
 
 -- claims in a document: what may be around a text, and how texts and tags fulfil them
 pub record Claims : Type 1 where
@@ -146,6 +146,10 @@ pub record AreSpans (nested : Bool) (content : Content) : Type 0 where
   pub img : is_one_of (voids_in content) (codes "img") ≡ true
   pub input : is_one_of (voids_in content) (codes "input") ≡ true
   pub spaced : is_spaced content ≡ true
+
+pub are-spans : (nested : Bool) (content : Content) → is_spans content ≡ true →
+    AreSpans nested content
+are-spans nested content is = grind arith
 
 -- where spans stand: what is known of them, what children print, that of a link too, and of a node
 -- that prints a link that it may

@@ -140,12 +140,10 @@ paragraph-takes nested before endings x h s r =
     let right : before ++ (32 ∷ (x ++ (codes "</p>" ++ endings)))
     ≡ front ++ (32 ∷ (x ++ (60 ∷ (close ++ written cut.rest)))) =
     simp append_assoc (simp append_assoc at cut.made) in
-    let ends : 47 ∷ 112 ∷ 62 ∷ endings ≡ close ++ written cut.rest = same-end before front
-    (47 ∷ 112 ∷ 62 ∷ endings) (close ++ written cut.rest) x left right in
+    let ends : 47 ∷ 112 ∷ 62 ∷ endings ≡ close ++ written cut.rest = grind (arith, same-end) in
     let later : 112 ∷ 62 ∷ endings ≡ (cut.name ++ (62 ∷ [])) ++ written cut.rest = rest_of ends in
     let is : cut.name ≡ codes "p" = grind arith in
-    let inside : Stands nested Phrasing (written cut.children) = stands-forest nested Phrasing
-    cut.children cut.forest (rw is at cut.held) in
+    let inside : Stands nested Phrasing (written cut.children) = grind (arith, stands-forest) in
     subst (Stands nested Flow) (sym cut.made) (stands-join cut.front _ cut.front_stands (stands-join
     (open_tag ++ (written cut.children ++ (32 ∷ x)) ++ closing_tag cut.name) (written cut.rest)
     (subst (Stands nested Flow) (sym (append_assoc open_tag (written cut.children ++ (32 ∷ x))
@@ -157,10 +155,9 @@ paragraph-takes nested before endings x h s r =
 
 pub backreferences-stand : (nested : Bool) (d : Document) (identifier : List ℕ) (number count : ℕ) →
     Stands nested Phrasing (backreferences d.context.options identifier number count)
-backreferences-stand nested d identifier number count = backreferences-read (read_in d).test (record
-    { text = grind (arith, stands-text); both = stands-join })
-    (grind (arith, stands-text, stands-join)) (stands-tag (in_link nested) refl) (stands-tag
-    (in_link nested) (grind arith)) identifier number count
+backreferences-stand nested d identifier number count = backreferences-read (read_in d).test
+    (grind (arith, stands-text, stands-join)) (grind (arith, stands-text, stands-join)) (stands-tag
+    (in_link nested) refl) (stands-tag (in_link nested) (grind arith)) identifier number count
 
 -- a footnote's text
 body-prints : (nested : Bool) (d : Document) → IsWhite d.context.ending → (x back : List ℕ) →

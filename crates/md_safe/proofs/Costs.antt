@@ -74,8 +74,7 @@ texts-append w n m [] ys a b = texts-more w m (n + m) ys (omega arith) b
         TextsCount w n xs → TextsCount w m xs
     texts-more w n m [] more h = tt
     texts-more w n m (x ∷ xs) more h = (h.0, h.1, omega (h.2, more, arith), h.3, h.4)
-texts-append w n m (x ∷ xs) ys a b =
-    (a.0, a.1 + m, omega (a.2, arith), a.3, texts-append w a.1 m xs ys a.4 b)
+texts-append w n m (x ∷ xs) ys a b = grind (arith, texts-append w a.1 m xs ys a.4 b)
 
 -- an element, attribute by attribute
 counted-element :
@@ -84,8 +83,7 @@ counted-element :
     → Counts w (m + n)
     (60 ∷ (name ++ attributes_before attributes (62 ∷ (inside ++ (60 ∷ 47 ∷ (name ++ (62 ∷ [])))))))
 counted-element w n m name attributes inside h few within =
-    subst (λ x. Counts w (m + n) (60 ∷ (name ++ x))) (written_attributes-before attributes (62
-    ∷ (inside ++ (60 ∷ 47 ∷ (name ++ (62 ∷ []))))))
+    subst (λ x. Counts w (m + n) (60 ∷ (name ++ x))) (grind (arith, written_attributes-before))
     (counts-element w n m name attributes inside h few within)
 
 -- a call has its own id

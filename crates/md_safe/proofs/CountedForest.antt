@@ -107,12 +107,11 @@ call d w p m b =
       body = hit;
       left = 0;
       notes = b.notes;
-      prints = cond_both (not p.around.in_image) tags [] (Adds d.context.ending (Counts w hit))
-          (λ _. adds-flat refl (counts-call w
-          (id_of d.context.options (codes "fn-") identifier number) id (decimal number) (id-escaped
-          d.context.options (codes "fn-") identifier number refl) (call_id-escaped d.context.options
-          identifier number occurrence) (decimal-escaped number))) (λ _. adds-nothing
-          (counts-more w 0 hit [] (omega arith) (counts-none w)));
+      prints = cond_both (not p.around.in_image) tags [] (Adds d.context.ending (Counts w hit)) (λ
+          _. adds-flat refl (counts-call w (id_of d.context.options (codes "fn-") identifier number)
+          id (decimal number) (id-escaped d.context.options (codes "fn-") identifier number refl)
+          (call_id-escaped d.context.options identifier number occurrence) (decimal-escaped
+          number))) (grind (arith, adds-nothing, counts-more, counts-none));
       heading = tt;
       texts = no-footnote d w b.notes p GfmFootnoteCall refl b.texts;
       few = omega (b.few, cost-parts d w p GfmFootnoteCall, arith);
@@ -214,10 +213,8 @@ spent d w (Node name start end children rest) around before waits m f h =
       left = later.left;
       notes = one.notes + later.notes;
       prints = grind (arith, adds-append, counts-join);
-      heading = subst (Waiting w (waits_after waits' rest) later.left) (heading-both
-          others.found.heading here.found.heading) later.heading;
-      texts = texts-append w one.notes later.notes here.footnotes others.footnotes one.texts
-          later.texts;
+      heading = grind (arith, heading-both);
+      texts = grind (arith, texts-append);
       few = omega (one.few, later.few, due-append d w before.calls here.calls others.calls, arith);
     }
   where

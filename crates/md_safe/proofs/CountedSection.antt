@@ -1,6 +1,6 @@
 -- How often an id stands in the section of footnotes, and in a document: at most once.
 use Rattle.std.proofs.Common.{◌≡◌, ℕ, ◌+◌, ◌≤◌, ◌<◌, ◌^◌, true, false, List, [], ◌∷◌, ◌++◌, length}
-use Rattle.std.proofs.Common.{refl, sym, ap, subst, arith, append_assoc, codes, bytes_eq}
+use Rattle.std.proofs.Common.{refl, ap, arith, append_assoc, codes, bytes_eq}
 use Rattle.std.specs.Prelude.{Some, find}
 use Rattle.std.specs.Option.{option_map_or}
 use Rattle.std.proofs.lemmas.Bool.{or_parts, cond_both}
@@ -46,8 +46,7 @@ for-more : (w : List ℕ) (n m : ℕ) (footnotes : List Footnote) (identifiers :
     n ≤ m →
     TextsFor w n footnotes identifiers → TextsFor w m footnotes identifiers
 for-more w n m footnotes [] more h = tt
-for-more w n m footnotes (identifier ∷ others) more h =
-    (h.0, h.1, omega (h.2, more, arith), h.3, h.4)
+for-more w n m footnotes (identifier ∷ others) more h = grind arith
 
 -- where there are none
 for-none : (w : List ℕ) (identifiers : List (List ℕ)) → TextsFor w 0 [] identifiers
@@ -78,9 +77,7 @@ for-one w m k footnote footnotes (identifier ∷ others) apart own h =
       h.1,
       omega (h.2, arith),
       own,
-      for-others w h.1 footnote footnotes others
-          (subst (λ x. is_in x others ≡ false)
-          (sym (same footnote.identifier identifier e)) apart.0) h.4,
+      for-others w h.1 footnote footnotes others (grind (arith, same)) h.4,
     )) (grind (arith, for-one w m h.1 footnote footnotes others apart.1 own h.4))
 
 texts-for : (w : List ℕ) (n : ℕ) (footnotes : List Footnote) (identifiers : List (List ℕ)) →
@@ -108,8 +105,7 @@ items-counted : (d : Document) (w : List ℕ) (footnotes : List Footnote) (n : �
     (identifiers : List (List ℕ)) → TextsFor w n footnotes identifiers → Prints (counted_in d w 0)
     (Counts w (occurs w (note_ids d.context.options d.context.calls identifiers)
     + n)) (flat_map (item d.context footnotes) identifiers)
-items-counted d w footnotes n [] texts = adds-nothing
-    (counts-more w _ _ _ (omega arith) (counts-none w))
+items-counted d w footnotes n [] texts = grind (arith, adds-nothing, counts-more, counts-none)
 items-counted d w footnotes n (identifier ∷ others) texts =
     let number : ℕ = place_among (distinct d.context.calls) identifier in
     let id : List ℕ = id_of d.context.options (codes "fn-") identifier number in
@@ -162,8 +158,7 @@ document-counts d w document keeps built underlined called =
     in
     let rest : ℕ = occurs w label_id + (noted + b.notes) in
     let last : Prints (counted_in d w 0) (Counts w rest) (section d.context all.footnotes) =
-    section-counted d w keeps all.footnotes b.notes (texts-for w b.notes all.footnotes
-    (distinct d.context.calls) (distinct-apart d.context.calls) b.texts) in
+    section-counted d w keeps all.footnotes b.notes (grind (arith, texts-for, distinct-apart)) in
     counts-more w _ _ _ (omega (
       b.few,
       ap (λ calls. occurs w (ids_after d.context.options d.context.calls [] calls)) called,

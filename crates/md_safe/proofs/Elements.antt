@@ -1,7 +1,7 @@
 -- The tags of blocks, of code, of tasks, of lists and of cells around what they hold: each keeps
 -- the claim.
 use Rattle.std.proofs.Common.{◌≡◌, ◌⊎◌, ℕ, ◌≤◌, ◌==◌, Bool, true, false, not, cond, List, [], ◌∷◌}
-use Rattle.std.proofs.Common.{◌++◌, refl, ap, inl, inr, arith, append_assoc, codes}
+use Rattle.std.proofs.Common.{◌++◌, refl, inl, inr, arith, append_assoc, codes}
 use Rattle.std.specs.Prelude.{Option, Some, None, bytes_eq}
 use Rattle.std.specs.Option.{option_map_or}
 use Rattle.std.specs.List.{list_all, flat_map}
@@ -136,12 +136,10 @@ pub adds-task : {test : Attribute → Bool} {R : List ℕ → Type 0} {ending : 
     ending R ((Text (codes "<input type=\"checkbox\" ") ∷ when (not checkable)
     (said (codes "disabled=\"\" "))) ++ (inner ++ said (codes "/>")))
 adds-task {R =
-    R} {ending} known single checkable in_image a = adds-append {f = λ x. x ≡ task_tag checkable}
-    {g = λ w. (x : List ℕ) × (w ≡ x ++ codes "/>") × ((x ≡ []) ⊎ (x ≡ codes "checked=\"\" "))}
-    (λ x w f g. rw (f, g.1) (task-read known single checkable g.0 g.2)) (first checkable)
-    (adds-append (λ x y f g.
-    (x, ap (λ y. x ++ y) g, elim f [ inl e ↦ inl e | inr e ↦ inr e.1 ])) a
-    (adds-flat {f = λ y. y ≡ codes "/>"} refl refl))
+    R} {ending} known single checkable in_image a = adds-append {f = λ x. x ≡ task_tag checkable} {g
+    = λ w. (x : List ℕ) × (w ≡ x ++ codes "/>") × ((x ≡ []) ⊎ (x ≡ codes "checked=\"\" "))} (λ x w f
+    g. rw (f, g.1) (task-read known single checkable g.0 g.2)) (first checkable) (adds-append (grind
+    arith) a (adds-flat {f = λ y. y ≡ codes "/>"} refl refl))
   where
     first : (checkable : Bool) → Adds ending (λ x. x ≡ task_tag checkable) (Text
         (codes "<input type=\"checkbox\" ") ∷ when (not checkable) (said (codes "disabled=\"\" ")))

@@ -87,8 +87,7 @@ kind-passes {content} {held} {x} {name} {attributes} {inner} rule there h c insi
           k.0 (λ e. lie (sym (ap is_items k.1) ∙ e)) there))
       | inr (inr (inr (inl k))) ↦ blocked k.0.block (inside.flowing (ap is_flowing k.1) new
           (there-within k.0 (λ e. k.2) there))
-      | inr (inr (inr (inr (inl k)))) ↦ rw k.0 (table-passes there.here.body there.here.made
-          there.no_p there.resets h (rw k.1 at c))
+      | inr (inr (inr (inr (inl k)))) ↦ grind (arith, table-passes)
       | inr (inr (inr (inr (inr k)))) ↦ rw k.0 (pre-passes there.here.body there.no_p (rw k.1 at c)
           (inside.flowing
           (ap is_flowing k.1) (within x (codes "pre") those x.active) (record {

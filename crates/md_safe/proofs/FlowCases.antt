@@ -1,6 +1,8 @@
 -- What stands among blocks, in lists and in tables: each node prints the content that stands where
 -- it is.
-use Rattle.std.proofs.Common.{Bool, List, ap, append_assoc, codes, cond, drop, false, inl, inr, not}
+use Rattle.md_safe.proofs.Stands.{is_spaced}
+use Rattle.md_base.specs.Children.{spine_names}
+use Rattle.std.proofs.Common.{drop, Bool, List, ap, append_assoc, codes, cond, false, inl, inr, not}
 use Rattle.std.proofs.Common.{refl, sym, true, ℕ, ◌&&◌, ◌++◌, ◌||◌, ◌∙◌, ◌∷◌, ◌≡◌, ◌≤◌, [], subst}
 use Rattle.std.proofs.Common.{arith}
 use Rattle.std.specs.Fmt.{digits}
@@ -12,7 +14,6 @@ use name_variants.{GfmTableCell, GfmTableDelimiterRow, GfmTableHead, GfmTableRow
 use name_variants.{HeadingSetextUnderlineSequence, HtmlFlow, LineEnding, ListItem, ListOrdered}
 use name_variants.{ListUnordered, Paragraph, ThematicBreak}
 use Rattle.md_base.proofs.Lies.{lie}
-use Rattle.md_base.specs.Children.{spine_names}
 use Rattle.md_base.specs.Is.{is as named}
 use Rattle.md_base.specs.NameTests.{is_transparent}
 use Rattle.md_base.specs.declared.event.AlignKind.{AlignKind}
@@ -45,9 +46,9 @@ use Rattle.md_safe.proofs.RawElements.{IsInfo, IsRaw, adds-raw, code-end, code_t
 use Rattle.md_safe.proofs.SpanCases.{Spanning, inline-node, is_inline}
 use Rattle.md_safe.proofs.Tags.{Turns, adds-flat, attribute, framed-forced, framed-needed}
 use Rattle.md_safe.proofs.Tags.{framed-text, turns-two}
-use Rattle.md_safe.specs.Contents.{Cells, Characters, Content, Flow, Items, Parts, Phrasing}
+use Rattle.md_safe.specs.Contents.{Linked, Cells, Characters, Content, Flow, Items, Parts, Phrasing}
 use Rattle.md_safe.specs.Contents.{Preformatted, Rows, held_in}
-use Rattle.md_safe.specs.Placed.{may_stand, sort_of, is_inner}
+use Rattle.md_safe.specs.Placed.{Ending, may_stand, sort_of, is_inner}
 
 -- ---- headings
 
@@ -175,8 +176,7 @@ flow-node m t name solid whole stands inner k a = either _ _ (covered name)
     (λ is. lie (sym solid ∙ is)) (λ c. either _ _ c (λ is. lie (sym whole ∙ is)) (λ c. either _ _ c
     (λ is. adds-weaker m.wider (inline-node m t Phrasing name is inner k a
     (record { spans = refl; free = λ _. refl; plain = λ _. refl }))) (λ c. either _ _ c
-    (λ is. block-node m t name is inner k a) (λ c. either _ _ c (λ is. raw-node m t name is inner k)
-    (λ is. lie (sym (outer name stands) ∙ is))))))
+    (λ is. block-node m t name is inner k a) (grind (arith, raw-node, outer)))))
 
 spans-node : (m : Claims) (t : At) (content : Content) (name : Name) → is_transparent name ≡ false →
     (is_part name || is_source name) ≡ false → may_stand Phrasing (sort_of name) ≡ true →
@@ -187,6 +187,10 @@ spans-node m t content name solid whole stands inner k a g = either _ _ (covered
     (λ is. inline-node m t content name is inner k a g) (λ c. lie (sym (grind arith) ∙ stands))))
 
 -- ---- lists, tables and code
+
+-- where a line ending may stand, what may be around a text may
+ending-spaced : (content : Content) → may_stand content Ending ≡ true → is_spaced content ≡ true
+ending-spaced content stands = grind arith
 
 row-node : (m : Claims) (in_head : Bool) (kinds : List AlignKind) (inner : List Piece) →
     Prints m Cells inner → Prints m Rows (on_own_line (codes "<tr>") ++ (inner ++ (flat_map
@@ -222,10 +226,10 @@ inner-node m t Cells GfmTableCell other stands inner k a = adds-cell_in m.s.test
     (layout m.s.context.ending inner) (adds-alone {f = m.holds Phrasing} (a refl))
 inner-node m t Characters CodeFlowChunk other stands inner k a = adds-weaker
     (λ x h. m.text Characters x h refl) (line-escaped m.s t CodeFlowChunk refl k.fit inner)
-inner-node m t content LineEnding other stands inner k a = alone m (grind arith) (ending-around m t
-    k.fit)
-inner-node m t content BlankLineEnding other stands inner k a = alone m (grind arith) (adds-when
-    m.beside t.is_last (adds-needed m.beside m.ending))
+inner-node m t content LineEnding other stands inner k a = alone m (ending-spaced content stands)
+    (ending-around m t k.fit)
+inner-node m t content BlankLineEnding other stands inner k a = alone m
+    (ending-spaced content stands) (adds-when m.beside t.is_last (adds-needed m.beside m.ending))
 inner-node m t _ _ other stands inner k a = lie stands
 
 -- a node that isn't transparent prints what its place allows
@@ -237,4 +241,9 @@ pub solid-node : (m : Claims) (t : At) (content : Content) (name : Name) →
     content (prints m.s.context t name inner)
 solid-node m t Flow name solid whole stands inner k a g = flow-node m t name solid whole stands
     inner k a
-solid-node m t content name solid whole stands inner k a g = grind (arith, spans-node, inner-node)
+solid-node m t Phrasing name solid whole stands inner k a g = spans-node m t Phrasing name solid
+    whole stands inner k a (g refl)
+solid-node m t Linked name solid whole stands inner k a g = spans-node m t Linked name solid whole
+    stands inner k a (g refl)
+solid-node m t content name solid whole stands inner k a g = inner-node m t content name refl stands
+    inner k a

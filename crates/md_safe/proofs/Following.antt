@@ -2,8 +2,8 @@
 -- node's children, and before what follows it; blocks occur only in blocks, and a condition on
 -- blocks alone covers no more after nodes. After a node's children, and after it, no first fence is
 -- to come.
-use Rattle.std.proofs.Common.{◌≡◌, Bool, true, false, ◌||◌, refl, subst, ℕ, cond, List, [], ◌∷◌}
-use Rattle.std.proofs.Common.{◌++◌, append_assoc, append-nil, arith}
+use Rattle.std.proofs.Common.{◌≡◌, Bool, true, false, ◌||◌, refl, subst, ℕ, List, [], ◌∷◌, ◌++◌}
+use Rattle.std.proofs.Common.{append_assoc, append-nil, arith}
 use Rattle.std.proofs.lemmas.Bool.{cond_both, or_left, or_right}
 use Rattle.md_base.specs.declared.event.Name.{Name}
 use Rattle.md_base.specs.Tree.{Forest, Empty, Node}
@@ -60,8 +60,7 @@ pub follows-after : (bytes : List ℕ) (content : Content) (names : List Name) (
 follows-after bytes content names Empty built f = rw append-nil f
 follows-after bytes content names (Node name start end children rest) built f =
     subst (Follows (content_after (content_after_node content name children) rest))
-    (append_assoc names (cond (is_transparent name) (spine_names children) (name ∷ []))
-    (spine_names rest)) (follows-after bytes (content_after_node content name children)
+    (grind (arith, append_assoc)) (follows-after bytes (content_after_node content name children)
     (spine_after_node name children names) rest built.3 (follows-node content name names children
     built.0 f (λ e. follows-after bytes content names children (rw e at built.2) f)))
 
@@ -101,6 +100,5 @@ pub later-inside :
     IsBuilt bytes (content_of name content) children
     → IsLater (content_after (content_of name content) children)
 later-inside bytes content name start end children s fit built = cases (is_raw name)
-    (grind (arith, fenced-after, allowed_inside)) (λ plain. stays-after IsLater (λ content name h.
-    (past_of content name).later) (content_of name content) children
-    (grind (arith, allowed_inside)))
+    (grind (arith, fenced-after, allowed_inside)) (λ plain. stays-after IsLater
+    (grind (arith, past_of)) (content_of name content) children (grind (arith, allowed_inside)))

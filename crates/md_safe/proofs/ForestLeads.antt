@@ -61,8 +61,7 @@ forest-leads {left} (Element name attributes children rest) r t h n k =
     let inside = forest_before children close in
     let later : List Token = EndTag name ∷ (tokens rest ++ t) in
     let ending : To left Data (with_line_feeds close ++ left) later = rw (← (tag-lined name [] (62 ∷
-    on) left good.0 refl)) (end-leads name (with_line_feeds on ++ left) (tokens rest ++ t) good.0
-    (forest-leads rest r t p.1 n k)) in
+    on) left good.0 refl)) (grind (arith, end-leads, forest-leads rest r t p.1 n k)) in
     rw (← (tag-lined name attributes (62 ∷ inside) left good.0 good.1), append_assoc)
     (grind (arith, element-leads, forest-leads children close later q.1 refl ending))
 

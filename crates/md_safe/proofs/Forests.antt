@@ -5,7 +5,7 @@ use Rattle.std.proofs.Common.{append_assoc}
 use Rattle.std.proofs.lemmas.Bool.{cond_both}
 use Rattle.md_base.specs.declared.event.Name.{Name}
 use Rattle.md_base.specs.declared.event.Name.TheVariants as name_variants
-use name_variants.{Definition, GfmFootnoteDefinition}
+use name_variants.{GfmFootnoteDefinition}
 use Rattle.md_base.specs.Is.{is as named}
 use Rattle.md_base.specs.Tree.{Forest, Empty, Node}
 use Rattle.md_base.specs.NameTests.{is_transparent}
@@ -73,12 +73,10 @@ pub ready-after : {s : Setting} {content : Content} (t : At) (name : Name) (here
     (before_next t name here) (content_after_node content name t.children)
 ready-after {s = s} {content = content} t name here stands built own r = record {
   suits = suits-after-node t.around.is_escaping t.around.in_image content name t.children r.suits;
-  follows = follows-after-node s.context.bytes content name t.before.spine t.children stands built
-      r.follows;
+  follows = grind (arith, follows-after-node);
   whole = asked-after-node (IsWhole s.p) content name t.children r.whole;
   heading = asked-after-node (Reads s (before_next t name here).heading) content name t.children
-      (λ is. on-either (Reads s) here.found.heading t.before.heading (own.heading is) (r.heading
-      is));
+      (grind (arith, on-either));
 }
 
 pub means : (s : Setting) (forest : Forest) (around : Surroundings) (before : Before)
@@ -115,8 +113,7 @@ means s (Node name start end children rest) around before content built r =
           inner.pieces (others.pieces ++ later) built.2 (λ pieces g. within.prints pieces g)
           (after.prints later h));
       found = grind (arith, on-later, blocks-after-node);
-      titles = titles-append _ _ (titles-append _ _ within.titles (cond_both (named Definition name)
-          (defined ∷ []) [] AreTitles (λ _. (within.found.title, tt)) (λ _. tt))) after.titles;
+      titles = grind (arith, titles-append, cond_both);
       texts = texts-append (Reads s) here.footnotes others.footnotes (texts-append (Reads s)
           inner.footnotes (when (named GfmFootnoteDefinition name) (noted ∷ [])) within.texts
           (cond_both (named GfmFootnoteDefinition name) (noted ∷ []) [] (AreRead s)

@@ -48,8 +48,7 @@ pub escaped_beside : IsBeside Escaped
 escaped_beside = record { none = refl; both = escaped-append }
 
 pub adds-forced : {W : List ℕ → Type 0} {ending : List ℕ} → W ending → Adds ending W (Forced ∷ [])
-adds-forced {ending = ending} h =
-    record { to = λ text. record { added = ending; grown = refl; it_holds = h } }
+adds-forced {ending = ending} h = grind arith
 
 pub adds-needed : {W : List ℕ → Type 0} {ending : List ℕ} → IsBeside W → W ending →
     Adds ending W (Needed ∷ [])

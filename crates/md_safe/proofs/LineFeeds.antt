@@ -1,6 +1,6 @@
 -- What line feeds for line ends leave as it is.
 use Rattle.std.proofs.Common.{◌≡◌, ℕ, ◌==◌, Bool, true, false, not, cond, List, [], ◌∷◌, ◌++◌, refl}
-use Rattle.std.proofs.Common.{ap₂, ◌∙◌, arith}
+use Rattle.std.proofs.Common.{arith}
 use Rattle.std.specs.List.{list_all}
 use Rattle.md_text.specs.References.{is_escaped}
 use Rattle.md_safe.specs.Input.{begins_with_line_feed, with_line_feeds}
@@ -21,8 +21,7 @@ one-append b feed x r = grind arith
 pub line_feeds-append : (x r : List ℕ) → begins_with_line_feed r ≡ false →
     with_line_feeds (x ++ r) ≡ with_line_feeds x ++ with_line_feeds r
 line_feeds-append [] r h = refl
-line_feeds-append (b ∷ x) r h = ap₂ (one b) (grind arith) (line_feeds-append x r h) ∙ one-append b
-    (begins_with_line_feed x) (with_line_feeds x) (with_line_feeds r)
+line_feeds-append (b ∷ x) r h = grind (arith, one-append, line_feeds-append x r h)
 
 -- a name has no CR
 pub line_feeds-name : (name r : List ℕ) → list_all no_return name ≡ true →
@@ -32,6 +31,5 @@ line_feeds-name (b ∷ name) r h = grind (arith, line_feeds-name name r)
 
 -- an escaped text stays escaped
 pub line_feeds-escaped : (x : List ℕ) → is_escaped x ≡ true → is_escaped (with_line_feeds x) ≡ true
-line_feeds-escaped x h = by_escaped (λ x. is_escaped (with_line_feeds x) ≡ true) refl (λ b rest
-    plain later. grind arith) (λ rest later. later) (λ rest later. later) (λ rest later. later) (λ
-    rest later. later) x h
+line_feeds-escaped x h = by_escaped (λ x. is_escaped (with_line_feeds x) ≡ true) refl (grind arith)
+    (λ rest later. later) (λ rest later. later) (λ rest later. later) (λ rest later. later) x h

@@ -1,5 +1,7 @@
 -- What stands in a link, where links may stand in links and where not; and none does where a
 -- document has no link in a link.
+use Rattle.md_safe.proofs.Insides.{is_blocks}
+use Rattle.md_content.specs.Built.{Blocks, content_inside}
 use Rattle.std.proofs.Common.{◌≡◌, ◌⊎◌, Bool, true, false, not, ◌&&◌, ◌||◌, cond, arith}
 use Rattle.std.proofs.lemmas.Bool.{or_parts, or_left, or_right}
 use Rattle.md_base.specs.declared.event.Name.{Name}
@@ -70,3 +72,21 @@ pub unnested-parts : (name : Name) (in_link : Bool) (start end : Point) (childre
     name || not (named Image name) && has_nested_link (named Link name || in_link) children)
     ≡ false) × (has_nested_link in_link rest ≡ false)
 unnested-parts name in_link start end children rest h = or_parts _ _ h
+
+pub unnested-inside :
+    (options : CompileOptions) (loose : Bool) (name : Name) (around : Surroundings)
+    (start end : Point)
+    (children rest : Forest) → is_blocks (content_inside Blocks name) ≡ true →
+    has_nested_link around.in_link (Node name start end children rest) ≡ false →
+    has_nested_link (inside options loose name around).in_link children ≡ false
+unnested-inside options loose name around start end children rest blocks h = grind arith
+
+-- no link is printed where they are
+pub unlinked-here :
+    (nested : Bool) (content : Content) (name : Name) (around : Surroundings) (start end : Point)
+    (children rest : Forest) → is_spans content ≡ true → prints_link name ≡ true →
+    IsLinked nested content around →
+    (nested ≡ false → has_nested_link around.in_link (Node name start end children rest) ≡ false) →
+    content ≡ Phrasing
+unlinked-here nested content name around start end children rest is prints linked unnested =
+    grind arith

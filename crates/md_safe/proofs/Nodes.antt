@@ -106,8 +106,7 @@ solid-node s t Strings name solid stands k inner rest a b = adds-append
     k.fit inner a) b
 solid-node s t FirstFence name solid stands k inner rest a b = code_fence-node s t name k.follows
     stands inner rest a b
-solid-node s t FirstMathFence name solid stands k inner rest a b = math_fence-node s t name
-    k.follows stands inner rest a b
+solid-node s t FirstMathFence name solid stands k inner rest a b = grind (arith, math_fence-node)
 solid-node s t Chunks name solid stands k inner rest a b = adds-append escaped-append
     (line-node s t name k.follows stands k.fit inner a) b
 solid-node s t InfoAndMeta name solid stands k inner rest a b = info_or_meta-node s t name
@@ -128,6 +127,13 @@ Before s t content name inner =
     → Prints s (Holds s.p (inside s.context.options (is_loose t.children) name t.around).is_escaping
     (inside s.context.options (is_loose t.children) name t.around).in_image content) (inner ++ rest)
 
+through-node : (s : Setting) (t : At) (content : Content) (name : Name) →
+    is_transparent name ≡ true →
+    (inner rest : List Piece) → Before s t content name inner →
+    Prints s (Here s t (content_after content t.children)) rest →
+    Prints s (Here s t content) (prints s.context t name inner ++ rest)
+through-node s t content name is inner rest a b = grind arith
+
 -- what a node that isn't transparent holds
 pub inside-alone : (s : Setting) (t : At) (content : Content) (name : Name) →
     may_stand content name ≡ true → IsFitAt s t name → IsBuilt s.context.bytes
@@ -146,8 +152,8 @@ pub any-node : (s : Setting) (t : At) (content : Content) (name : Name) →
     (content_of name content)) name inner → Prints s (Here s t (cond (is_transparent name)
     (content_after content t.children) (content_past content name))) rest →
     Prints s (Here s t content) (prints s.context t name inner ++ rest)
-any-node s t content name stands k inner rest built a b = cases (is_transparent name) (λ e. grind
-    arith) (λ e.
+any-node s t content name stands k inner rest built a b = cases (is_transparent name)
+    (λ e. through-node s t content name e inner rest (rw e at a) (rw e at b)) (λ e.
     let may : may_stand content name ≡ true = second _ _ e stands in
     solid-node s t content name e may k inner rest (inside-alone s t content name may k.fit (rw e at
     built) inner (rw e at a)) (rw e at b))

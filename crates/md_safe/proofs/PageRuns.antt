@@ -1,5 +1,5 @@
 -- A page: its fixed parts step by step, its title in the RCDATA state, and its body by its forest.
-use Rattle.std.proofs.Common.{arith, map, ◌≡◌, ℕ, true, List, [], ◌∷◌, ◌++◌, refl, subst, codes}
+use Rattle.std.proofs.Common.{arith, map, ◌≡◌, ℕ, true, List, [], ◌∷◌, ◌++◌, refl, codes}
 use Rattle.std.specs.List.{list_all}
 use Rattle.md_text.specs.References.{is_escaped}
 use Rattle.md_text.specs.Html.{Forest, is_forest, written, all_attributes, HasOneReadingWith}
@@ -60,8 +60,7 @@ page-links : (title : List ℕ) (body : Forest) → is_forest body ≡ true →
 page-links title body h k =
     all-append has_safe_links (map Character title) (after_title body)
     (all-characters has_safe_links is_safe_link links-pass title)
-    (all-append has_safe_links (tokens body) after_body
-    (all-tokens has_safe_links is_safe_link links-pass body h k) refl)
+    (grind (arith, all-append, all-tokens, links-pass))
 
 page-images : (title : List ℕ) (body : Forest) → is_forest body ≡ true →
     all_attributes is_safe_image body ≡ true →
@@ -69,8 +68,7 @@ page-images : (title : List ℕ) (body : Forest) → is_forest body ≡ true →
 page-images title body h k =
     all-append has_safe_images (map Character title) (after_title body)
     (all-characters has_safe_images is_safe_image images-pass title)
-    (all-append has_safe_images (tokens body) after_body
-    (all-tokens has_safe_images is_safe_image images-pass body h k) refl)
+    (grind (arith, all-append, all-tokens, images-pass))
 
 pub page-tokenized : (title body : List ℕ) → is_escaped title ≡ true →
     HasOneReadingWith is_safe_link body →
@@ -79,9 +77,7 @@ page-tokenized title body e links images =
     let inside = links.forest in
     let text = page_text title body in
     let emits = page_tokens (seen title) inside in
-    let runs : IsTokenized text emits =
-    subst (λ b. IsTokenized (page_text title b) emits) links.reading.written_so
-    (page-runs title inside e links.reading.in_grammar) in
+    let runs : IsTokenized text emits = grind (arith, page-runs) in
     record {
       inside = inside;
       reading = links.reading;

@@ -22,8 +22,7 @@ use Rattle.md_safe.proofs.WholeTrees.{forest-built, reading-texts}
 pub constructed-after : (doctype : Option (List ℕ)) (p q : Parser) (xs ys : List Token) →
     run p xs ≡ Some q →
     constructed doctype p (xs ++ ys) ≡ constructed doctype q ys
-constructed-after doctype p q [] ys e =
-    ap (λ r. option_and_then (λ next. constructed doctype next ys) r) e
+constructed-after doctype p q [] ys e = grind arith
 constructed-after doctype p q (x ∷ xs) ys e =
     by x (λ next e. constructed-after doctype next q xs ys e) e
   where

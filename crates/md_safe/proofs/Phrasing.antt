@@ -66,8 +66,7 @@ pub element-done : {x : Position} {name : List ℕ} {attributes : List Attribute
     {inner rest : Forest} (passed : Passed x name attributes inner) → Done (with_children x
     (with_element x.node.children name (seen_attributes attributes) (put NoNode inner)) passed.left
     passed.more) rest → Done x (Element name attributes inner rest)
-element-done {rest = rest} passed later =
-    onward refl (passed.runs (tokens rest)) passed.keeps passed.later later
+element-done {rest = rest} passed later = grind (arith, onward)
 
 -- the parts of a text in a forest
 pub text-escaped : (bytes : List ℕ) (rest : Forest) → has_whole_texts (Text bytes rest) ≡ true →

@@ -15,7 +15,7 @@ use Rattle.md_safe.specs.InBody.{insert_formatting}
 use Rattle.md_safe.specs.Built.{put, at, is_body, AreCreated, AreOpen}
 use Rattle.md_safe.proofs.Lists.{Keeps, keeps-twice, room, keeps-room, keeps-created, not-active}
 use Rattle.md_safe.proofs.Lists.{keeps-open, later-created, open-under, keeps-none}
-use Rattle.md_safe.proofs.Steps.{here, past}
+use Rattle.md_safe.proofs.Steps.{here}
 use Rattle.md_safe.proofs.TreeSteps.{Position, parser_of, element_of, within, reconstructs}
 use Rattle.md_safe.proofs.PhrasingNames.{Each, Done, Passed, IsOrdinary, IsFormatting, full, passes}
 use Rattle.md_safe.proofs.PhrasingNames.{is_free, Here}
@@ -116,8 +116,7 @@ here-formatting {x = x} {name = name} {those = those} rule here =
         later-created x.created (suc x.created) left (omega arith)
             (keeps-created x.created x.active left here.made kept),
       );
-      no_link = λ free. past _ (rule.frees free).1 (keeps-none (codes "a") x.active left
-          (here.no_link (rule.frees free).0) kept);
+      no_link = grind (arith, keeps-none);
     }
 
 -- and of an ordinary one, or of a block

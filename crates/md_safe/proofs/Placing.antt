@@ -1,5 +1,5 @@
 -- Each document of the grammar is placed: the content of a node's children allows them.
-use Rattle.std.proofs.Common.{◌≡◌, true, ◌||◌, false, Bool, Option, None, List, ◌++◌, refl, arith}
+use Rattle.std.proofs.Common.{◌≡◌, true, ◌||◌, false, Bool, Option, None, List, ◌++◌, arith}
 use Rattle.std.specs.List.{list_all}
 use Rattle.std.proofs.lemmas.Bool.{and_parts}
 use Rattle.std.proofs.lemmas.List.Folds.{list_all-append}
@@ -103,8 +103,7 @@ spot : (standing : Standing) (name : Name) (children : Forest) (around : Role)
     (shown standing (spine children) ++ others) ≡ true → Spot standing name children content others
 spot Through name children around before content others says stands h =
     grind (arith, and_parts, list_all-append, says)
-spot Space name children around before content others says stands h =
-    record { stands = rw says refl; inside = rw stands refl; after = h }
+spot Space name children around before content others says stands h = grind (arith, says)
 spot (Solid seen usual reading) name children around before content others says stands h =
     let parts = and_parts _ _ h in
     let shows = all-show (role_for around before usual) (spine children) stands in

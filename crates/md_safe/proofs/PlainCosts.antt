@@ -116,7 +116,6 @@ around-others {d} {w} {p} {name} {m} waits k plain blocks h =
       prints = plain-prints k plain (inside-means (at_of d p name) Blocks name k.solid k.stands
           k.fit k.built counted);
       heading = grind arith;
-      texts = no-footnote d w 0 p name plain.footnote (rw (no_footnotes d (content_inside Blocks
-          name) p.children (inner_around d p name) (inner_before p name) blocks k.built) tt);
+      texts = grind (arith, no-footnote, no_footnotes);
       few = omega arith;
     }

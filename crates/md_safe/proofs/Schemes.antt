@@ -22,7 +22,6 @@ use Rattle.md_safe.proofs.Cases.{one_of-passes, all-weaker, cases}
 use Rattle.md_safe.specs.Tokens.{seen}
 use Rattle.md_safe.proofs.EscapedCases.{by_escaped}
 use Rattle.md_safe.proofs.LineFeeds.{no_return, line_feeds-name}
-use Rattle.md_safe.proofs.Steps.{here}
 use Rattle.md_text.specs.Kept.{goes_on}
 
 abbrev pub HasNone : List ℕ → Type 0
@@ -113,8 +112,7 @@ in_scheme-word : (buffer q r : List ℕ) → list_all is_letter q ≡ true →
 in_scheme-word buffer [] r h = ap (λ b. Some b) (sym (append-nil buffer))
 in_scheme-word buffer (b ∷ q) r h =
     let p = and_parts _ _ h in
-    here _ (letter-scheme b p.0) (in_scheme-word (buffer ++ (lower b ∷ [])) q r p.1 ∙ ap
-    (λ b. Some b) (append_assoc buffer (lower b ∷ []) (lowered q)))
+    grind (arith, letter-scheme, append_assoc, in_scheme-word (buffer ++ (lower b ∷ [])) q r p.1)
 
 in_scheme_start-word : (q r : List ℕ) → is_word q ≡ true →
     in_scheme_start (q ++ (58 ∷ r)) ≡ Some (lowered q)
@@ -134,8 +132,7 @@ permitted_by : (schemes : List (List ℕ)) (x : List ℕ) (o : Option (List ℕ)
     list_all is_word schemes ≡ true →
     protocol_of x ≡ o → option_map_or (λ q. is_one_of schemes (lowered q)) o true ≡ true →
     has_permitted_scheme schemes (with_line_feeds x) ≡ true
-permitted_by schemes x None g e h =
-    ap (λ o. option_map_or (is_one_of schemes) o true) (scheme_of-none x e)
+permitted_by schemes x None g e h = grind (arith, scheme_of-none)
 permitted_by schemes x (Some q) g e h =
     let parts = protocol-split x q e in
     grind (arith, scheme_of-word, lowered-word, one_of-passes)

@@ -57,8 +57,7 @@ in_paragraph Q B takes x back r rb h =
     let last : drop n x ≡ codes "</p>" ++ endings = ap (λ y. drop n y) (sym (take-append-drop m x))
     ∙ drop-append-le n (take m x) endings fits ∙ ap (λ y. y ++ endings) tag in
     let cut : x ≡ take n x ++ codes "</p>" ++ endings =
-    sym (take-append-drop n x) ∙ ap (λ y. take n x ++ y) last
-    ∙ sym (append_assoc (take n x) (codes "</p>") endings) in
+    grind (arith, take-append-drop, append_assoc) in
     rw last (simp append_assoc at (takes (take n x) endings back (rest-ends x) (subst Q cut r) rb))
 
 -- the ways back, there or on a line of their own
@@ -68,8 +67,7 @@ adds-body Q B {ending} takes x back r rb after =
     let n : ℕ = unended_length x - 4 in
     let split : List Piece = Text (take n x) ∷ Text (codes " ") ∷ Text back ∷ Text (drop n x) ∷ []
     in
-    cond_both _ _ _ (Adds ending Q) (λ is. adds-flat refl (subst Q (ap
-    (λ y. take n x ++ (32 ∷ (back ++ y))) (sym (append-nil (drop n x))))
+    cond_both _ _ _ (Adds ending Q) (λ is. adds-flat refl (subst Q (grind (arith, append-nil))
     (in_paragraph Q B takes x back r rb is))) (λ _. after)
 
 pub body-prints : (s : Setting) (x back : List ℕ) → Reads s x → HasReadingWith s.p.test back →
@@ -209,10 +207,8 @@ pub section-around : (s : Setting) (q : Claim) → Turns s.p.holds q.holds (head
     Prints s (Reads s) (flat_map (item s.context footnotes) (distinct s.context.calls)) →
     Prints s q.holds (section s.context footnotes)
 section-around s q turn no_tag no_attributes footnotes a = adds-section escaped_beside
-    (takes-escaped s.p) (takes-escaped s.p) (takes-escaped q) s.context s.ending
-    ((bracket-tag s.p (codes "ol")).tag [] refl refl) turn no_tag no_attributes (q.plain []
-    (nothing q.test))
-    footnotes a
+    (takes-escaped s.p) (takes-escaped s.p) (takes-escaped q) s.context s.ending ((bracket-tag s.p
+    (codes "ol")).tag [] refl refl) turn no_tag no_attributes (grind (arith, nothing)) footnotes a
 
 pub section-prints : (s : Setting) → IsWhole s.p → s.context.options.gfm_footnote_label_tag_name
     ≡ None → s.context.options.gfm_footnote_label_attributes ≡ None → (footnotes : List Footnote) →

@@ -12,7 +12,7 @@ use Rattle.md_base.specs.Is.{is as named}
 use Rattle.md_base.specs.declared.event.Name.{Name}
 use Rattle.md_content.specs.Built.{Blocks, content_of, is_autolink}
 use Rattle.md_meaning.specs.Meaning.At.{At, Target, identifier_of, text_in}
-use Rattle.md_meaning.specs.Meaning.Footnotes.{call_id, count_of, distinct, place_among}
+use Rattle.md_meaning.specs.Meaning.Footnotes.{count_of, distinct, place_among}
 use Rattle.md_meaning.specs.Meaning.Layout.{Piece, Text, layout, said, when}
 use Rattle.md_meaning.specs.Meaning.Means.{prints}
 use Rattle.md_meaning.specs.Meaning.Media.{anchor, autolink}
@@ -23,8 +23,8 @@ use Rattle.md_safe.proofs.BlockNodes.{hidden-prints, is_hidden, is_silent, silen
 use Rattle.md_safe.proofs.BlockNodes.{silent-prints}
 use Rattle.md_safe.proofs.Calls.{adds-call}
 use Rattle.md_safe.proofs.Cases.{either, cases}
-use Rattle.md_safe.proofs.Claims.{AreSpans, Claims, Here, Known, Own, Prints, SpanPrints, nothing}
-use Rattle.md_safe.proofs.Claims.{pair, plain_tag, says}
+use Rattle.md_safe.proofs.Claims.{are-spans, AreSpans, Claims, Here, Known, Own, Prints, SpanPrints}
+use Rattle.md_safe.proofs.Claims.{nothing, pair, plain_tag, says}
 use Rattle.md_safe.proofs.Elements.{adds-task, class-passes}
 use Rattle.md_safe.proofs.FlowNodes.{is_leaf, leaf-escaped}
 use Rattle.md_safe.proofs.Laid.{Adds, adds-alone, adds-text, adds-weaker}
@@ -33,7 +33,7 @@ use Rattle.md_safe.proofs.Media.{IsEscapedTitle, adds-image, adds-link}
 use Rattle.md_safe.proofs.SpanNodes.{is_shown, is_single}
 use Rattle.md_safe.proofs.SpanSorts.{by_pair, code-prints, code-text, code_opening, is_code}
 use Rattle.md_safe.proofs.SpanSorts.{is_math, is_pair, pair-prints, shown-escaped, shown_in}
-use Rattle.md_safe.proofs.SpanSorts.{autolink-prints, autolink_prefix, is_plain_at}
+use Rattle.md_safe.proofs.SpanSorts.{autolink-prints}
 use Rattle.md_safe.proofs.Spot.{target-title}
 use Rattle.md_safe.proofs.StringNodes.{is_text, text-node}
 use Rattle.md_safe.proofs.Tags.{Tagged, adds-flat, attribute}
@@ -66,8 +66,7 @@ autolinked m {content} f t plain prefix free =
 autolink-node : (m : Claims) (t : At) (content : Content) (name : Name) → is_autolink name ≡ true →
     SpanPrints m t content name
 autolink-node m t content name is inner k a = rw (autolink-prints m.s.context t name is inner)
-    (autolinked m a.spans t (is_plain_at t name) (autolink_prefix name)
-    (λ plain. cases (prints_link name) a.free (λ e. a.plain (or_parts _ _ (rw e at plain)).1)))
+    (grind (arith, autolinked, or_parts))
 
 -- ---- spans
 
@@ -86,8 +85,7 @@ code-node : (m : Claims) (t : At) (content : Content) (name : Name) → is_code 
     SpanPrints m t content name
 code-node m t content name is inner k a =
     let x : List ℕ = layout m.s.context.ending inner in
-    let e : Escaped (shown_in t x) = shown-escaped t x (code-text m.s t Blocks name k.escaping is
-    inner k.within) in
+    let e : Escaped (shown_in t x) = grind (arith, shown-escaped, code-text) in
     rw (code-prints m.s.context t name is inner, k.outside) (by (is_math name) (m.element Characters
     content (codes "code") a.spans.code) (m.text Characters (shown_in t x) e refl))
   where
@@ -121,8 +119,7 @@ single-node m t content GfmFootnoteCall is inner k a =
     let number : ℕ = place_among (distinct m.s.context.calls) identifier in
     let occurrence : ℕ = suc (count_of t.calls identifier) in
     rw (a.free refl, k.outside) (adds-call m.s.test (a-tag m) (m.element Phrasing Phrasing (codes
-    "sup") refl) (grind arith) identifier number occurrence (k.ids refl (call_id m.s.context.options
-    identifier number occurrence)))
+    "sup") refl) (grind arith) identifier number occurrence (grind arith))
 single-node m t content _ is inner k a = lie is
 
 -- ---- all of them
@@ -157,14 +154,13 @@ inline-node m t content name is inner k own g = cases (is_hidden name)
     (λ h. rw (hidden-prints m.s.context t name h inner) (nothing m spans.spaced)) (λ h.
     let a = here h in
     either _ _ is (λ is. escaped (text-node m.s t Escaped name (λ x h. h k.escaping) is k.fit
-    inner)) (λ c. either _ _ c (λ is. either (is_pair name) _ is (λ is. pair-node m t content name
-    is inner k a) (λ c. either (is_code name) _ c (λ is. code-node m t content name is inner k a) (λ
-    is. single-node m t content name is inner k a))) (λ c. either _ _ c (λ is. autolink-node m t
-    content name is inner k a)
-    (grind (arith, escaped, leaf-escaped, silent-prints, silent-block)))))
+    inner)) (λ c. either _ _ c (λ is. either (is_pair name) _ is (grind (arith, pair-node)) (λ c.
+    either (is_code name) _ c (λ is. code-node m t content name is inner k a) (λ is. single-node m t
+    content name is inner k a))) (λ c. either _ _ c (λ is. autolink-node m t content name is inner k
+    a) (grind (arith, escaped, leaf-escaped, silent-prints, silent-block)))))
   where
     spans : AreSpans m.nested content
-    spans = grind arith
+    spans = are-spans m.nested content g.spans
 
     here : is_hidden name ≡ false → Here m t content name inner
     here shown = record {

@@ -6,7 +6,7 @@ use name_variants.{Link, Image, HardBreakEscape, HardBreakTrailing, GfmTaskListI
 use name_variants.{GfmFootnoteCall}
 use Rattle.md_text.proofs.EncodeLaws.{is_escaped-encoded}
 use Rattle.md_meaning.specs.Meaning.At.{At}
-use Rattle.md_meaning.specs.Meaning.Layout.{Piece, layout}
+use Rattle.md_meaning.specs.Meaning.Layout.{Piece}
 use Rattle.md_meaning.specs.Meaning.Means.{prints}
 use Rattle.md_content.specs.Built.{is_autolink, Spans}
 use Rattle.md_safe.proofs.Spot.{Setting, Prints, Inside}
@@ -37,10 +37,8 @@ pub shown-in_image : (s : Setting) (t : At) (name : Name) → t.around.is_escapi
     t.around.in_image ≡ true → is_shown name ≡ true → (inner : List Piece) →
     Inside s t Spans name inner → Prints s Escaped (prints s.context t name inner)
 shown-in_image s t name e image is inner a = either (is_pair name) _ is
-    (grind (arith, pair-prints, pair-inside))
-    (λ c. either (is_code name) (is_single name) c (λ is.
-    rw (code-prints s.context t name is inner, image) (adds-text (shown-escaped t (layout
-    s.context.ending inner) (code-text s t Spans name e is inner a))))
+    (grind (arith, pair-prints, pair-inside)) (λ c. either (is_code name) (is_single name) c
+    (grind (arith, code-prints, adds-text, shown-escaped, code-text))
     (grind (arith, adds-text, adds-alone, adds-nothing, adds-weaker)))
 
 -- an autolink, which is plain there

@@ -97,8 +97,7 @@ stands-element : {nested : Bool} {content held : Content} (name : List ℕ)
 stands-element {nested} {content} name attributes inside h opens within = record {
   forest = Element name attributes within.forest Empty;
   reading = grind (arith, and_from);
-  contained = and_from _ _ (ap (λ held. option_map_or
-      (λ held. is_contained nested held within.forest) held false) opens ∙ within.contained) refl;
+  contained = grind (arith, and_from);
 }
 
 -- attribute by attribute

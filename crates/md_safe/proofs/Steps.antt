@@ -52,8 +52,7 @@ rcdata_step : (b : ℕ) (rest : List ℕ) → IsPlain b →
 rcdata_step b rest p = simp (p.no_and, p.no_less, p.no_nul)
 
 rcdata-plain : (b : ℕ) (rest : List ℕ) → IsPlain b → RcdataRuns rest → RcdataRuns (b ∷ rest)
-rcdata-plain b rest p later r t h =
-    rw (read_back-other b rest (plain-ne b p)) (loud _ (rcdata_step b _ p) (later r t h))
+rcdata-plain b rest p later r t h = grind (arith, read_back-other, plain-ne, loud, rcdata_step)
 
 pub rcdata-runs : (x : List ℕ) → is_escaped x ≡ true → RcdataRuns x
 rcdata-runs x e =

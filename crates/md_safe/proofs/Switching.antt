@@ -68,8 +68,6 @@ starts (InText mode) name attributes parser e none = nowhere false
 starts (InTableText mode) name attributes parser e none = nowhere false
 starts _ name attributes parser e none = search (entering, ap is_text e)
 
--- ---- `title`
-
 -- ---- after the characters of a table that were pending
 
 steps : (text : Bool) (name : List ℕ) (attributes : List TokenAttribute) (flag : Bool) →

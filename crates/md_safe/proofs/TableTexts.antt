@@ -1,6 +1,6 @@
 -- Texts in a table wait as pending characters, and white space is inserted as it is.
-use Rattle.std.proofs.Common.{◌≡◌, ℕ, Bool, true, false, ◌&&◌, List, [], ◌∷◌, ◌++◌, refl, sym, ap}
-use Rattle.std.proofs.Common.{map, append_assoc, append-nil, arith, eqb-true}
+use Rattle.std.proofs.Common.{◌≡◌, ℕ, Bool, true, false, ◌&&◌, List, [], ◌∷◌, ◌++◌, refl, map}
+use Rattle.std.proofs.Common.{append_assoc, append-nil, arith, eqb-true}
 use Rattle.std.specs.Prelude.{Some}
 use Rattle.std.specs.List.{list_all}
 use Rattle.std.proofs.lemmas.Bool.{and_parts, and_from, not-true}
@@ -76,8 +76,7 @@ more-waits : (mode : Mode) (stack : List Open) (active : List Entry) (created : 
     (before bytes : List ℕ) → list_all is_character bytes ≡ true → run
     (waiting mode stack active created before) (map Character bytes)
     ≡ Some (waiting mode stack active created (before ++ bytes))
-more-waits mode stack active created before [] h = ap
-    (λ x. Some (waiting mode stack active created x)) (sym (append-nil before))
+more-waits mode stack active created before [] h = grind (arith, append-nil)
 more-waits mode stack active created before (b ∷ bytes) h =
     let later = more-waits mode stack active created (before ++ (b ∷ [])) bytes in
     grind (arith, and_parts, after-one, not-true, append_assoc, later)
@@ -114,6 +113,5 @@ text-waits x bytes is tabular whole white =
       runs = first-waits x.mode is x.node x.others x.active x.created (seen bytes) tabular
           (read-filled (with_line_feeds bytes) (grind (arith, fed))) (seen-characters bytes
           parts.1);
-      settles = settled x.mode is x.node x.others x.active x.created (seen bytes) (space-read
-          (with_line_feeds bytes) (line_feeds-all is_space refl bytes white));
+      settles = grind (arith, settled, space-read, line_feeds-all);
     }

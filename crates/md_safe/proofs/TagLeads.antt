@@ -204,8 +204,7 @@ void-leads {left = left} name x r t n g h =
     let token = StartTag name (kept (onto [] x)) true in
     let on : To left (BeforeAttributeName (tag_with false name (onto [] x))) (47 ∷ 62 ∷ r)
     (token ∷ t) = quiet refl (quiet refl (loud token (good-emitted name x true r n) h)) in
-    along Data _ _ _ _ refl (all-kept name x true t g) (start-leads name x (32 ∷ 47 ∷ 62 ∷ r)
-    (token ∷ t) n g (quiet refl on) (quiet refl on))
+    along Data _ _ _ _ refl (all-kept name x true t g) (grind (arith, start-leads, quiet))
 
 pub end-leads : {left : List ℕ} (name r : List ℕ) (t : List Token) → is_good_name name ≡ true →
     To left Data r t → To left Data (60 ∷ 47 ∷ (name ++ (62 ∷ r))) (EndTag name ∷ t)

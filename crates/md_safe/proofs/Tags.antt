@@ -109,8 +109,7 @@ element-read p name = record {
 
 pub void-read : (p : Claim) (name : List ℕ) → Single p.test p.holds name
 void-read p name = record {
-  tag = λ attributes h a. rw (← (written_attributes-before attributes _)) (p.plain _ (void p.test
-      name attributes h a));
+  tag = λ attributes h a. rw (← (written_attributes-before attributes _)) (grind (arith, void));
 }
 
 -- what stays when such texts are beside it
@@ -132,8 +131,7 @@ enclosed : {W Q R : List ℕ → Type 0} {o c x y z : List ℕ} → Takes W Q �
     IsFramed W o x → Q y → IsFramed W c z → R (x ++ (y ++ z))
 enclosed {y = y} takes stays turns a r b =
     let inside = takes.take a.after y b.before a.is_after r b.is_before in
-    rw (a.whole, b.whole) (simp append_assoc (simp append_assoc at
-    (stays.take a.before _ b.after a.is_before (turns.turn _ inside) b.is_after)))
+    grind (arith, append_assoc)
 
 -- pieces between those of two texts
 pub adds-turned : {W Q R : List ℕ → Type 0} {ending o c : List ℕ} {xs ys zs : List Piece} →
@@ -209,6 +207,5 @@ adds-flat {pieces = Forced ∷ pieces} texts h = absurd (cc texts)
 pub adds-framed_flat : {W : List ℕ → Type 0} {ending : List ℕ} {xs : List Piece} → IsBeside W →
     (zs : List Piece) → are_texts zs ≡ true → Adds ending W xs →
     Adds ending (IsFramed W (flat zs)) (xs ++ zs)
-adds-framed_flat {W} {ending} {xs} beside zs texts a = subst
-    (λ zs'. Adds ending (IsFramed W (flat zs)) (xs ++ zs')) (append-nil zs) (framed-around a
-    (adds-flat texts refl) (adds-nothing beside.none))
+adds-framed_flat {W} {ending} {xs} beside zs texts a = subst (λ zs'. Adds ending (IsFramed W (flat
+    zs)) (xs ++ zs')) (append-nil zs) (grind (arith, framed-around, adds-flat, adds-nothing))

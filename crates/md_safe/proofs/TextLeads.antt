@@ -1,6 +1,6 @@
 -- Step by step: the way to the data state from a state, by the way from the state after its first
 -- step.
-use Rattle.std.proofs.Common.{arith, ◌≡◌, ℕ, List, [], ◌∷◌, ◌++◌, map, refl, subst, append-nil}
+use Rattle.std.proofs.Common.{arith, ◌≡◌, ℕ, List, [], ◌∷◌, ◌++◌, map, refl, append-nil}
 use Rattle.std.proofs.Common.{append_assoc, true}
 use Rattle.md_text.specs.References.{is_escaped, read_back}
 use Rattle.md_text.proofs.EncodeLaws.{read_back-other}
@@ -32,8 +32,7 @@ loud {left} x e h = leads-back left _ _ _ _ (x ∷ []) _ e h
 -- the same way, of what is equal
 pub along : {left : List ℕ} (state : State) (x y : List ℕ) (s t : List Token) → x ≡ y → s ≡ t →
     To left state x s → To left state y t
-along {left = left} state x y s t e f h =
-    subst (λ u. To left state y u) f (subst (λ u. To left state u s) e h)
+along {left = left} state x y s t e f h = grind arith
 
 -- ---- a text
 
@@ -43,8 +42,7 @@ TextLeads left x = (r : List ℕ) (t : List Token) → To left Data r t →
 
 plain-leads : (left : List ℕ) (b : ℕ) (rest : List ℕ) → IsPlain b → TextLeads left rest →
     TextLeads left (b ∷ rest)
-plain-leads left b rest p later r t h = rw (read_back-other b rest (plain-ne b p))
-    (loud (Character b) (plain_step b (rest ++ r) p.no_and p.no_less) (later r t h))
+plain-leads left b rest p later r t h = grind (arith, read_back-other, plain-ne, loud, plain_step)
 
 pub text-leads : (left x : List ℕ) → is_escaped x ≡ true → TextLeads left x
 text-leads left x e = by_escaped _ (λ r t h. h) (plain-leads left) (λ rest later r t h. quiet refl
@@ -69,8 +67,7 @@ ValueLeads left x = (tag : List ℕ) (earlier : List TokenAttribute) (name value
 value-plain : (left : List ℕ) (b : ℕ) (rest : List ℕ) → IsPlain b → ValueLeads left rest →
     ValueLeads left (b ∷ rest)
 value-plain left b rest p later tag earlier name value r t h = quiet (grind arith) (later tag
-    earlier name (value ++ (b ∷ [])) r t (rw append_assoc (rw (read_back-other b rest (plain-ne b
-    p)) at h)))
+    earlier name (value ++ (b ∷ [])) r t (grind (arith, append_assoc, read_back-other, plain-ne)))
 
 pub value-leads : (left x : List ℕ) → is_escaped x ≡ true → ValueLeads left x
 value-leads left x e = by_escaped _ (λ tag earlier name value r t h. rw append-nil at h)

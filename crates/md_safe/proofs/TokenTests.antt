@@ -60,8 +60,7 @@ pub all-tokenized : (p : Token → Bool) (q : Attribute → Bool) → PassesTags
     list_all p x ≡ true
 all-tokenized p q o text x one h = subst (λ x. list_all p x ≡ true) (one_run Data
     (with_line_feeds text) (tokens one.forest ++ (EndOfFile ∷ [])) x (reading-runs q text one) h)
-    (all-append p (tokens one.forest) (EndOfFile ∷ []) (all-tokens p q o one.forest
-    one.reading.in_grammar one.passes) (and_from _ _ o.end_of_file refl))
+    (grind (arith, all-append, all-tokens, and_from))
 
 -- ---- two of them
 

@@ -33,8 +33,7 @@ document-prints : (s : Setting) → IsWhole s.p → (document : Forest) →
     s.context (outcome s.context outermost nothing_before document).footnotes))
 document-prints s whole document built keeps =
     let known = means s document outermost nothing_before Blocks built (outermost-ready s whole) in
-    adds-alone (known.prints _ (rw (blocks-stay document) (section-prints s whole keeps.usual_tag
-    keeps.usual_attributes _ known.texts)))
+    grind (arith, adds-alone, blocks-stay, section-prints)
 
 -- the meaning has a reading in which each attribute passes the test
 meaning-reads : (p : Attribute → Bool) (bytes : List ℕ) (names : List (List ℕ × List ℕ))

@@ -115,9 +115,7 @@ distinct-ids bytes names options document built underlined keeps small =
       calls-fewer bytes document,
       small,
       arith,
-    ))
-    (calls-same d.context document outermost nothing_before
-    ∙ sym (calls-same alone document outermost nothing_before)))
+    )) (grind (arith, calls-same)))
 
 -- each id of a document is that of the heading, of a footnote or of a call
 known-id : (bytes : List ℕ) (names : List (List ℕ × List ℕ)) (options : CompileOptions)
@@ -129,12 +127,10 @@ known-id bytes names options document built underlined keeps f reading w some =
     let alone : Context = alone_of bytes names options document in
     let d : Document = document_of bytes names options document built keeps.grammar in
     let counts = document-counts d w document keeps.grammar built underlined
-    (calls-same d.context document outermost nothing_before
-    ∙ sym (calls-same alone document outermost nothing_before)) in
+    (grind (arith, calls-same)) in
     let same : f ≡ counts.forest =
     one_reading (meaning options names bytes document) f counts.forest reading counts.reading in
-    document-known options keeps.by_number w d.context.calls
-    (omega (arith, some, ap (λ g. occurs w (ids g)) same, counts.few))
+    grind (arith, document-known)
 
 -- what follows the prefix in the id of a footnote or of a call
 tail_of : (options : CompileOptions) (w : List ℕ) → IsNote options w ⊎ IsCall options w →
@@ -177,10 +173,8 @@ pub apart : (bytes other_bytes : List ℕ) (names other_names : List (List ℕ �
     (meaning other_options other_names other_bytes other)
 apart bytes other_bytes names other_names options other_options document other built underlined
     keeps other_built other_underlined other_keeps differ f g reading other_reading =
-    apart-ids (ids f) (ids g) (λ w here there.
-    of w (known-id bytes names options document built underlined keeps f reading w here)
-    (known-id other_bytes other_names other_options other other_built other_underlined other_keeps g
-    other_reading w there))
+    apart-ids (ids f) (ids g) (λ w here there. of w (known-id bytes names options document built
+    underlined keeps f reading w here) (grind (arith, known-id)))
   where
     of : (w : List ℕ) → (codes "footnote-label" ≡ w) ⊎ (IsNote options w ⊎ IsCall options w) →
         (codes "footnote-label" ≡ w) ⊎ (IsNote other_options w ⊎ IsCall other_options w) →
