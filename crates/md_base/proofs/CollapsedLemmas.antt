@@ -50,8 +50,11 @@ in_word-single (b ∷ c ∷ text) singles ends =
     elim (cases_eq b 32) [
       | inl space ↦ (let black = above_is_black c (here.1 space) in
           let white : is_white b ≡ true = rw space refl in
-          rw (in_word-white b (c ∷ text) white, after_word-black c text black) (cc (later, in_word-black c text black, space)))
-      | inr other ↦ rw (in_word-black b (c ∷ text) (above_is_black b (omega (arith, here.0, other))), later) refl
+          let more = in_word-black c text black in
+          rw (in_word-white b (c ∷ text) white, after_word-black c text black)
+          (cc (later, more, space)))
+      | inr other ↦ (let black = above_is_black b (omega (arith, here.0, other)) in
+          rw (in_word-black b (c ∷ text) black, later) refl)
     ]
 
 pub collapsed-single : (text : List ℕ) → 33 ≤ get_or text 0 0 → EndsBlack text →

@@ -63,7 +63,8 @@ wide_bytes c wide k inside =
 pub lowered_character : (c : ℕ) → c < 128 →
     map to_ascii_lowercase (encode_utf8 c) ≡ encode_utf8_all (full_fold c)
 lowered_character c narrow =
-    rw (encode_ascii c narrow, ← encode_ascii (to_ascii_lowercase c) (lower_ascii c narrow)) (lowered_folds c narrow)
+    let low = encode_ascii (to_ascii_lowercase c) (lower_ascii c narrow) in
+    rw (encode_ascii c narrow, ← low) (lowered_folds c narrow)
 
 pub kept_character : (c : ℕ) (table : List ℕ) → 128 ≤ c →
     table ≡ full_folding c → length table < 1 →
@@ -82,4 +83,5 @@ pub lowered_step : (old rest : List ℕ) (c : ℕ) → IsUtf8 old → old ≡ en
     map to_ascii_lowercase (encode_utf8 c) ≡ encode_utf8_all (full_fold c) →
     IsLowered rest → IsLowered old
 lowered_step old rest c text e first later =
-    rw (e, map-append, first, later) (fold_step [] rest (encode_utf8 c ++ rest) c (rw e at text) refl)
+    rw (e, map-append, first, later)
+    (fold_step [] rest (encode_utf8 c ++ rest) c (rw e at text) refl)

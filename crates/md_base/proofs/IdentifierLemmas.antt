@@ -38,17 +38,9 @@ white_split : (b : ℕ) (text : List ℕ) → is_white b ≡ true →
     slice_split is_white (b ∷ text) ≡ [] ∷ slice_split is_white text
 white_split b text white = grind arith
 
-pub collapsed-white : (b : ℕ) (text : List ℕ) → is_white b ≡ true →
-    collapsed (b ∷ text) ≡ collapsed text
-collapsed-white b text white = grind (arith, white_split)
-
 pub in_word-white : (b : ℕ) (text : List ℕ) → is_white b ≡ true →
     in_word (b ∷ text) ≡ after_word text
 in_word-white b text white = ap word_on (white_split b text white)
-
-pub after_word-white : (b : ℕ) (text : List ℕ) → is_white b ≡ true →
-    after_word (b ∷ text) ≡ after_word text
-after_word-white b text white = grind (arith, white_split)
 
 -- ---- at another byte
 
@@ -128,7 +120,7 @@ word_step is_gap written [] rest some black owed = absurd (omega (arith, some))
 word_step is_gap written (b ∷ word) rest some black owed =
     let first = black zero some in
     let later = word_runs word rest (λ k inside. black (suc k) (omega (arith, inside))) in
-    grind (arith, collapsed-black, after_word-black, in_word-black, append_assoc, first, later, owed)
+    grind (arith, collapsed-black, after_word-black, in_word-black, append_assoc, first, later)
 
 pub black_step : (is_gap : Bool) (written : List ℕ) (c : ℕ) (rest : List ℕ) → is_white c ≡ false →
     (is_gap ≡ true → 0 < length written) → (written ++ (cond is_gap (32 ∷ []) [] ++ encode_utf8 c))
