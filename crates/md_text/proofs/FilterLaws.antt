@@ -47,30 +47,18 @@ letter_no_angle b e is = grind (arith, e, is)
 name_run-filtered : (x : List ℕ) → name_run (tag_filtered x) ≡ name_run x
 name_run-filtered [] = refl
 name_run-filtered (b ∷ rest) = elim (cases_Bool (is_letter b)) [
-  | inl letter ↦ rw (
-    tag_filtered-other b rest (letter_no_angle b letter),
-    name_run-letter b _ letter,
-    name_run-letter b rest letter,
-    name_run-filtered rest,
-  ) refl
-  | inr other ↦ elim (filtered_byte-cases b rest) [
-    | inl same ↦ rw (same, name_run-other b _ other, name_run-other b rest other) refl
-    | inr armed ↦ rw (armed.1, name_run-other b rest other) refl
-  ]
+  | inl letter ↦ rw (tag_filtered-other b rest (letter_no_angle b letter)) (rw (name_run-letter b
+      (tag_filtered rest) letter) (rw (name_run-letter b rest letter)
+      (rw (name_run-filtered rest) refl)))
+  | inr other ↦ grind (arith, filtered_byte-cases b rest, name_run-other, other)
 ]
 
 ends_name-filtered : (x : List ℕ) → ends_name (past_run (tag_filtered x)) ≡ ends_name (past_run x)
 ends_name-filtered [] = refl
 ends_name-filtered (b ∷ rest) = elim (cases_Bool (is_letter b)) [
-  | inl letter ↦ rw (
-    tag_filtered-other b rest (letter_no_angle b letter),
-    past_run-letter b _ letter,
-    past_run-letter b rest letter,
-  ) (ends_name-filtered rest)
-  | inr other ↦ elim (filtered_byte-cases b rest) [
-    | inl same ↦ rw (same, past_run-other b _ other, past_run-other b rest other) refl
-    | inr armed ↦ rw (armed.1, past_run-other b rest other, armed.0) refl
-  ]
+  | inl letter ↦ rw (tag_filtered-other b rest (letter_no_angle b letter)) (rw (past_run-letter b
+      (tag_filtered rest) letter) (rw (past_run-letter b rest letter) (ends_name-filtered rest)))
+  | inr other ↦ grind (arith, filtered_byte-cases b rest, past_run-other, other)
 ]
 
 past_slash-filtered : (x : List ℕ) → past_slash (tag_filtered x) ≡ tag_filtered (past_slash x)

@@ -143,19 +143,11 @@ counts-made w x hx = record {
       counts-more w _ _ _ (omega (occurs-append w (ids_in attributes) (ids rest), arith))
       (counts-join w _ _ _ _ (counts-void w name attributes tag) later);
   rests = λ name attributes children rest y tag forest later.
-      counts-more w _ _ _ (omega (
-        occurs-append w (ids_in attributes) (ids children ++ ids rest),
-        occurs-append w (ids children) (ids rest),
-        arith,
-      ))
+      counts-more w _ _ _ (omega (occurs-append w, arith))
       (counts-join w _ _ _ _ (counts-enclosed w _ (occurs w (ids_in attributes)) name attributes _
       tag (omega arith) (counts-written w children forest)) later);
   insides = λ name attributes children rest tag forest rests.
-      counts-more w _ _ _ (omega (
-        occurs-append w (ids_in attributes) (ids children ++ ids rest),
-        occurs-append w (ids children) (ids rest),
-        arith,
-      ))
+      counts-more w _ _ _ (omega (occurs-append w, arith))
       (counts-join w _ _ _ _ (counts-enclosed w _ (occurs w (ids_in attributes)) name attributes _
       tag (omega arith) (counts-join w _ 0 _ _ (counts-written w children forest)
       (counts-plain w x hx))) (counts-written w rest rests));

@@ -90,30 +90,25 @@ read_forest-at (suc n) Empty r h ends l = elim ends [
 ]
 read_forest-at (suc n) (Text bytes rest) r h ends l =
     let p = text_parts bytes rest h in
-    rw (
-      at_node-text (read_forest n) bytes (forest_before rest r) p.filled p.angles,
-      read_run-at no_angle bytes (forest_before rest r) p.angles (after_text rest r p.alone ends),
-      read_forest-at n rest r p.later ends (omega arith),
-    ) refl
+    let tail = forest_before rest r in
+    let node = at_node-text (read_forest n) bytes tail p.filled p.angles in
+    let run = read_run-at no_angle bytes tail p.angles (after_text rest r p.alone ends) in
+    rw (node, run, read_forest-at n rest r p.later ends (omega arith)) refl
 read_forest-at (suc n) (Void name attributes rest) r h ends l =
     let p = void_parts name attributes rest h in
     let later = forest_before rest r in
-    rw (
-      tag-at (read_forest n) name attributes (32 ∷ 47 ∷ 62 ∷ later) p.tidy
-          (inr (62 ∷ later, refl)),
-      read_forest-at n rest r p.later ends (omega arith),
-    ) refl
+    let tag = tag-at (read_forest n) name attributes (32 ∷ 47 ∷ 62 ∷ later) p.tidy
+    (inr (62 ∷ later, refl)) in
+    rw (tag, read_forest-at n rest r p.later ends (omega arith)) refl
 read_forest-at (suc n) (Element name attributes children rest) r h ends l =
     let p = element_parts name attributes children rest h in
-    let later = forest_before rest r in
-    let close = 60 ∷ 47 ∷ (name ++ (62 ∷ later)) in
-    rw (
-      tag-at (read_forest n) name attributes (62 ∷ forest_before children close) p.tidy
-          (inl (forest_before children close, refl)),
-      read_forest-at n children close p.inside (inr (name ++ (62 ∷ later), refl)) (omega arith),
-      past_name_bytes name (62 ∷ later),
-      read_forest-at n rest r p.later ends (omega arith),
-    ) refl
+    let close = name ++ (62 ∷ forest_before rest r) in
+    let inner = forest_before children (60 ∷ 47 ∷ close) in
+    let tag = tag-at (read_forest n) name attributes (62 ∷ inner) p.tidy (inl (inner, refl)) in
+    let inside = read_forest-at n children (60 ∷ 47 ∷ close) p.inside (inr (close, refl))
+    (omega arith) in
+    let past = past_name_bytes name (62 ∷ forest_before rest r) in
+    rw (tag, inside, past, read_forest-at n rest r p.later ends (omega arith)) refl
 
 size-written : (f : Forest) → is_forest f ≡ true → size f ≤ suc (length (written f))
 size-written Empty h = omega arith

@@ -19,7 +19,8 @@ pub encoded-kept : (html : Bool) (bs : List ℕ) →
     encoded html (take (prefix_len (is_kept html) bs) bs) ≡ take (prefix_len (is_kept html) bs) bs
 encoded-kept html [] = refl
 encoded-kept html (b ∷ bs) = elim (cases_Bool (is_kept html b)) [
-  | inl e ↦ rw e (rw (← next (prefix_len (is_kept html) bs), kept-stays html b e, encoded-kept html bs) refl)
+  | inl e ↦ rw e (rw (← next (prefix_len (is_kept html) bs)) (rw (kept-stays html b e)
+      (rw (encoded-kept html bs) refl)))
   | inr e ↦ rw e refl
 ]
 

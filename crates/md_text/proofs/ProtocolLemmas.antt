@@ -66,13 +66,10 @@ reference-goes_on : (rest : List ℕ) → front_goes_on (reference_tail rest) re
 reference-goes_on rest =
     let P : Option (List ℕ × ℕ) → Type 0 =
     λ found. front_goes_on (option_map_or (λ reference. length reference.0) found 0) rest ≡ true in
-    cond_both (begins_with (codes "amp;") rest) (Some (codes "amp;", 38)) _ P
-    (front_from (codes "amp;") rest refl) (λ _. cond_both (begins_with (codes "quot;") rest)
-    (Some (codes "quot;", 34)) _ P (front_from (codes "quot;") rest refl)
-    (λ _. cond_both (begins_with (codes "lt;") rest) (Some (codes "lt;", 60)) _ P
-    (front_from (codes "lt;") rest refl)
-    (λ _. cond_both (begins_with (codes "gt;") rest) (Some (codes "gt;", 62)) None P
-    (front_from (codes "gt;") rest refl) (λ _. refl))))
+    let on = λ (s : List ℕ) (g : list_all goes_on s ≡ true). front_from s rest g in
+    cond_both _ _ _ P (on (codes "amp;") refl) (λ _. cond_both _ _ _ P (on (codes "quot;") refl)
+    (λ _. cond_both _ _ _ P (on (codes "lt;") refl) (λ _. cond_both _ _ _ P (on (codes "gt;") refl)
+    (λ _. refl))))
 
 referenced-goes_on : (rest : List ℕ) → goes_on (referenced rest) ≡ true
 referenced-goes_on rest =
@@ -105,7 +102,8 @@ none_stays zero (b ∷ rest) f e = elim (cases_eq b 38) [
       let first = referenced-goes_on rest in
       rw is (rw (protocol_of-goes_on (referenced rest) _ first) (rw later refl)))
   | inr ne ↦ rw (read_back-other b rest ne) (elim (cases_Bool (goes_on b)) [
-    | inl on ↦ (let tail = map_none b (protocol_of rest) (rw (protocol_of-goes_on b rest on) at e) in
+    | inl on ↦ (let tail =
+        map_none b (protocol_of rest) (rw (protocol_of-goes_on b rest on) at e) in
         rw (protocol_of-goes_on b (read_back rest) on) (rw (none_stays 0 rest refl tail) refl))
     | inr off ↦ grind (arith, off, e)
   ])

@@ -49,10 +49,9 @@ completes-encoded : (y : List ℕ) → AreUrlBytes y → completes_triple y ≡ 
 completes-encoded [] u e = e
 completes-encoded (a ∷ []) u e = cc
 completes-encoded (a ∷ b ∷ rest) u e =
-    let first = triple-encoded a (All-head IsUrl a (b ∷ rest) u) (grind (arith, e)) in
-    let second = triple-encoded b (All-head IsUrl b rest (All-tail IsUrl a (b ∷ rest) u))
-    (grind (arith, e)) in
-    rw (first, second) e
+    let first = triple-encoded a (All-head IsUrl a (b ∷ rest) u) in
+    let second = triple-encoded b (All-head IsUrl b rest (All-tail IsUrl a (b ∷ rest) u)) in
+    grind (arith, first, second, e)
 
 percents-encoded : (y : List ℕ) → AreUrlBytes y → percents_begin_triples y ≡ true →
     percents_begin_triples (encoded true y) ≡ true

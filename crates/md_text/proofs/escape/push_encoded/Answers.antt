@@ -29,7 +29,8 @@ goes_on (b ∷ before) (x ∷ now) more e =
 changes : (html : _) (rest : List ℕ) (index : ℕ) → index ≡ prefix_len (is_kept html) rest →
     index < length rest →
     is_kept html (get_or rest index 0) ≡ false
-changes html rest index place inside = rw place (prefix_len_stops (is_kept html) rest 0 (omega (arith, place)))
+changes html rest index place inside =
+    rw place (prefix_len_stops (is_kept html) rest 0 (omega (arith, place)))
 
 pub range-requires-clause-end_boundary : goal.range-requires-clause-end_boundary
 range-requires-clause-end_boundary c =

@@ -1,4 +1,5 @@
 -- Bytes past ASCII become triples.
+use Rattle.std.proofs.lemmas.Grind.{common_steps}
 use Rattle.std.proofs.Common.{◌++◌, List, ℕ, ◌-◌, length, get_or, take, drop, ap, ◌∙◌, arith}
 use Rattle.std.proofs.Common.{append_assoc, string_bytes}
 use Rattle.std.proofs.lemmas.List.{take_all, length-drop}
@@ -26,9 +27,4 @@ returns-in_ok-push_four-in-len3-up-clause-value c =
 pub returns-in_ok-push_percent-in_default-clause-value :
     goal.returns-in_ok-push_percent-in_default-clause-value
 returns-in_ok-push_percent-in_default-clause-value c =
-    let rest : List ℕ = c.args.rest.now in
-    let before : List ℕ = string_bytes c.args.out.now in
-    ap (λ x. x ++ sanitized rest) c.in_ok-push_percent-in_default.ensures
-    ∙ append_assoc before (percent c.args.byte) (sanitized rest)
-    ∙ ap (λ x. before ++ x)
-    (sanitized-percent c.args.byte rest c.ranges.byte.fits (stays-high c.args.byte rest c.requires))
+    grind (arith, common_steps, append_assoc, sanitized-percent, stays-high)
