@@ -74,8 +74,8 @@ pub passed_exit-by :
       here = next_outer stack;
       outer = others_outer stack;
     } ≡ passed_exit name pass
-passed_exit-by name pass own here after facts columns definitions left stack own_is left_is here_is stack_is after_is facts_is columns_is definitions_is =
-    grind arith
+passed_exit-by name pass own here after facts columns definitions left stack own_is left_is here_is
+    stack_is after_is facts_is columns_is definitions_is = grind arith
 
 -- a node without children, by what each step gave
 pub passed_leaf-by :
@@ -94,5 +94,6 @@ pub passed_leaf-by :
       here = next_outer stack;
       outer = others_outer stack;
     } ≡ passed_exit name (passed_entry name pass)
-passed_leaf-by name pass entry here after columns once twice definitions stack plain entry_is once_is twice_is here_is stack_is columns_is definitions_is after_is =
+passed_leaf-by name pass entry here after columns once twice definitions stack plain entry_is
+    once_is twice_is here_is stack_is columns_is definitions_is after_is =
     grind (arith, passed-leaf_by)

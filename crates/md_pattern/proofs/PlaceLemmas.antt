@@ -74,8 +74,9 @@ rows-count rows are = grind (arith, are.decodes, length-decoded, length-map, cou
 row-decoded : (rows : List (List ℕ)) (i : ℕ) → AreRows rows → i < length rows →
     map (λ letter. decoded i letter) (get_or rows i []) ≡ moves (place_at i)
 row-decoded rows i are inside =
+    let few : i < length places = omega (arith, inside, counted, rows-count rows are) in
     rw (← decoded-row 0 i i rows (omega arith) inside, are.decodes)
-    (get_or-map (λ place. moves place) places i _ [] (omega (arith, inside, counted, rows-count rows are)))
+    (get_or-map (λ place. moves place) places i _ [] few)
 
 row-long : (rows : List (List ℕ)) (i : ℕ) → AreRows rows → i < length rows →
     length (get_or rows i []) ≡ 47
@@ -120,11 +121,6 @@ encodes_row-some i letter other all = grind arith
 pub ends-count : (letters : List ℕ) → AreEnds letters → length letters ≡ 114
 ends-count letters are = grind (arith, are, length-map, counted)
 
--- the last symbol of a spine doesn't decide whether the spine may end
-whole-complete : (place : At) (before : Option Symbol) →
-    is_complete (state_at place None) ≡ is_complete (state_at place before)
-whole-complete place before = refl
-
 pub ends-at : (letters : List ℕ) (i letter : ℕ) (before : Option Symbol) → AreEnds letters →
     i < length letters →
     letter ≡ get_or letters i 0 → eqb letter 101 ≡ is_complete (state_at (place_at i) before)
@@ -151,8 +147,8 @@ pub start-at : (rows : List ℕ) (i : ℕ) (r : Role) → AreStarts rows → i <
 start-at rows i r are few is =
     let here = get_or-map (λ row. place_at row) rows i 0 (at role.Childless 0 Whole)
     (omega (arith, few, starts-count rows are)) in
-    let there = get_or-map (λ r. at r 0 Whole) all_roles i role.Childless (at role.Childless 0 Whole)
-    (omega (arith, few, roles-counted)) in
+    let there = get_or-map (λ r. at r 0 Whole) all_roles i role.Childless
+    (at role.Childless 0 Whole) (omega (arith, few, roles-counted)) in
     cc (here, there, is, are)
 
 -- ---- nodes without children
