@@ -1,5 +1,5 @@
 -- What texts stay where the innermost one ends or goes.
-use Rattle.std.proofs.Common.{◌≡◌, ℕ, ◌≤◌, if◌then◌else◌, nat_lt, Bool, true, false, List, [], ◌∷◌}
+use Rattle.std.proofs.Common.{◌≡◌, ℕ, ◌≤◌, List, [], ◌∷◌}
 use Rattle.std.proofs.Common.{◌++◌, length, take, drop, reverse, refl, ap, sym, subst, ◌∙◌, arith}
 use Rattle.std.proofs.lemmas.List.{take-take, drop_all, drop-append-le, take-append-drop}
 use Rattle.std.proofs.lemmas.List.{length-take-le, length-take, reverse-append}
@@ -10,10 +10,8 @@ use Rattle.md_buffer.specs.declared.output.Start.{Start}
 use Rattle.md_buffer.specs.Texts.{Texts}
 use Rattle.md_buffer.specs.Waiting.{merged, before, texts_of, Fit, IsSound, without_open}
 use Rattle.md_buffer.specs.Waiting.{texts_from}
-use Rattle.md_buffer.proofs.HeadsFit.{fit-utf8}
-use Rattle.md_buffer.proofs.Merged.{nothing}
-use Rattle.md_buffer.proofs.HeadsFit.{fit-all}
-use Rattle.md_buffer.proofs.Merged.{merged-all, merged-split, fit-split, merged-open}
+use Rattle.md_buffer.proofs.HeadsFit.{fit-utf8, fit-all}
+use Rattle.md_buffer.proofs.Merged.{nothing, merged-all, merged-split, fit-split, merged-open}
 use Rattle.md_buffer.proofs.Renewed.{renewed, renewed_texts, changed, changed_texts}
 use Rattle.md_buffer.proofs.Sound.{within}
 
@@ -81,20 +79,11 @@ popped before after last e = ap (λ (l : List Start). reverse l) e ∙ reverse-a
 -- the texts of heads that are left
 left : (heads : List ℕ) (waiting : List Head) (start : Start) →
     take start.heads (texts_from start.first start.heads waiting heads) ≡ take start.heads heads
-left heads waiting start = by (nat_lt start.first (length waiting))
-  where
-    by : (some : Bool) →
-        take start.heads (if some then take start.heads heads else heads) ≡ take start.heads heads
-    by true = take-take start.heads start.heads heads (omega arith)
-    by false = refl
+left heads waiting start = grind (arith, take-take)
 
 left-within : (heads : List ℕ) (waiting : List Head) (start : Start) → start.heads ≤ length heads →
     start.heads ≤ length (texts_from start.first start.heads waiting heads)
-left-within heads waiting start within = by (nat_lt start.first (length waiting))
-  where
-    by : (some : Bool) → start.heads ≤ length (if some then take start.heads heads else heads)
-    by true = (let l = length-take start.heads heads in omega arith)
-    by false = within
+left-within heads waiting start within = grind (arith, length-take)
 
 pub clear : (bytes heads : List ℕ) (waiting : List Head) (start : Start) (outers : List Start) →
     IsSound bytes heads waiting start outers →
@@ -126,17 +115,7 @@ pub clear_texts :
     (take start.first waiting) start outers
     ≡ record { text = []; below = before bytes heads waiting start outers }
 clear_texts bytes heads waiting start outers sound =
-    let front : List ℕ = take start.place bytes in
-    let others : List ℕ = texts_from start.first start.heads waiting heads in
-    let kept : List Head = take start.first waiting in
-    let long : length front ≡ start.place =
-    length-take-le start.place bytes (within bytes heads waiting start outers sound) in
-    let many : length kept ≡ start.first = length-take-le start.first waiting sound.first in
-    renewed_texts bytes front heads others waiting kept start outers [] sound
-    (sym (take-take start.place start.place bytes (omega arith))) (sym (left heads waiting start))
-    (sym (take-take start.first start.first waiting (omega arith)))
-    (ap (λ (ws : List Head). merged front others start.place ws)
-    (drop_all start.first kept (omega arith)) ∙ nothing start.place bytes)
+    grind (arith, length-take-le, renewed_texts, take-take, drop_all, nothing)
 
 -- where the texts of its heads start
 pub heads-boundary : (bytes heads : List ℕ) (waiting : List Head) (start : Start)
@@ -166,11 +145,4 @@ pub close_texts :
     texts_of bytes heads (take start.first waiting) start outers
     ≡ texts_of bytes heads waiting start outers
 close_texts bytes heads waiting start outers none sound =
-    let kept : List Head = take start.first waiting in
-    let many : length kept ≡ start.first = length-take-le start.first waiting sound.first in
-    changed_texts bytes bytes heads waiting kept start outers
-    (merged bytes heads start.place (drop start.first waiting)) sound refl
-    (sym (take-take start.first start.first waiting (omega arith)))
-    (ap (λ (ws : List Head). merged bytes heads start.place ws)
-    (drop_all start.first kept (omega arith) ∙ sym none)
-    ∙ merged-open bytes heads start.place (drop start.first waiting) sound.text)
+    grind (arith, length-take-le, changed_texts, take-take, drop_all, merged-open)

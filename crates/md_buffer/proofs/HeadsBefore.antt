@@ -1,17 +1,15 @@
 -- The texts that stay when a head is inserted before the innermost one, or replaces the reserved
 -- head.
-use Rattle.std.proofs.Common.{◌≡◌, ℕ, ◌≤◌, ◌<◌, inr, List, ◌∷◌, ◌++◌, length, take, drop, refl, ap}
-use Rattle.std.proofs.Common.{sym, subst, ◌∙◌, arith, length-append}
+use Rattle.std.proofs.Common.{◌≡◌, ℕ, ◌≤◌, ◌<◌, inr, List, ◌∷◌, ◌++◌, length, take, drop, refl}
+use Rattle.std.proofs.Common.{sym, subst, arith, length-append}
 use Rattle.std.proofs.lemmas.List.{take_all, take_at, drop_at, take-append-le, length-take-le}
 use Rattle.std.specs.Str.{IsUtf8}
 use Rattle.md_buffer.specs.declared.heads.Head.{Head}
 use Rattle.md_buffer.specs.declared.output.Start.{Start}
 use Rattle.md_buffer.specs.Waiting.{text_of, merged, before, texts_of, IsHead, Fit, IsSound}
 use Rattle.md_buffer.specs.Waiting.{without_open}
-use Rattle.md_buffer.proofs.HeadsFit.{fit-utf8}
-use Rattle.md_buffer.proofs.Merged.{nothing}
-use Rattle.md_buffer.proofs.HeadsFit.{fit-heads}
-use Rattle.md_buffer.proofs.Merged.{merged-heads, merged-open, fit-open}
+use Rattle.md_buffer.proofs.HeadsFit.{fit-utf8, fit-heads}
+use Rattle.md_buffer.proofs.Merged.{nothing, merged-heads, merged-open, fit-open}
 use Rattle.md_buffer.proofs.Renewed.{renewed, renewed_texts, changed, changed_texts}
 
 -- with more texts of heads
@@ -30,10 +28,7 @@ pub grown_texts :
     IsSound bytes heads waiting start outers →
     texts_of bytes (heads ++ more) waiting start outers ≡ texts_of bytes heads waiting start outers
 grown_texts bytes heads more waiting start outers sound =
-    renewed_texts bytes bytes heads (heads ++ more) waiting waiting start outers
-    (merged bytes heads start.place (drop start.first waiting)) sound refl
-    (sym (take-append-le start.heads heads more sound.within)) refl (sym (merged-heads bytes heads
-    more (length bytes) start.place (drop start.first waiting) bytes sound.text))
+    grind (arith, renewed_texts, take-append-le, merged-heads)
 
 -- later: it stands first among those that wait in it
 abbrev pub waits_first : List Head → ℕ → Head → List Head
@@ -70,31 +65,13 @@ pub later_texts : (bytes heads : List ℕ) (waiting : List Head) (head : Head) (
       below = before bytes heads waiting start outers;
     }
 later_texts bytes heads waiting head start outers at sound =
-    let kept : List Head = take start.first waiting in
-    let many : length kept ≡ start.first = length-take-le start.first waiting sound.first in
-    let rest : List Head = without_open (drop start.first waiting) in
-    changed_texts bytes bytes heads waiting (kept ++ head ∷ rest) start outers
-    (text_of heads head ++ merged bytes heads start.place (drop start.first waiting)) sound refl
-    (sym (take_at kept (head ∷ rest) start.first many))
-    (ap (λ (ws : List Head). merged bytes heads start.place ws)
-    (drop_at kept (head ∷ rest) start.first many)
-    ∙ ap (λ n. drop start.place (take n bytes) ++ (text_of heads head ++ merged bytes heads n rest))
-    at ∙ ap (λ t. t ++ (text_of heads head ++ merged bytes heads start.place rest))
-    (nothing start.place bytes) ∙ ap (λ t. text_of heads head ++ t)
-    (merged-open bytes heads start.place (drop start.first waiting) sound.text))
+    grind (arith, length-take-le, changed_texts, take_at, drop_at, nothing, merged-open)
 
 -- where the heads end with its text
 pub is_last : (heads more : List ℕ) (head : Head) → IsUtf8 heads → IsUtf8 (heads ++ more) →
     head.from ≡ length heads → head.to ≡ length (heads ++ more) → IsHead (heads ++ more) head
-is_last heads more head utf8 both from to = record {
-  ordered = omega (arith, length-append heads more);
-  within = omega arith;
-  from = subst (λ t. IsUtf8 t) (sym (take_at heads more head.from (sym from))) utf8;
-  to = subst (λ t. IsUtf8 t) (sym (take_all head.to (heads ++ more) (omega arith))) both;
-}
+is_last heads more head utf8 both from to = grind (arith, length-append, take_at, take_all)
 
 pub last_text : (heads more : List ℕ) (head : Head) → head.from ≡ length heads →
     head.to ≡ length (heads ++ more) → text_of (heads ++ more) head ≡ more
-last_text heads more head from to =
-    ap (λ t. drop head.from t) (take_all head.to (heads ++ more) (omega arith))
-    ∙ drop_at heads more head.from (sym from)
+last_text heads more head from to = grind (arith, take_all, drop_at)

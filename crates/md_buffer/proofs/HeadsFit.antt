@@ -11,9 +11,8 @@ pub fit-bound : (bytes heads : List ℕ) (limit from : ℕ) (waiting : List Head
     Fit bytes heads limit from waiting → from ≤ limit
 fit-bound bytes heads limit from [] fit = fit.0
 fit-bound bytes heads limit from (head ∷ waiting) fit =
-    let a : from ≤ head.place = fit.0 in
-    let b : head.place ≤ limit = fit-bound bytes heads limit head.place waiting fit.4 in
-    omega arith
+    let later = fit-bound bytes heads limit head.place waiting fit.4 in
+    grind (arith, later)
 
 pub fit-utf8 : (bytes heads : List ℕ) (limit from : ℕ) (waiting : List Head) →
     Fit bytes heads limit from waiting → IsUtf8 (take from bytes)
@@ -33,8 +32,7 @@ pub fit-from : (bytes heads : List ℕ) (limit from place : ℕ) (waiting : List
     Fit bytes heads limit from waiting
 fit-from bytes heads limit from place [] ordered utf8 fit =
     (let a : place ≤ limit = fit.0 in omega arith, utf8)
-fit-from bytes heads limit from place (head ∷ waiting) ordered utf8 fit =
-    (let a : place ≤ head.place = fit.0 in omega arith, utf8, fit.2, fit.3, fit.4)
+fit-from bytes heads limit from place (head ∷ waiting) ordered utf8 fit = grind arith
 
 pub sooner : (xs ys : List ℕ) (limit from : ℕ) → from ≤ limit → take limit xs ≡ take limit ys →
     take from xs ≡ take from ys
@@ -48,27 +46,18 @@ pub fit-same : (xs ys heads : List ℕ) (limit from : ℕ) (waiting : List Head)
     Fit xs heads limit from waiting → Fit ys heads limit from waiting
 fit-same xs ys heads limit from [] same fit =
     (fit.0, subst (λ t. IsUtf8 t) (sooner xs ys limit from fit.0 same) fit.1)
-fit-same xs ys heads limit from (head ∷ waiting) same fit = (
-  fit.0,
-  subst (λ t. IsUtf8 t) (sooner xs ys limit from
-      (fit-bound xs heads limit from (head ∷ waiting) fit) same) fit.1,
-  fit.2,
-  fit.3,
-  fit-same xs ys heads limit head.place waiting same fit.4,
-)
+fit-same xs ys heads limit from (head ∷ waiting) same fit =
+    let later = fit-same xs ys heads limit head.place waiting same fit.4 in
+    grind (arith, sooner, fit-bound, later)
 
 -- up to a later limit
 pub fit-more : (bytes heads : List ℕ) (limit more from : ℕ) (waiting : List Head) → limit ≤ more →
     Fit bytes heads limit from waiting → Fit bytes heads more from waiting
 fit-more bytes heads limit more from [] longer fit =
     (let a : from ≤ limit = fit.0 in omega arith, fit.1)
-fit-more bytes heads limit more from (head ∷ waiting) longer fit = (
-  fit.0,
-  fit.1,
-  fit.2,
-  later head.place (head.from ≡ head.to) fit.3,
-  fit-more bytes heads limit more head.place waiting longer fit.4,
-)
+fit-more bytes heads limit more from (head ∷ waiting) longer fit =
+    let later = fit-more bytes heads limit more head.place waiting longer fit.4 in
+    grind (arith, later)
   where
     later : (place : ℕ) (P : Type 0) → (P ⊎ (place < limit)) → (P ⊎ (place < more))
     later place P (inl e) = inl e
@@ -77,14 +66,7 @@ fit-more bytes heads limit more from (head ∷ waiting) longer fit = (
 -- with heads that are added
 pub is_head-more : (heads more : List ℕ) (head : Head) → IsHead heads head →
     IsHead (heads ++ more) head
-is_head-more heads more head is = record {
-  ordered = is.ordered;
-  within = (let a : head.to ≤ length heads = is.within in omega (arith, length-append heads more));
-  from = subst (λ t. IsUtf8 t) (sym (take-append-le head.from heads more
-      (let a : head.to ≤ length heads = is.within in
-      let b : head.from ≤ head.to = is.ordered in omega arith))) is.from;
-  to = subst (λ t. IsUtf8 t) (sym (take-append-le head.to heads more is.within)) is.to;
-}
+is_head-more heads more head is = grind (arith, length-append, take-append-le)
 
 pub fit-heads : (bytes heads more : List ℕ) (limit from : ℕ) (waiting : List Head) →
     Fit bytes heads limit from waiting → Fit bytes (heads ++ more) limit from waiting

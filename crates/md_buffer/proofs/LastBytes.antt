@@ -1,9 +1,7 @@
 -- The last byte of some bytes with heads inserted, and their minimum length.
-use Rattle.std.proofs.Common.{◌≡◌, ℕ, ◌+◌, ◌-◌, ◌≤◌, ◌<◌, ◌⊎◌, ◌==◌, ◌||◌, inl, inr, Bool, true}
-use Rattle.std.proofs.Common.{suc, List, [], ◌∷◌, ◌++◌, length, take, drop, slice_get, Option, refl}
-use Rattle.std.proofs.Common.{ap, sym, ◌∙◌, arith, append_assoc, length-append}
+use Rattle.std.proofs.Common.{◌≡◌, ℕ, ◌+◌, ◌≤◌, ◌<◌, ◌⊎◌, inl, inr, List, [], ◌∷◌, ◌++◌, length}
+use Rattle.std.proofs.Common.{take, drop, refl, ap, sym, ◌∙◌, arith, append_assoc, length-append}
 use Rattle.std.proofs.lemmas.List.{length-drop}
-use Rattle.std.specs.Option.{option_map_or}
 use Rattle.md_meaning.specs.Meaning.Layout.{begins_line}
 use Rattle.md_buffer.specs.declared.heads.Head.{Head}
 use Rattle.md_buffer.specs.Waiting.{text_of, merged, Fit}
@@ -12,18 +10,7 @@ use Rattle.md_buffer.proofs.Merged.{two, empty, skip}
 
 last-cons : (first next : ℕ) (bytes : List ℕ) →
     begins_line (first ∷ next ∷ bytes) ≡ begins_line (next ∷ bytes)
-last-cons first next bytes =
-    ap (λ n. ends (slice_get (first ∷ next ∷ bytes) n)) (two_less (length bytes))
-    ∙ ap (λ n. ends (slice_get (next ∷ bytes) n)) (one_less (length bytes))
-  where
-    ends : Option ℕ → Bool
-    ends last = option_map_or (λ byte. byte == 13 || byte == 10) last true
-
-    two_less : (n : ℕ) → suc (suc n) - 1 ≡ suc n
-    two_less n = omega arith
-
-    one_less : (n : ℕ) → n ≡ suc n - 1
-    one_less n = omega arith
+last-cons first next bytes = grind arith
 
 -- what comes before a text makes no difference to its last byte
 begins-after : (front back : List ℕ) → 0 < length back →

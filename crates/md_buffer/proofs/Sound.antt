@@ -1,5 +1,5 @@
 -- The texts that stay when others are written, captured and kept for later.
-use Rattle.std.proofs.Common.{◌≡◌, ℕ, ◌-◌, ◌≤◌, inl, List, [], ◌∷◌, ◌++◌, length, take, drop, refl}
+use Rattle.std.proofs.Common.{◌≡◌, ℕ, ◌-◌, ◌≤◌, List, [], ◌∷◌, ◌++◌, length, take, drop, refl}
 use Rattle.std.proofs.Common.{ap, sym, subst, ◌∙◌, arith, append-nil, length-append}
 use Rattle.std.proofs.lemmas.List.{take_all, take_at, drop_all, take-append-le, drop-append-le}
 use Rattle.std.proofs.lemmas.List.{length-take, length-drop}
@@ -7,8 +7,7 @@ use Rattle.std.specs.Str.{IsUtf8, IsCharBoundary}
 use Rattle.md_meaning.specs.Meaning.Layout.{begins_line}
 use Rattle.md_buffer.specs.declared.heads.Head.{Head}
 use Rattle.md_buffer.specs.declared.output.Start.{Start}
-use Rattle.md_buffer.specs.Texts.{Texts}
-use Rattle.md_buffer.specs.Waiting.{merged, before, texts_of, IsHead, Fit, IsSound}
+use Rattle.md_buffer.specs.Waiting.{merged, before, texts_of, Fit, IsSound}
 use Rattle.md_buffer.proofs.HeadsFit.{sooner, fit-bound, fit-boundary, fit-same, fit-more}
 use Rattle.md_buffer.proofs.Merged.{merged-append, merged-split, fit-split, merged-none}
 use Rattle.md_buffer.proofs.LastBytes.{merged-ends, merged-long}
@@ -17,30 +16,25 @@ use Rattle.md_buffer.proofs.Renewed.{changed, changed_texts}
 -- where the innermost text starts
 pub within : (bytes heads : List ℕ) (waiting : List Head) (start : Start) (outers : List Start) →
     IsSound bytes heads waiting start outers → start.place ≤ length bytes
-within bytes heads waiting start outers sound =
-    fit-bound bytes heads (length bytes) start.place _ sound.text
+within bytes heads waiting start outers sound = grind (arith, fit-bound)
 
 pub boundary : (bytes heads : List ℕ) (waiting : List Head) (start : Start) (outers : List Start) →
     IsUtf8 bytes →
     IsSound bytes heads waiting start outers → IsCharBoundary bytes start.place
-boundary bytes heads waiting start outers utf8 sound =
-    fit-boundary bytes heads start.place (drop start.first waiting) utf8 sound.text
+boundary bytes heads waiting start outers utf8 sound = grind (arith, fit-boundary)
 
 -- the last byte of the innermost text
 pub begins : (bytes heads : List ℕ) (waiting : List Head) (start : Start) (outers : List Start) →
     IsSound bytes heads waiting start outers →
     begins_line (merged bytes heads start.place (drop start.first waiting))
     ≡ begins_line (drop start.place bytes)
-begins bytes heads waiting start outers sound =
-    merged-ends bytes heads start.place (drop start.first waiting) sound.text
+begins bytes heads waiting start outers sound = grind (arith, merged-ends)
 
 -- how long it is at least
 pub long : (bytes heads : List ℕ) (waiting : List Head) (start : Start) (outers : List Start) →
     IsSound bytes heads waiting start outers →
     length bytes - start.place ≤ length (merged bytes heads start.place (drop start.first waiting))
-long bytes heads waiting start outers sound =
-    (let a = merged-long bytes heads start.place (drop start.first waiting) sound.text in
-    let l = length-drop start.place bytes in omega arith)
+long bytes heads waiting start outers sound = grind (arith, merged-long, length-drop)
 
 -- bytes are added, by a call that may run out of memory
 pub longer : (xs ys heads : List ℕ) (waiting : List Head) (start : Start) (outers : List Start) →
@@ -85,78 +79,13 @@ pub capture :
     next.heads ≡ length heads → IsSound bytes heads waiting start outers →
     IsSound bytes heads waiting next (start ∷ outers)
 capture bytes heads waiting start next outers utf8 heads-utf8 place first many sound =
-    let all : take next.heads heads ≡ heads = take_all next.heads heads (omega arith) in
-    record {
-      first = omega arith;
-      within = omega arith;
-      utf8 = subst (λ t. IsUtf8 t) (sym all) heads-utf8;
-      text =
-          subst (λ (ws : List Head). Fit bytes heads (length bytes) next.place ws)
-          (sym (drop_all next.first waiting (omega arith)))
-          (omega arith, subst (λ t. IsUtf8 t) (sym (take_all next.place bytes (omega arith))) utf8);
-      below = (
-        subst (λ n. start.first ≤ n) (sym first) sound.first,
-        subst (λ n. start.heads ≤ n) (sym many) sound.within,
-        sound.utf8,
-        subst (λ n. Fit bytes (take next.heads heads) n start.place
-            (drop start.first (take next.first waiting)))
-            (sym place)
-            (subst (λ t. Fit bytes t (length bytes) start.place
-            (drop start.first (take next.first waiting))) (sym all)
-            (subst (λ (ws : List Head). Fit bytes heads (length bytes) start.place
-            (drop start.first ws)) (sym (take_all next.first waiting (omega arith))) sound.text)),
-        sound.below,
-      );
-    }
-
-pub capture_texts :
-    (bytes heads : List ℕ) (waiting : List Head) (start next : Start) (outers : List Start) →
-    next.place ≡ length bytes → next.first ≡ length waiting → next.heads ≡ length heads →
-    texts_of bytes heads waiting next (start ∷ outers) ≡ record {
-      text = [];
-      below = merged bytes heads start.place (drop start.first waiting)
-          ∷ before bytes heads waiting start outers;
-    }
-capture_texts bytes heads waiting start next outers place first many =
-    let made : List ℕ → List (List ℕ) → Texts = λ t b. record { text = t; below = b } in
-    let under : List (List ℕ) = before bytes heads waiting start outers in
-    ap (λ t. made t (before bytes heads waiting next (start ∷ outers)))
-    (ap (λ (ws : List Head). merged bytes heads next.place ws)
-    (drop_all next.first waiting (omega arith)) ∙ drop_all next.place bytes (omega arith))
-    ∙ ap (λ t. made [] (merged t (take next.heads heads) start.place
-    (drop start.first (take next.first waiting)) ∷ under)) (take_all next.place bytes (omega arith))
-    ∙ ap (λ t. made []
-    (merged bytes t start.place (drop start.first (take next.first waiting)) ∷ under))
-    (take_all next.heads heads (omega arith))
-    ∙ ap (λ (ws : List Head). made []
-    (merged bytes heads start.place (drop start.first ws) ∷ under))
-    (take_all next.first waiting (omega arith))
-
-is_nothing : (heads : List ℕ) (head : Head) → head.from ≡ 0 → head.to ≡ 0 → IsHead heads head
-is_nothing heads head from to = record {
-  ordered = omega arith;
-  within = omega arith;
-  from = subst (λ n. IsUtf8 (take n heads)) (sym from) nil;
-  to = subst (λ n. IsUtf8 (take n heads)) (sym to) nil;
-}
-  where
-    nil : IsUtf8 []
-    nil = ([], (refl, refl))
+    grind (arith, take_all, drop_all)
 
 -- an empty head at the end
 pub kept : (bytes heads : List ℕ) (head : Head) → IsUtf8 bytes →
     head.place ≡ length bytes → head.from ≡ 0 →
     head.to ≡ 0 → Fit bytes heads (length bytes) (length bytes) (head ∷ [])
-kept bytes heads head utf8 place from to = (
-  omega arith,
-  all,
-  is_nothing heads head from to,
-  inl (from ∙ sym to),
-  (omega arith, subst (λ n. IsUtf8 (take n bytes)) (sym place) all),
-)
-  where
-    all : IsUtf8 (take (length bytes) bytes)
-    all = subst (λ t. IsUtf8 t) (sym (take_all (length bytes) bytes (omega arith))) utf8
+kept bytes heads head utf8 place from to = grind (arith, take_all)
 
 -- a place is kept for a head
 pub keep : (bytes heads : List ℕ) (waiting : List Head) (head : Head) (start : Start)

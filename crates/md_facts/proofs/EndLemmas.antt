@@ -15,8 +15,7 @@ use Rattle.md_facts.proofs.Nodes.{NodeAt, node-entered}
 use Rattle.md_facts.proofs.Noticed.{Entered, entered, Exited, exited}
 
 pub some-there : {A : Type 0} (o : Option A) (x : A) → o ≡ Some x → IsSome o
-some-there (Some y) x e = refl
-some-there _ x e = cc
+some-there o x e = grind arith
 
 pub start-noticed : (given : Handed) (index : ℕ) (name : Name) (one : Noticed) →
     EntersAt given.events index name →

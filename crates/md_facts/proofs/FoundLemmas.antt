@@ -1,6 +1,6 @@
 -- What is found of a node by its children is what is noticed of it.
-use Rattle.std.proofs.Common.{◌≡◌, ◌⊎◌, inl, inr, ℕ, suc, Bool, true, false, Option, Some, None}
-use Rattle.std.proofs.Common.{List, [], ◌∷◌, ◌++◌, length, refl, sym, ap, ◌∙◌, subst}
+use Rattle.std.proofs.Common.{arith, ◌≡◌, ◌⊎◌, inl, inr, ℕ, suc, Bool, true, Option, Some, None}
+use Rattle.std.proofs.Common.{List, [], ◌∷◌, ◌++◌, length, refl, ap, ◌∙◌}
 use Rattle.std.specs.Prelude.{slice_get, if◌then◌else◌}
 use Rattle.std.specs.Option.{option_map_or}
 use Rattle.std.proofs.Math.Path.{fun_ext}
@@ -29,7 +29,7 @@ use Rattle.md_content.proofs.Fitting.{fit}
 use Rattle.md_content.proofs.TextsThere.{everywhere}
 use Rattle.md_tree.specs.Entered.{IsEnteredAt}
 use Rattle.md_tree.specs.Found.{EntersSome}
-use Rattle.md_tree.specs.Grammar.{Handed, IsChecked, IsGrammatical, IsReadAs}
+use Rattle.md_tree.specs.Grammar.{Handed, IsChecked, IsGrammatical}
 use Rattle.md_tree.specs.Reads.{first_place, in_first, number_in}
 use Rattle.md_tree.specs.Rules.{columns}
 use Rattle.md_tree.specs.Texts.{EntersAt}
@@ -47,29 +47,20 @@ enters-list events index (inr unordered) = (ListUnordered, unordered)
 -- ---- names that are tested for
 
 mark_is : (name : Name) → is_heading_mark name ≡ is HeadingAtxSequence name
-mark_is HeadingAtxSequence = refl
-mark_is _ = refl
+mark_is name = grind arith
 
 item_is : (name : Name) → is_item name ≡ is ListItem name
-item_is ListItem = refl
-item_is _ = refl
+item_is name = grind arith
 
 prefix_is : (name : Name) → is_item_prefix name ≡ is ListItemPrefix name
-prefix_is ListItemPrefix = refl
-prefix_is _ = refl
+prefix_is name = grind arith
 
 value_is : (name : Name) → is_item_value name ≡ is ListItemValue name
-value_is ListItemValue = refl
-value_is _ = refl
+value_is name = grind arith
 
 pub number-same : (children : Forest) →
     in_first is_item number_in children ≡ number_in_list children
-number-same children =
-    ap (λ test. in_first test number_in children) (fun_ext item_is)
-    ∙ ap (λ test. in_first (is ListItem) (in_first test (first_place is_item_value)) children)
-    (fun_ext prefix_is)
-    ∙ ap (λ test. in_first (is ListItem) (in_first (is ListItemPrefix) (first_place test)) children)
-    (fun_ext value_is)
+number-same children = simp (fun_ext item_is, fun_ext prefix_is, fun_ext value_is)
 
 -- ---- the rank of a heading
 
@@ -77,10 +68,7 @@ number-same children =
 pub grammatical-there : (given : Handed) (document : Forest) → IsChecked given →
     flatten document ≡ given.events →
     IsGrammatical given.bytes given.names document
-grammatical-there given document checked flat =
-    subst (λ d. IsGrammatical given.bytes given.names d)
-    (same-document checked.0 document given.events (IsReadAs.flattened checked.1) flat)
-    (IsReadAs.grammatical checked.1)
+grammatical-there given document checked flat = grind (arith, same-document)
 
 all-fit : (bytes : List ℕ) (names : List (List ℕ × List ℕ)) (document : Forest) →
     IsGrammatical bytes names document → Everywhere (IsFit bytes) document
@@ -93,8 +81,7 @@ fitting : (bytes : List ℕ) (found : Option Position) →
     option_map_or (λ at. fits bytes at.start at.end) found true ≡ true →
     option_map_or (λ at. length_of bytes at) found 0
     ≡ option_map_or (λ at. columns at.start at.end) found 0
-fitting bytes None lies = refl
-fitting bytes (Some at) lies = ap (λ b. if b then columns at.start at.end else 0) lies
+fitting bytes found lies = grind arith
 
 pub rank-found : (given : Handed) (document : Forest) (index exit : ℕ)
     (node : NodeAt given document HeadingAtx index exit) → IsChecked given →
@@ -103,12 +90,9 @@ pub rank-found : (given : Handed) (document : Forest) (index exit : ℕ)
     option_map_or (λ at. length_of given.bytes at) found 0
     ≡ option_map_or (λ at. columns at.start at.end) (first_named HeadingAtxSequence node.children) 0
 rank-found given document index exit node checked flat found reads =
-    let named : found ≡ first_named HeadingAtxSequence node.children = reads
-    ∙ ap (λ test. first_place test node.children) (fun_ext mark_is) in
     let own = node-everywhere (IsFit given.bytes) given document HeadingAtx index exit node
     (all-fit given.bytes given.names document (grammatical-there given document checked flat)) in
-    ap (λ o. option_map_or (λ at. length_of given.bytes at) o 0) named
-    ∙ fitting given.bytes (first_named HeadingAtxSequence node.children) own.2
+    rw (reads, fun_ext mark_is) (fitting given.bytes (first_named HeadingAtxSequence node.children) own.2)
 
 -- ---- the last child that contributes
 
@@ -120,15 +104,12 @@ Named events (Some index) name = (other : Name) × (name ≡ Some other) × Ente
 named-else : (events : List Event) (one two : Option ℕ) (name other : Option Name) →
     Named events one name →
     Named events two other → Named events (or_else one two) (or_else name other)
-named-else events None two name other a b =
-    subst (λ n. Named events two (or_else n other)) (sym a) b
-named-else events (Some index) two name other a b = (a.0, ap (λ n. or_else n other) a.1, a.2)
+named-else events one two name other a b = grind arith
 
 named-own : (events : List Event) (index : ℕ) (name : Name) (start : Point) (b : Bool) →
     slice_get events index ≡ Some (entering name start) →
     Named events (if b then Some index else None) (if b then Some name else None)
-named-own events index name start true got = (name, refl, (entering name start, got, refl, refl))
-named-own events index name start false got = refl
+named-own events index name start b got = grind arith
 
 named-forest : (events : List Event) (forest : Forest) (index : ℕ) (seen later : List Event) →
     length seen ≡ index →
@@ -158,12 +139,8 @@ pub contributing-named : (given : Handed) (index : ℕ) (name : Name) (children 
 contributing-named given index name children enters entered =
     let found = node-entered given entered.0 entered.1 index name enters in
     let node : NodeAt given entered.0 name index found.0 = found.1 in
-    let same : node.children ≡ children = some (sym node.inner ∙ entered.2) in
+    let same : node.children ≡ children = cc (node.inner, entered.2) in
     let first : Event = entering name node.start in
-    subst (λ f. Named given.events (last_contributing_at (suc index) f) (last_contributing f)) same
-    (named-forest given.events node.children (suc index) (node.before ++ first ∷ [])
+    rw same at (named-forest given.events node.children (suc index) (node.before ++ first ∷ [])
     (exiting name node.end ∷ node.beyond)
     (length_one node.before first ∙ ap suc node.counted) node.parts)
-  where
-    some : {a b : Forest} → Some (Some a) ≡ Some (Some b) → a ≡ b
-    some e = cc

@@ -1,17 +1,13 @@
 -- By what a node refers to others or is referred to: the label that is read of it, unless
 -- it has a resource.
-use Rattle.std.proofs.Common.{◌≡◌, ◌⊎◌, inl, inr, ℕ, zero, suc, ◌<◌, true, false, Option, Some}
-use Rattle.std.proofs.Common.{None, List, [], ◌∷◌, length, refl, sym, ap, ◌∙◌, arith}
-use Rattle.std.specs.Prelude.{if◌then◌else◌, unwrap_or, option_map, is_some, bytes_eq, Contains}
-use Rattle.std.specs.Prelude.{get_or}
+use Rattle.std.proofs.Common.{◌≡◌, ◌⊎◌, inl, inr, ℕ, true, Option}
+use Rattle.std.proofs.Common.{None, List, [], ◌∷◌, refl, sym, ap, ◌∙◌, arith}
+use Rattle.std.specs.Prelude.{unwrap_or, is_some, Contains}
 use Rattle.md_base.proofs.Lies.{lie}
 use Rattle.md_base.specs.declared.event.Name.{Name}
-use Rattle.md_base.specs.declared.event.Name.TheVariants.{Link, Image, GfmFootnoteCall, Definition}
-use Rattle.md_base.specs.declared.event.Name.TheVariants.{GfmFootnoteDefinition}
+use Rattle.md_base.specs.declared.event.Name.TheVariants.{Link, Image}
 use Rattle.md_base.specs.declared.event.Point.{Point}
 use Rattle.md_base.specs.declared.event.Position.{Position}
-use Rattle.md_base.specs.Identifier.{normalized}
-use Rattle.md_base.specs.Place.{label_between}
 use Rattle.md_base.specs.Tree.{Forest}
 use Rattle.md_meaning.specs.Meaning.At.{identifier_of}
 use Rattle.md_meaning.specs.Places.{identifier_at}
@@ -19,22 +15,18 @@ use Rattle.md_meaning.proofs.EmptyIdentifier.{normalized-nothing}
 use Rattle.md_meaning.proofs.Identifiers.{itself}
 use Rattle.md_pattern.specs.declared.kinds.Reading.TheVariants as reading
 use Rattle.md_pattern.specs.Standing.{standing_of}
-use Rattle.md_content.specs.Labels.{label_in_node, defined_label, footnote_label}
 use Rattle.md_content.specs.References.{HasResource, IsLabelled, RefersAlike, RefersSomewhere}
-use Rattle.md_content.specs.References.{ResolvesAlike}
-use Rattle.md_content.specs.References.{defined_in, first_of}
+use Rattle.md_content.specs.References.{ResolvesAlike, defined_in, first_of}
 use Rattle.md_content.proofs.Resolved.{labels-alike, HasTarget}
 use Rattle.md_steps.specs.State.{is_resource}
 use Rattle.md_tree.specs.declared.mention.Referral.{Referral}
 use Rattle.md_tree.specs.declared.mention.Referral.TheVariants.{Missing, Label, Resource}
 use Rattle.md_tree.specs.Entered.{IsEnteredAt}
 use Rattle.md_tree.specs.Grammar.{Handed, IsChecked}
-use Rattle.md_tree.specs.Mentions.{mention_of, mentions_of}
-use Rattle.md_tree.specs.Mentions.{identifier_at as label_identifier}
+use Rattle.md_tree.specs.Mentions.{mention_of, mentions_of, identifier_at as label_identifier}
 use Rattle.md_tree.specs.Numbers.{definition_for, is_of_definitions}
 use Rattle.md_tree.specs.Reads.{reads}
 use Rattle.md_tree.specs.Rules.{reading_of, target_of, broken_by_target}
-use Rattle.md_tree.specs.declared.rule.Rule.TheVariants as rule
 use Rattle.md_tree.specs.Texts.{EntersAt}
 use Rattle.md_facts.specs.NodeFacts.{is_labelled}
 use Rattle.md_facts.proofs.Noticed.{Known, known, node-everywhere}
@@ -47,14 +39,7 @@ named bytes target = elim target [ Label at ↦ unwrap_or (label_identifier byte
 label-known : (bytes : List ℕ) (label : Option Position) (children : Forest) →
     IsLabelled label children →
     identifier_of bytes children ≡ identifier_at bytes label
-label-known bytes None children alike = ap (named bytes) alike
-label-known bytes (Some there) children alike = ap (named bytes) alike
-    ∙ by (label_between bytes there.start there.end)
-  where
-    by : (label : Option (List ℕ)) →
-        unwrap_or (option_map normalized label) [] ≡ normalized (unwrap_or label [])
-    by None = sym normalized-nothing
-    by (Some text) = refl
+label-known bytes label children alike = grind (arith, normalized-nothing)
 
 -- ---- a call, a definition, a footnote definition
 
@@ -62,13 +47,7 @@ by-label : (bytes : List ℕ) (name : Name) (start end : Point) (children : Fore
     is_labelled name ≡ true →
     RefersAlike name start end children →
     identifier_of bytes children ≡ identifier_at bytes (reads name children)
-by-label bytes GfmFootnoteCall start end children h alike =
-    label-known bytes (label_in_node children) children alike
-by-label bytes Definition start end children h alike =
-    label-known bytes (defined_label children) children alike
-by-label bytes GfmFootnoteDefinition start end children h alike =
-    label-known bytes (footnote_label children) children alike
-by-label bytes _ start end children h alike = lie h
+by-label bytes name start end children h alike = grind (arith, label-known)
 
 pub labelled : (given : Handed) (index : ℕ) (name : Name) (children : Forest) → IsChecked given →
     EntersAt given.events index name → IsEnteredAt given index children → is_labelled name ≡ true →
@@ -86,29 +65,9 @@ labelled given index name children checked enters entered h =
 
 -- the first is found, where there is one
 first-there : (xs : List (List ℕ)) (x : List ℕ) → Contains xs x → is_some (first_of xs x) ≡ true
-first-there [] x there = absurd (none there.0 there.1)
-  where
-    none : (k : ℕ) → k < 0 → ⊥
-    none k h = omega (arith, h)
+first-there [] x there = absurd (omega (arith, there.1))
 first-there (y ∷ ys) x there =
-    elim (bytes_eq y x) as (λ b. bytes_eq y x ≡ b →
-    is_some (if b then Some 0 else option_map (λ place. suc place) (first_of ys x)) ≡ true) [
-      | true ↦ λ same. refl
-      | false ↦
-          λ differ. later (first_of ys x) (first-there ys x (others there.0 there.1 there.2 differ))
-    ] refl
-  where
-    later : (o : Option ℕ) → is_some o ≡ true → is_some (option_map (λ place. suc place) o) ≡ true
-    later None h = h
-    later (Some place) h = refl
-
-    less : (k n : ℕ) → suc k < suc n → k < n
-    less k n h = omega (arith, h)
-
-    others : (k : ℕ) → k < length (y ∷ ys) → get_or (y ∷ ys) k x ≡ x →
-        bytes_eq y x ≡ false → Contains ys x
-    others zero h same differ = lie (sym differ ∙ ap (λ z. bytes_eq z x) same ∙ itself x)
-    others (suc k) h same differ = (k, less k (length ys) h, same)
+    let later = first-there ys x in grind (arith, later, itself, there)
 
 -- it refers to a definition, or it has a resource
 medium :
@@ -120,7 +79,7 @@ medium :
     (mention_of reading.Media (target_of children Missing)) →
     is_resource (target_of children Missing) ≡ true
 medium bytes document children start end name has leads alike is =
-    by (target_of children Missing) refl has
+    by (target_of children Missing) refl
   where
     led : (place : Position) → target_of children Missing ≡ Label place →
         HasResource children ⊎ Contains (defined_in bytes document) (identifier_of bytes children) →
@@ -133,14 +92,10 @@ medium bytes document children start end name has leads alike is =
         ∙ first-there (defined_in bytes document) (identifier_of bytes children) there)
 
     by : (target : Referral) → target_of children Missing ≡ target →
-        broken_by_target (target_of children Missing) ≡ None → is_resource
-        (target_of children Missing) ≡ true
-    by Missing e h = missing (sym (ap broken_by_target e) ∙ h)
-      where
-        missing : Some rule.Target ≡ None → is_resource (target_of children Missing) ≡ true
-        missing f = cc
-    by Resource e h = ap is_resource e
-    by (Label place) e h = led place e leads
+        is_resource (target_of children Missing) ≡ true
+    by Missing e = grind (arith, has, e)
+    by Resource e = ap is_resource e
+    by (Label place) e = led place e leads
 
 pub media :
     (bytes : List ℕ) (document : Forest) (children : Forest) (start end : Point) (name : Name) →

@@ -1,13 +1,9 @@
 -- The definition that the check gives is the one that is found by its identifier.
-use Rattle.std.proofs.Common.{◌≡◌, ℕ, suc, true, Option, Some, None, List, [], ◌∷◌}
-use Rattle.std.proofs.Common.{refl, sym, ap, ◌∙◌, inl, inr}
-use Rattle.std.proofs.lemmas.Bool.{cases_Bool}
-use Rattle.std.specs.Prelude.{slice_get, if◌then◌else◌, map, option_map, is_some, bytes_eq, IsSome}
+use Rattle.std.proofs.Common.{arith, ◌≡◌, ℕ, true, Some, None, List, [], ◌∷◌, sym, ap, ◌∙◌}
+use Rattle.std.specs.Prelude.{slice_get, if◌then◌else◌, map, is_some, IsSome}
 use Rattle.std.specs.Option.{option_map_or}
 use Rattle.std.proofs.lemmas.Option.{slice_get-map}
-use Rattle.md_base.proofs.Lies.{lie}
 use Rattle.md_base.specs.declared.event.Name.{Name}
-use Rattle.md_base.specs.declared.event.Name.TheVariants.{Link, Image}
 use Rattle.md_base.specs.declared.event.Position.{Position}
 use Rattle.md_base.specs.Tree.{Forest, flatten}
 use Rattle.md_meaning.specs.Meaning.At.{Defined, Context, identifier_of}
@@ -20,7 +16,7 @@ use Rattle.md_content.proofs.Alike.{leads-alike, IsFoundByPlace, found-by-place}
 use Rattle.md_content.proofs.Grammatical.{grammatical-built}
 use Rattle.md_content.proofs.Resolved.{leads-somewhere, HasTarget, targets-there}
 use Rattle.md_tree.specs.declared.mention.Referral.{Referral}
-use Rattle.md_tree.specs.declared.mention.Referral.TheVariants.{Missing, Label, Resource}
+use Rattle.md_tree.specs.declared.mention.Referral.TheVariants.{Missing, Label}
 use Rattle.md_tree.specs.declared.mention.Mention.TheVariants.{Reference}
 use Rattle.md_tree.specs.Grammar.{Handed, IsChecked}
 use Rattle.md_tree.specs.Mentions.{mention_of, mentions_of}
@@ -33,37 +29,21 @@ use Rattle.md_steps.specs.Steps.{nowhere}
 use Rattle.md_facts.specs.Definitions.{AreKnown, RefersTo}
 use Rattle.md_facts.proofs.FoundLemmas.{grammatical-there}
 use Rattle.md_facts.proofs.Labelled.{media}
-use Rattle.md_facts.proofs.Nodes.{NodeAt, node-exited}
+use Rattle.md_facts.proofs.Nodes.{NodeAt, node-exited, same-document}
 use Rattle.md_facts.proofs.Noticed.{node-everywhere, Exited, exited}
-use Rattle.md_facts.proofs.Nodes.{same-document}
 use Rattle.md_facts.proofs.Undefined.{built-frees, identifiers-defined}
 
 -- what is found first is there
 first-got : (xs : List (List ℕ)) (x : List ℕ) (place : ℕ) → first_of xs x ≡ Some place →
     is_some (slice_get xs place) ≡ true
-first-got [] x place = λ e. cc
-first-got (y ∷ ys) x place = elim (cases_Bool (bytes_eq y x)) [
-  | inl is ↦ rw is (λ e. rw (← some-is e) refl)
-  | inr other ↦ rw other (λ e. later (first_of ys x) (first-got ys x) e)
-]
-  where
-    some-is : {m n : ℕ} → Some m ≡ Some n → m ≡ n
-    some-is e = cc
-
-    later : (o : Option ℕ) → ((p : ℕ) → o ≡ Some p → is_some (slice_get ys p) ≡ true) →
-        option_map (λ p. suc p) o ≡ Some place → is_some (slice_get (y ∷ ys) place) ≡ true
-    later None got e = cc
-    later (Some p) got e = rw (← some-is e) (got p refl)
+first-got [] x place e = cc
+first-got (y ∷ ys) x place e =
+    let later = first-got ys x in grind (arith, later, e)
 
 mapped-there : {A B : Type 0} (f : A → B) (xs : List A) (place : ℕ) →
     is_some (slice_get (map f xs) place) ≡ true →
     IsSome (slice_get xs place)
-mapped-there {A = A} f xs place h =
-    by (slice_get xs place) (sym (ap (λ o. is_some o) (slice_get-map f xs place)) ∙ h)
-  where
-    by : (o : Option A) → is_some (option_map f o) ≡ true → IsSome o
-    by None e = lie e
-    by (Some x) e = refl
+mapped-there f xs place h = grind (arith, slice_get-map, h)
 
 -- the label of a link or an image for which a definition is found
 labelled : (bytes : List ℕ) (document : Forest) (name : Name) (target : Referral) (place : ℕ) →
@@ -72,13 +52,7 @@ labelled : (bytes : List ℕ) (document : Forest) (name : Name) (target : Referr
     (mention_of (reading_of (standing_of name)) target) →
     (label : Position) × (target ≡ Label label)
     × (Some place ≡ definition_for bytes (mentions_of document) (Reference label))
-labelled bytes document Link (Label label) place h e = (label, refl, e)
-labelled bytes document Link Missing place h e = cc
-labelled bytes document Link Resource place h e = cc
-labelled bytes document Image (Label label) place h e = (label, refl, e)
-labelled bytes document Image Missing place h e = cc
-labelled bytes document Image Resource place h e = cc
-labelled bytes document _ target place h e = lie h
+labelled bytes document name target place h e = grind arith
 
 -- the definitions that are known have the identifiers of the document's
 pub known-in : (given : Handed) (document : Forest) (supply : Context) → IsChecked given →
@@ -88,10 +62,9 @@ pub known-in : (given : Handed) (document : Forest) (supply : Context) → IsChe
 known-in given document supply checked flat known =
     let one = same-document known.0 document given.events known.2 flat in
     let grammatical = grammatical-there given known.0 checked known.2 in
-    known.4
-    ∙ identifiers-defined known.1 known.0 (built-frees given.bytes Blocks known.0
-    (grammatical-built given.bytes given.names known.0 grammatical))
-    ∙ ap (λ bytes. defined_in bytes known.0) known.3 ∙ ap (defined_in given.bytes) one
+    let frees = built-frees given.bytes Blocks known.0
+    (grammatical-built given.bytes given.names known.0 grammatical) in
+    cc (known.4, identifiers-defined known.1 known.0 frees, known.3, one)
 
 -- what is known where a definition is found
 record Led (given : Handed) (index : ℕ) (name : Name) (place : ℕ) (document : Forest) : Type 0 where

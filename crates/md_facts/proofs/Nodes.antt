@@ -1,6 +1,6 @@
 -- The node of the event at an index: its events and its children.
-use Rattle.std.proofs.Common.{◌≡◌, ℕ, suc, ◌+◌, ◌==◌, Bool, true, false, Option, Some, None, List}
-use Rattle.std.proofs.Common.{[], ◌∷◌, ◌++◌, length, refl, sym, ap, ◌∙◌, subst, append-nil}
+use Rattle.std.proofs.Common.{arith, ◌≡◌, ℕ, suc, ◌+◌, ◌==◌, Bool, true, false, Option, Some, None}
+use Rattle.std.proofs.Common.{List, [], ◌∷◌, ◌++◌, length, refl, sym, ap, ◌∙◌, subst, append-nil}
 use Rattle.std.specs.Prelude.{map, option_map, slice_get, if◌then◌else◌}
 use Rattle.std.proofs.lemmas.Option.{slice_get-map}
 use Rattle.std.proofs.lemmas.List.{length-map, map-append}
@@ -22,7 +22,7 @@ use Rattle.md_tree.proofs.OneTree.{flatten_one}
 use Rattle.md_steps.specs.Run.{Noticed, noticed}
 use Rattle.md_facts.proofs.Rows.{Row, rows_of, event_of, noticed_of, children_at, partner_at}
 use Rattle.md_facts.proofs.Rows.{mention_at, event-rows, noticed-rows, children-rows, partner-rows}
-use Rattle.md_facts.proofs.Rows.{mention-rows, seen_of}
+use Rattle.md_facts.proofs.Rows.{mention-rows, seen_of, row_of}
 use Rattle.md_facts.proofs.PairedRows.{Paired, paired}
 
 origin : Point
@@ -36,16 +36,8 @@ same-document one other events e f = flatten_one Paragraph origin one other (e �
 
 -- the row of an entry
 abbrev pub entry_row : Name → Point → Point → Forest → Bool → ℕ → ℕ → Row
-entry_row name start end children last entry exit = record {
-  enters = true;
-  name = name;
-  start = start;
-  end = end;
-  children = children;
-  last = last;
-  entry = entry;
-  exit = exit;
-}
+entry_row name start end children last entry exit =
+    record (row_of true entry last name start end children) { exit = exit }
 
 -- a node by the indices of its two events
 pub record NodeAt (given : Handed) (document : Forest) (name : Name) (entry exit : ℕ) : Type 0 where
@@ -84,8 +76,7 @@ pub record NodeAt (given : Handed) (document : Forest) (name : Name) (entry exit
 -- what is got of a list that another is mapped to
 got-mapped : {A B : Type 0} (f : A → B) (xs : List A) {ys : List B} (i : ℕ) {x : A} →
     map f xs ≡ ys → slice_get xs i ≡ Some x → slice_get ys i ≡ Some (f x)
-got-mapped f xs i same got =
-    ap (λ zs. slice_get zs i) (sym same) ∙ slice_get-map f xs i ∙ ap (option_map f) got
+got-mapped f xs i same got = grind (arith, slice_get-map)
 
 pub unmapped : {A B : Type 0} (f : A → B) (xs : List A) (i : ℕ) (y : B) →
     slice_get (map f xs) i ≡ Some y →
@@ -101,21 +92,14 @@ mapped : {A B : Type 0} (f : A → B) (before : List A) (entry : A) (inner : Lis
     (beyond : List A) {own : List B} → map f inner ≡ own →
     map f ((before ++ entry ∷ []) ++ (inner ++ (exit ∷ beyond)))
     ≡ (map f before ++ f entry ∷ []) ++ (own ++ (f exit ∷ map f beyond))
-mapped f before entry inner exit beyond same =
-    map-append f (before ++ entry ∷ []) (inner ++ (exit ∷ beyond))
-    ∙ ap (λ xs. xs ++ map f (inner ++ (exit ∷ beyond))) (map-append f before (entry ∷ []))
-    ∙ ap (λ xs. (map f before ++ f entry ∷ []) ++ xs) (map-append f inner (exit ∷ beyond)
-    ∙ ap (λ xs. xs ++ (f exit ∷ map f beyond)) same)
+mapped f before entry inner exit beyond same = grind (arith, map-append)
 
 -- which of the two events the event of a row is, and its name
 is_of : (b c : Bool) (name : Name) (start end : Point) →
     Event.kind (if b then entering name start else exiting name end)
     ≡ (if c then Enter else Exit) →
     (b ≡ c) × (name ≡ Event.name (if b then entering name start else exiting name end))
-is_of true true name start end e = (refl, refl)
-is_of false false name start end e = (refl, refl)
-is_of true false name start end e = (cc, refl)
-is_of false true name start end e = (cc, refl)
+is_of b c name start end e = grind arith
 
 -- ---- by its row
 module _ (given : Handed) (document : Forest) (flat : flatten document ≡ given.events) where

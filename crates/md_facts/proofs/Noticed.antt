@@ -13,7 +13,7 @@ use Rattle.md_content.specs.References.{Everywhere}
 use Rattle.md_steps.specs.Run.{Noticed, noticed}
 use Rattle.md_facts.specs.NodeFacts.{IsNoticedAt}
 use Rattle.md_facts.proofs.PairedRows.{everywhere-at}
-use Rattle.md_facts.proofs.Nodes.{NodeAt, entry_row, same-document, node-entered, node-exited}
+use Rattle.md_facts.proofs.Nodes.{NodeAt, same-document, node-entered, node-exited}
 use Rattle.md_facts.proofs.Rows.{seen_of}
 
 -- what is noticed of a node
@@ -25,12 +25,7 @@ noticed_in given document name entry exit node =
 pub noticed-same : (given : Handed) (document : Forest) (index : ℕ) (one other : Noticed) →
     flatten document ≡ given.events → IsNoticedAt given index one →
     slice_get (noticed given.bytes true document) index ≡ Some other → one ≡ other
-noticed-same given document index one other flat there got =
-    some (sym there.2 ∙ ap (λ d. slice_get (noticed given.bytes true d) index)
-    (same-document there.0 document given.events there.1 flat) ∙ got)
-  where
-    some : Some one ≡ Some other → one ≡ other
-    some e = cc
+noticed-same given document index one other flat there got = grind (arith, same-document)
 
 -- at an entry
 pub record Entered (given : Handed) (index : ℕ) (name : Name) (one : Noticed) : Type 0 where
@@ -128,9 +123,7 @@ pub node-everywhere :
     (name : Name) (entry exit : ℕ) (node : NodeAt given document name entry exit) →
     Everywhere holds document →
     holds name node.start node.end node.children
-node-everywhere holds given document name entry exit node all =
-    everywhere-at holds document true all entry
-    (entry_row name node.start node.end node.children node.last entry exit) node.there
+node-everywhere holds given document name entry exit node all = grind (arith, everywhere-at)
 
 -- the node by the children that are known
 pub record Known (given : Handed) (index : ℕ) (name : Name) (children : Forest) : Type 0 where

@@ -1,8 +1,8 @@
 -- What a document's definitions define, each from its own events.
-use Rattle.std.proofs.Common.{◌≡◌, ℕ, zero, suc, ◌-◌, Bool, true, false, ◌&&◌, not, Some, List, []}
-use Rattle.std.proofs.Common.{◌∷◌}
-use Rattle.std.proofs.Common.{◌++◌, length, take, refl, sym, ap, ◌∙◌, subst, append-nil}
-use Rattle.std.proofs.Common.{arith, drop_at}
+use Rattle.std.proofs.lemmas.Bool.{cases_Bool}
+use Rattle.std.proofs.Common.{inl, inr, ◌≡◌, ℕ, zero, suc, ◌-◌, Bool, true, false, ◌&&◌, not, Some}
+use Rattle.std.proofs.Common.{List, [], ◌∷◌, ◌++◌, length, take, refl, sym, ap, ◌∙◌, subst}
+use Rattle.std.proofs.Common.{append-nil, arith, drop_at}
 use Rattle.std.proofs.Math.Seq.{take-append_seam}
 use Rattle.std.specs.Prelude.{slice_get, if◌then◌else◌, map, option_map, filter}
 use Rattle.std.proofs.lemmas.List.{length-map, map-append}
@@ -51,72 +51,44 @@ picked of rows = map of (filter defines rows)
 picked-append : {A : Type 0} (of : Row → A) (xs : List Row) (row : Row) (ys : List Row) →
     picked of (xs ++ row ∷ ys)
     ≡ picked of xs ++ (if defines row then of row ∷ picked of ys else picked of ys)
-picked-append of xs row ys =
-    ap (map of) (filter-append defines xs (row ∷ ys))
-    ∙ map-append of (filter defines xs) (filter defines (row ∷ ys))
-    ∙ ap (λ zs. picked of xs ++ zs) (by (defines row))
-  where
-    by : (b : Bool) → map of (if b then row ∷ filter defines ys else filter defines ys)
-        ≡ (if b then of row ∷ picked of ys else picked of ys)
-    by true = refl
-    by false = refl
+picked-append of xs row ys = grind (arith, filter-append, map-append)
 
 picked-there : (rows : List Row) (place : ℕ) (row : Row) →
     slice_get (filter defines rows) place ≡ Some row → (at : ℕ) × (slice_get rows at ≡ Some row)
 picked-there [] place row e = absurd (omega (arith, slice_get_within [] place row e))
-picked-there (one ∷ rows) place row e =
-    by (defines one) place (λ p f. picked-there rows p row f) e
-  where
-    by : (b : Bool) (place : ℕ) → ((p : ℕ) → slice_get (filter defines rows) p ≡ Some row →
-        (at : ℕ) × (slice_get rows at ≡ Some row)) →
-        slice_get (if b then one ∷ filter defines rows else filter defines rows) place ≡ Some row →
-        (at : ℕ) × (slice_get (one ∷ rows) at ≡ Some row)
-    by true zero more f = (0, f)
-    by true (suc p) more f = let later = more p f in (suc later.0, later.1)
-    by false p more f = let later = more p f in (suc later.0, later.1)
+picked-there (one ∷ rows) zero row e = elim (cases_Bool (defines one)) [
+  | inl is ↦ (0, rw is at e)
+  | inr off ↦ (let later = picked-there rows 0 row (rw off at e) in (suc later.0, later.1))
+]
+picked-there (one ∷ rows) (suc p) row e = elim (cases_Bool (defines one)) [
+  | inl is ↦ (let later = picked-there rows p row (rw is at e) in (suc later.0, later.1))
+  | inr off ↦ (let later = picked-there rows (suc p) row (rw off at e) in (suc later.0, later.1))
+]
 
 one_first : {A : Type 0} (b : Bool) (x : A) (xs : List A) →
     (if b then x ∷ xs else xs) ≡ (if b then x ∷ [] else []) ++ xs
-one_first true x xs = refl
-one_first false x xs = refl
+one_first b x xs = grind arith
 
 passed_is : (name : Name) → is_passed name ≡ is_link_definition name
-passed_is Definition = refl
-passed_is _ = refl
+passed_is name = grind arith
 
 entries-picked : (forest : Forest) (index : ℕ) (outermost : Bool) →
     picked (λ (row : Row). row.entry) (rows_of index outermost forest)
     ≡ definition_entries index forest
 entries-picked Empty index outermost = refl
 entries-picked (Node name start end children rest) index outermost =
-    let entry : Row → ℕ = λ row. row.entry in
-    let exit : ℕ = index_after (suc index) children in
-    let closing : Row = row_of false index (outermost && is_empty rest) name start end children in
-    let inner : List Row = rows_of (suc index) false children in
-    let after : List Row = rows_of (suc exit) outermost rest in
-    picked-append entry inner closing after
-    ∙ ap (λ xs. xs ++ (if is_passed name then index ∷ picked entry after else picked entry after))
-    (entries-picked children (suc index) false)
-    ∙ ap (λ xs. definition_entries (suc index) children ++ xs)
-    (one_first (is_passed name) index (picked entry after)
-    ∙ ap (λ b. (if b then index ∷ [] else []) ++ picked entry after) (passed_is name)
-    ∙ ap (λ xs. (if is_link_definition name then index ∷ [] else []) ++ xs)
-    (entries-picked rest (suc exit) outermost))
+    let inside = entries-picked children (suc index) in
+    let later = entries-picked rest in
+    grind (arith, picked-append, one_first, passed_is, inside, later)
 
 none-picked : {A : Type 0} (of : Row → A) (forest : Forest) (index : ℕ) (outermost : Bool) →
     Free forest →
     picked of (rows_of index outermost forest) ≡ []
 none-picked of Empty index outermost free = refl
-none-picked {A = A} of (Node name start end children rest) index outermost free =
-    let exit : ℕ = index_after (suc index) children in
-    let closing : Row = row_of false index (outermost && is_empty rest) name start end children in
-    let inner : List Row = rows_of (suc index) false children in
-    let after : List Row = rows_of (suc exit) outermost rest in
-    picked-append of inner closing after
-    ∙ ap (λ xs. xs ++ (if is_passed name then of closing ∷ picked of after else picked of after))
-    (none-picked of children (suc index) false free.1)
-    ∙ ap (λ b. if b then of closing ∷ picked of after else picked of after) free.0
-    ∙ none-picked of rest (suc exit) outermost free.2
+none-picked of (Node name start end children rest) index outermost free =
+    let inside = none-picked of children (suc index) false free.1 in
+    let later = none-picked of rest (suc (index_after (suc index) children)) outermost free.2 in
+    grind (arith, picked-append, inside, later, free.0)
 
 defined-picked : (alone : Context) (forest : Forest) (index : ℕ) (outermost : Bool) →
     Everywhere IsFreeInside forest →
@@ -254,7 +226,6 @@ pub own-length : (given : Handed) (document : Forest) (alone : Context) → IsCh
 own-length given document alone checked flat =
     let frees = built-frees given.bytes Blocks document (grammatical-built given.bytes given.names
     document (grammatical-there given document checked flat)) in
-    ap (λ xs. length xs) (sym (defined-picked alone document 0 true frees))
-    ∙ length-map (filter defines (rows_of 0 true document)) (defined_at alone)
-    ∙ sym (length-map (filter defines (rows_of 0 true document)) (λ (row : Row). row.entry))
-    ∙ ap (λ xs. length xs) (entries-picked document 0 true)
+    let same = defined-picked alone document 0 true frees in
+    let entries = entries-picked document 0 true in
+    grind (arith, length-map, same, entries)

@@ -7,7 +7,7 @@ use Rattle.std.proofs.lemmas.List.{length-map, length-append}
 use Rattle.std.proofs.lemmas.Option.{slice_get_within}
 use Rattle.md_base.specs.declared.event.Name.{Name}
 use Rattle.md_base.specs.declared.event.Point.{Point}
-use Rattle.md_base.specs.Tree.{Forest, Empty, Node, flatten, exiting}
+use Rattle.md_base.specs.Tree.{Forest, Empty, Node, flatten}
 use Rattle.md_base.specs.Children.{is_empty}
 use Rattle.md_pattern.specs.Partners.{index_after}
 use Rattle.md_pattern.proofs.CountedFacts.{length_one}
@@ -30,10 +30,7 @@ each-append said (row ∷ xs) ys index middle next p q =
 each-got : (said : ℕ → Row → Type 0) (rows : List Row) (index next i : ℕ) (row : Row) →
     Each said index rows next → slice_get rows i ≡ Some row → said (index + i) row
 each-got said [] index next i row each got = absurd (omega (arith, slice_get_within [] i row got))
-each-got said (one ∷ rows) index next zero row each got =
-    let same : one ≡ row = cc in
-    let none : index ≡ index + 0 = omega arith in
-    subst (λ n. said n row) none (subst (said index) same each.0)
+each-got said (one ∷ rows) index next zero row each got = grind arith
 each-got said (one ∷ rows) index next (suc i) row each got =
     let more : suc index + i ≡ index + suc i = omega arith in
     subst (λ n. said n row) more (each-got said rows (suc index) next i row each.1 got)
@@ -66,27 +63,18 @@ after-length : (forest : Forest) (index : ℕ) →
 after-length Empty index = omega arith
 after-length (Node name start end children rest) index =
     let inside = after-length children (suc index) in
-    let after = after-length rest (suc (index_after (suc index) children)) in
-    let own = length-append (flatten children) (exiting name end ∷ flatten rest) in
-    omega (arith, inside, after, own)
+    let later = after-length rest in
+    grind (arith, length-append, inside, later)
 
 -- nothing comes after a list's end
 ends : (before after : List Row) (row : Row) (n : ℕ) → length before ≡ n →
     (suc n == length (before ++ row ∷ after)) ≡ is_nil after
-ends before [] row n e =
-    let same : suc n ≡ length (before ++ row ∷ []) = sym (length_one before row ∙ ap suc e) in
-    grind (arith, same)
-ends before (one ∷ after) row n e =
-    let more = length-append before (row ∷ one ∷ after) in
-    ne_eqb (suc n) (length (before ++ row ∷ one ∷ after)) (λ f. omega (arith, e, f, more))
+ends before after row n e = grind (arith, length_one, length-append, ne_eqb)
 
 last-nil : (rest : Forest) (index : ℕ) (outermost : Bool) (later : List Row) →
     is_nil later ≡ outermost →
     is_nil (rows_of index outermost rest ++ later) ≡ (outermost && is_empty rest)
-last-nil Empty index true later e = e
-last-nil Empty index false later e = e
-last-nil (Node name start end children rest) index true later e = refl
-last-nil (Node name start end children rest) index false later e = refl
+last-nil rest index outermost later e = grind arith
 
 paired-rows : (all : List Row) (forest : Forest) (index : ℕ) (outermost : Bool)
     (seen later : List Row) → length seen ≡ index → is_nil later ≡ outermost →
@@ -171,15 +159,10 @@ everywhere-rows : (holds : Name → Point → Point → Forest → Type 0) (fore
     Each (λ i row. holds row.name row.start row.end row.children) index
     (rows_of index outermost forest) (index_after index forest)
 everywhere-rows holds Empty index outermost all = refl
-everywhere-rows holds (Node name start end children rest) index outermost all = (
-  all.0,
-  each-append (λ i row. holds row.name row.start row.end row.children)
-      (rows_of (suc index) false children) _ (suc index) (index_after (suc index) children) _
-      (everywhere-rows holds children (suc index) false all.1) (
-        all.0,
-        everywhere-rows holds rest (suc (index_after (suc index) children)) outermost all.2,
-      ),
-)
+everywhere-rows holds (Node name start end children rest) index outermost all =
+    let inside = everywhere-rows holds children (suc index) in
+    let later = everywhere-rows holds rest in
+    grind (arith, each-append, inside, later)
 
 pub everywhere-at : (holds : Name → Point → Point → Forest → Type 0) (forest : Forest)
     (outermost : Bool) → Everywhere holds forest → (i : ℕ) (row : Row) →

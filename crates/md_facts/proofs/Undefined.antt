@@ -1,18 +1,16 @@
 -- No definition stands in a definition.
-use Rattle.std.proofs.Common.{◌≡◌, ℕ, Bool, true, false, ◌&&◌, ◌||◌, not, List, [], ◌∷◌, ◌++◌, refl}
-use Rattle.std.proofs.Common.{sym, ap, ap₂, ◌∙◌, subst, inl, inr}
+use Rattle.std.proofs.Common.{arith, ◌≡◌, ℕ, Bool, true, false, ◌&&◌, ◌||◌, not, List, [], ◌∷◌}
+use Rattle.std.proofs.Common.{◌++◌, refl, ap, ap₂, ◌∙◌, inl, inr}
 use Rattle.std.proofs.lemmas.Bool.{cases_Bool}
 use Rattle.std.specs.Prelude.{map, if◌then◌else◌}
 use Rattle.std.proofs.lemmas.List.{map-append}
-use Rattle.md_base.proofs.Lies.{lie}
 use Rattle.md_base.specs.declared.event.Name.{Name}
-use Rattle.md_base.specs.declared.event.Name.TheVariants.{Definition, Data}
+use Rattle.md_base.specs.declared.event.Name.TheVariants.{Definition}
 use Rattle.md_base.specs.declared.event.Point.{Point}
 use Rattle.md_base.specs.Is.{is}
 use Rattle.md_base.specs.NameTests.{is_transparent}
 use Rattle.md_base.specs.Tree.{Forest, Empty, Node}
 use Rattle.md_meaning.specs.Meaning.At.{Defined, Context, identifier_of}
-use Rattle.md_meaning.specs.Meaning.Layout.{when}
 use Rattle.md_content.specs.Built.{Content, Sources, Strings, Nothing, IsBuilt, content_inside}
 use Rattle.md_content.specs.Built.{content_past, content_after, content_after_node, may_stand}
 use Rattle.md_content.specs.References.{Everywhere, defined_in}
@@ -36,41 +34,18 @@ low Strings = true
 low Nothing = true
 low _ = false
 
-implied : (a b : Bool) → implies a b ≡ true → a ≡ true → b ≡ true
-implied true b h k = h
-implied false b h k = lie k
-
 abbrev keeps : Content → Name → Bool
 keeps c n =
     implies (is_transparent n || may_stand c n) (not (is_passed n) && low (content_inside c n))
 
-in_sources : (n : Name) → keeps Sources n ≡ true
-in_sources Data = refl
-in_sources _ = refl
-
-in_strings : (n : Name) → keeps Strings n ≡ true
-in_strings Data = refl
-in_strings _ = refl
-
-in_nothing : (n : Name) → keeps Nothing n ≡ true
-in_nothing Data = refl
-in_nothing _ = refl
-
 keeps-low : (c : Content) (n : Name) → low c ≡ true → keeps c n ≡ true
-keeps-low Sources n h = in_sources n
-keeps-low Strings n h = in_strings n
-keeps-low Nothing n h = in_nothing n
-keeps-low _ n h = lie h
+keeps-low c n h = grind arith
 
 past-low : (c : Content) (n : Name) → low c ≡ true → content_past c n ≡ c
-past-low Sources n h = refl
-past-low Strings n h = refl
-past-low Nothing n h = refl
-past-low _ n h = lie h
+past-low c n h = grind arith
 
 pick : (b : Bool) (c other : Content) → other ≡ c → (if b then c else other) ≡ c
-pick true c other e = refl
-pick false c other e = e
+pick b c other e = grind arith
 
 after-low : (c : Content) → low c ≡ true → (forest : Forest) → content_after c forest ≡ c
 after-low c h Empty = refl
@@ -81,54 +56,36 @@ after-low c h (Node name start end children rest) =
 
 node-low : (c : Content) (name : Name) (children : Forest) → low c ≡ true →
     content_after_node c name children ≡ c
-node-low c name children h =
-    ap (λ x. if is_transparent name then x else content_past c name) (after-low c h children)
-    ∙ pick (is_transparent name) c (content_past c name) (past-low c name h)
+node-low c name children h = grind (arith, after-low, pick, past-low)
 
 built-free : (bytes : List ℕ) (c : Content) (forest : Forest) → low c ≡ true →
     IsBuilt bytes c forest → Free forest
 built-free bytes c Empty h built = tt
 built-free bytes c (Node name start end children rest) h built =
-    let parts = both (is_passed name) (low (content_inside c name))
-    (implied (is_transparent name || may_stand c name) _ (keeps-low c name h) built.0) in (
-      parts.0,
-      built-free bytes (content_inside c name) children parts.1 built.2,
-      built-free bytes c rest h
-          (subst (λ x. IsBuilt bytes x rest) (node-low c name children h) built.3),
-    )
-  where
-    both : (a b : Bool) → not a && b ≡ true → (a ≡ false) × (b ≡ true)
-    both true b e = lie e
-    both false b e = (refl, e)
+    let inside = built-free bytes (content_inside c name) children in
+    let later = built-free bytes (content_after_node c name children) rest in
+    grind (arith, keeps-low, node-low, inside, later)
 
 pub built-frees : (bytes : List ℕ) (c : Content) (forest : Forest) → IsBuilt bytes c forest →
     Everywhere IsFreeInside forest
 built-frees bytes c Empty built = tt
-built-frees bytes c (Node name start end children rest) built = (
-  own name built.2,
-  built-frees bytes (content_inside c name) children built.2,
-  built-frees bytes (content_after_node c name children) rest built.3,
-)
-  where
-    own : (n : Name) → IsBuilt bytes (content_inside c n) children →
-        is_passed n ≡ true → Free children
-    own Definition inner h = built-free bytes Sources children refl inner
-    own _ inner h = lie h
+built-frees bytes c (Node name start end children rest) built =
+    let inner = built-frees bytes (content_inside c name) children built.2 in
+    let later = built-frees bytes (content_after_node c name children) rest built.3 in
+    let own = built-free bytes (content_inside c name) children in
+    (grind (arith, own, built.2), inner, later)
 
 -- ---- the identifiers of the definitions
 
 passed_is : (name : Name) → is_passed name ≡ is Definition name
-passed_is Definition = refl
-passed_is _ = refl
+passed_is name = grind arith
 
 none-defined : (bytes : List ℕ) (forest : Forest) → Free forest → defined_in bytes forest ≡ []
 none-defined bytes Empty free = refl
 none-defined bytes (Node name start end children rest) free =
-    ap (λ xs. xs
-    ++ (when (is Definition name) (identifier_of bytes children ∷ []) ++ defined_in bytes rest))
-    (none-defined bytes children free.1)
-    ∙ ap (λ b. when b (identifier_of bytes children ∷ []) ++ defined_in bytes rest)
-    (sym (passed_is name) ∙ free.0) ∙ none-defined bytes rest free.2
+    let inside = none-defined bytes children free.1 in
+    let later = none-defined bytes rest free.2 in
+    grind (arith, passed_is, inside, later)
 
 pub identifiers-defined : (context : Context) (forest : Forest) → Everywhere IsFreeInside forest →
     map (λ (d : Defined). d.identifier) (defined context forest) ≡ defined_in context.bytes forest

@@ -16,12 +16,7 @@ is_break byte = byte == 13 || byte == 10
 
 unended-below : (xs : List ℕ) → unended_length xs ≤ length xs
 unended-below [] = omega arith
-unended-below (x ∷ xs) =
-    elim (is_break x && (unended_length xs == 0)) as
-    (λ b. (if b then 0 else suc (unended_length xs)) ≤ suc (length xs)) [
-      | true ↦ nothing (length xs)
-      | false ↦ more (unended_length xs) (length xs) (unended-below xs)
-    ]
+unended-below (x ∷ xs) = let later = unended-below xs in grind (arith, later)
   where
     nothing : (n : ℕ) → 0 ≤ suc n
     nothing n = omega arith
@@ -37,23 +32,16 @@ length-unended xs = length-take-le (unended_length xs) xs (unended-below xs)
 break-length : (xs : List ℕ) (b : ℕ) → is_break b ≡ true →
     unended_length (xs ++ b ∷ []) ≡ unended_length xs
 break-length [] b h = ap (λ t. if t && (0 == 0) then 0 else 1) h
-break-length (x ∷ xs) b h =
-    ap (λ n. if is_break x && (n == 0) then 0 else suc n) (break-length xs b h)
+break-length (x ∷ xs) b h = let later = break-length xs b h in grind (arith, later)
 
 pub unended-break : (xs : List ℕ) (b : ℕ) → is_break b ≡ true → unended (xs ++ b ∷ []) ≡ unended xs
-unended-break xs b h =
-    ap (λ n. take n (xs ++ b ∷ [])) (break-length xs b h)
-    ∙ take-append-le (unended_length xs) xs (b ∷ []) (unended-below xs)
+unended-break xs b h = grind (arith, break-length, take-append-le, unended-below)
 
 -- nothing goes after another byte
 other-length : (xs : List ℕ) (b : ℕ) → is_break b ≡ false →
     unended_length (xs ++ b ∷ []) ≡ suc (length xs)
 other-length [] b h = ap (λ t. if t && (0 == 0) then 0 else 1) h
-other-length (x ∷ xs) b h =
-    ap (λ n. if is_break x && (n == 0) then 0 else suc n) (other-length xs b h)
-    ∙ ap (λ t. if is_break x && t then 0 else suc (suc (length xs)))
-    (ne_eqb (suc (length xs)) 0 (λ e. omega (arith, e)))
-    ∙ not_both (is_break x)
+other-length (x ∷ xs) b h = let later = other-length xs b h in grind (arith, ne_eqb, later)
   where
     not_both : (t : Bool) →
         (if t && false then 0 else suc (suc (length xs))) ≡ suc (suc (length xs))

@@ -1,8 +1,7 @@
 -- A map that finds entries by their places finds them when another one comes last.
-use Rattle.std.proofs.Common.{◌≡◌, ℕ, zero, suc, Bool, true, false, cond, List, [], ◌∷◌, ◌++◌}
-use Rattle.std.proofs.Common.{length, Option, Some, None, refl, ap, sym, ◌∙◌, bytes_eq, String, inl}
-use Rattle.std.proofs.Common.{inr}
-use Rattle.std.proofs.Common.{Global, string_bytes}
+use Rattle.std.proofs.Common.{arith, ◌≡◌, ℕ, zero, suc, Bool, true, false, cond, List, [], ◌∷◌}
+use Rattle.std.proofs.Common.{◌++◌, length, Option, Some, None, refl, ap, sym, ◌∙◌, bytes_eq}
+use Rattle.std.proofs.Common.{String, inl, inr, Global, string_bytes}
 use Rattle.std.proofs.lemmas.Bool.{cases_Bool}
 use Rattle.std.specs.Prelude.{if◌then◌else◌, option_map}
 use Rattle.std.specs.Option.{option_map_or}
@@ -18,8 +17,7 @@ pub places-again : (entries : List (String Global × ℕ)) (i : ℕ) (q : List �
     place_in (again entries i) q ≡ place_in entries q
 places-again [] i q = refl
 places-again (e ∷ entries) zero q = refl
-places-again (e ∷ entries) (suc i) q = ap (λ o. if bytes_eq (string_bytes e.0) q then Some 0
-    else option_map (λ place. suc place) o) (places-again entries i q)
+places-again (e ∷ entries) (suc i) q = let later = places-again entries i q in grind (arith, later)
 
 -- an entry more at the end is found there, unless its identifier is found before it
 place-push :
@@ -27,13 +25,7 @@ place-push :
     place_in (entries ++ e ∷ []) q ≡ option_map_or (λ place. Some place) (place_in entries q)
     (if bytes_eq (string_bytes e.0) q then Some (length entries) else None)
 place-push [] e q = refl
-place-push (f ∷ entries) e q =
-    ap (λ o. if bytes_eq (string_bytes f.0) q then Some 0
-    else option_map (λ place. suc place) o) (place-push entries e q)
-    ∙ (elim (cases_Bool (bytes_eq (string_bytes f.0) q)) [
-      | inl is ↦ rw is refl
-      | inr differ ↦ rw differ (later (place_in entries q) (bytes_eq (string_bytes e.0) q))
-    ])
+place-push (f ∷ entries) e q = let later = place-push entries e q in grind (arith, later)
   where
     later : (o : Option ℕ) (b : Bool) → option_map (λ place. suc place)
         (option_map_or (λ place. Some place) o (if b then Some (length entries) else None))

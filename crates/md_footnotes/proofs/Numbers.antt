@@ -1,8 +1,7 @@
 -- Numbers and counts of calls: what is found in the tally of those so far is what the meaning
 -- finds in their list.
-use Rattle.std.proofs.Common.{◌≡◌, ◌≤◌, ℕ, ◌+◌, zero, suc, false, List}
-use Rattle.std.proofs.Common.{[], ◌∷◌, ◌++◌, map, refl, ap, sym, ◌∙◌, arith, unwrap_or, bytes_eq}
-use Rattle.std.proofs.Common.{length, Some, inl, inr}
+use Rattle.std.proofs.Common.{◌≡◌, ◌≤◌, ℕ, zero, suc, false, List, [], ◌∷◌, ◌++◌, map, refl, ap}
+use Rattle.std.proofs.Common.{sym, ◌∙◌, arith, bytes_eq, length, Some, inl, inr}
 use Rattle.std.specs.Prelude.{if◌then◌else◌, find, slice_get}
 use Rattle.std.specs.Option.{option_map_or}
 use Rattle.std.proofs.lemmas.Bool.{cases_Bool, or_parts}
@@ -37,10 +36,7 @@ upto x (y ∷ ys) = if bytes_eq y x then [] else y ∷ upto x ys
 placed-upto : (xs : List (List ℕ)) (x : List ℕ) → place_among xs x ≡ suc (length (upto x xs))
 unfolding upto
 placed-upto [] x = refl
-placed-upto (y ∷ ys) x = elim (cases_Bool (bytes_eq y x)) [
-  | inl e ↦ rw e refl
-  | inr e ↦ rw e (ap suc (placed-upto ys x))
-]
+placed-upto (y ∷ ys) x = let later = placed-upto ys x in grind (arith, later)
 
 upto-others : (y x : List ℕ) (zs : List (List ℕ)) → bytes_eq y x ≡ false →
     upto x (others_than y zs) ≡ others_than y (upto x zs)
@@ -59,11 +55,7 @@ upto-distinct : (xs : List (List ℕ)) (x : List ℕ) →
     upto x (distinct (xs ++ x ∷ [])) ≡ upto x (distinct xs)
 unfolding upto
 upto-distinct [] x = ap (λ b. if b then [] else x ∷ []) (itself x)
-upto-distinct (y ∷ xs) x = elim (cases_Bool (bytes_eq y x)) [
-  | inl e ↦ rw e refl
-  | inr e ↦ rw e (ap (λ ws. y ∷ ws) (upto-others y x (distinct (xs ++ x ∷ [])) e
-      ∙ ap (λ ws. others_than y ws) (upto-distinct xs x) ∙ sym (upto-others y x (distinct xs) e)))
-]
+upto-distinct (y ∷ xs) x = let later = upto-distinct xs x in grind (arith, upto-others, later)
 
 pub number-same : (xs : List (List ℕ)) (x : List ℕ) →
     number_among (tally xs) x ≡ place_among (distinct (xs ++ x ∷ [])) x
@@ -77,10 +69,7 @@ count-found : (f : List ℕ → ℕ) (xs : List (List ℕ)) (x : List ℕ) →
     count_among (map (λ i. record { identifier = i; count = f i }) xs) x
     ≡ (if is_in x xs then f x else 0)
 count-found f [] x = refl
-count-found f (y ∷ ys) x = elim (cases_Bool (bytes_eq y x)) [
-  | inl e ↦ rw e (ap f (same y x e))
-  | inr e ↦ rw e (count-found f ys x)
-]
+count-found f (y ∷ ys) x = let later = count-found f ys x in grind (arith, same, later)
 
 -- how often an identifier was called
 pub count-same : (xs : List (List ℕ)) (x : List ℕ) → count_among (tally xs) x ≡ count_of xs x
@@ -102,16 +91,13 @@ not_there : (y x : List ℕ) (ys : List (List ℕ)) (i : ℕ) → is_in y ys ≡
     slice_get ys i ≡ Some x →
     bytes_eq x y ≡ false
 not_there y x [] i h e = absurd (none-some x e)
-not_there y x (z ∷ zs) zero h e =
-    ap (λ o. bytes_eq (unwrap_or o z) y) (sym e) ∙ (or_parts (bytes_eq z y) (is_in y zs) h).0
+not_there y x (z ∷ zs) zero h e = grind arith
 not_there y x (z ∷ zs) (suc i) h e = not_there y x zs i (or_parts (bytes_eq z y) (is_in y zs) h).1 e
 
 place-of : (xs : List (List ℕ)) (i : ℕ) (x : List ℕ) → Apart xs → slice_get xs i ≡ Some x →
     place_among xs x ≡ suc i
 place-of [] i x apart e = absurd (none-some x e)
-place-of (y ∷ ys) zero x apart e =
-    ap (λ o. if bytes_eq y (unwrap_or o x) then 1 else suc (place_among ys x)) (sym e)
-    ∙ ap (λ b. if b then 1 else suc (place_among ys x)) (itself y)
+place-of (y ∷ ys) zero x apart e = grind (arith, itself)
 place-of (y ∷ ys) (suc i) x apart e =
     ap (λ b. if b then 1 else suc (place_among ys x))
     (bytes_eq-sym y x ∙ not_there y x ys i apart.0 e) ∙ ap suc (place-of ys i x apart.1 e)

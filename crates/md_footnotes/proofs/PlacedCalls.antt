@@ -99,24 +99,22 @@ call-new : (entries : List (String Global × ℕ)) (order : List ℕ) (calls : L
     (key : String Global) →
     place_in entries (string_bytes key) ≡ None → Keeps entries order calls →
     Keeps (entries ++ (key, 1) ∷ []) (order ++ length entries ∷ []) (calls ++ string_bytes key ∷ [])
-call-new entries order calls key h keeps = (
-  map-append (λ place. identifier_in (entries ++ (key, 1) ∷ []) place) order (length entries ∷ [])
-      ∙ ap (λ xs. xs ++ identifier_in (entries ++ (key, 1) ∷ []) (length entries) ∷ [])
-      (calls-before entries (key, 1) order keeps.2 ∙ keeps.0)
-      ∙ ap (λ x. calls ++ x ∷ []) (identifier-last entries (key, 1)),
-  counted-new entries key h ∙ ap (λ cs. counted cs (string_bytes key)) keeps.1
-      ∙ counted-tally calls (string_bytes key),
-  below-push (length entries) (length (entries ++ (key, 1) ∷ [])) order (length entries)
-      (omega (arith, length-append entries ((key, 1) ∷ [])))
-      (omega (arith, length-append entries ((key, 1) ∷ [])))
-      keeps.2,
-)
+call-new entries order calls key h keeps =
+    grind (
+      arith,
+      map-append,
+      calls-before,
+      identifier-last,
+      counted-new,
+      counted-tally,
+      below-push,
+      length-append,
+    )
 
 -- what equals what is kept is kept
 kept : (entries others : List (String Global × ℕ)) (order places : List ℕ) (calls : List (List ℕ)) →
     others ≡ entries → places ≡ order → Keeps entries order calls → Keeps others places calls
-kept entries others order places calls e o keeps =
-    subst (λ es. Keeps es places calls) (sym e) (subst (λ ps. Keeps entries ps calls) (sym o) keeps)
+kept entries others order places calls e o keeps = grind arith
 
 pub kept-again :
     (entries others : List (String Global × ℕ)) (order places : List ℕ) (q : List ℕ) (i : ℕ) →
@@ -175,19 +173,3 @@ entry-called (d ∷ entries) f (x ∷ names) zero e same h =
 entry-called (d ∷ entries) f (x ∷ names) (suc i) e same h =
     let later = entry-called entries f names i e (ap (λ (l : List Counted). drop 1 l) same) h in
     (later.0, later.1, omega (arith, later.2))
-
-pub entry-missing :
-    (entries : List (String Global × ℕ)) (f : List ℕ → ℕ) (names : List (List ℕ)) (i : ℕ) →
-    counts_in entries ≡ map (λ x. record { identifier = x; count = f x }) names →
-    slice_get entries i ≡ None →
-    slice_get names i ≡ None
-entry-missing [] f [] i same h = refl
-entry-missing [] f (x ∷ names) i same h = absurd (true≢false (ap is_nil same))
-  where
-    is_nil : List Counted → Bool
-    is_nil [] = true
-    is_nil (x ∷ xs) = false
-entry-missing (d ∷ entries) f [] i same h = refl
-entry-missing (d ∷ entries) f (x ∷ names) zero same h = absurd (none-some d (sym h))
-entry-missing (d ∷ entries) f (x ∷ names) (suc i) same h =
-    entry-missing entries f names i (ap (λ (l : List Counted). drop 1 l) same) h

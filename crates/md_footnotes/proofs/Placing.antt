@@ -1,7 +1,6 @@
 -- Entries found by their places.
 use Rattle.std.proofs.Common.{◌≡◌, ◌<◌, ℕ, ◌+◌, zero, suc, Bool, true, false, subst, List, [], ◌∷◌}
-use Rattle.std.proofs.Common.{◌++◌, length}
-use Rattle.std.proofs.Common.{Option, Some, None, refl, ap, ◌∙◌, arith, bytes_eq, String}
+use Rattle.std.proofs.Common.{◌++◌, length, Option, Some, None, refl, ap, arith, bytes_eq, String}
 use Rattle.std.proofs.Common.{Global, string_bytes}
 use Rattle.std.specs.Prelude.{if◌then◌else◌, option_map, slice_get, slice_index_or, slice_set}
 use Rattle.std.specs.Prelude.{IfSome, IfNone}
@@ -134,8 +133,6 @@ pub again-set : (entries : List (String Global × ℕ)) (place n : ℕ) (d e : S
     n ≡ (slice_index_or entries place e).1 + 1 →
     slice_set entries place (d.0, n) ≡ again entries place
 again-set [] place n d e below same one = absurd (omega (arith, below))
-again-set (f ∷ entries) zero n d e below same one =
-    let counted : n ≡ suc f.1 = omega (arith, one) in
-    ap (λ m. (d.0, m) ∷ entries) counted ∙ ap (λ g. (g.0, suc f.1) ∷ entries) same
+again-set (f ∷ entries) zero n d e below same one = grind arith
 again-set (f ∷ entries) (suc place) n d e below same one =
     ap (λ es. f ∷ es) (again-set entries place n d e (omega (arith, below)) same one)

@@ -1,6 +1,5 @@
 -- After a space a text may be cut.
-use Rattle.std.proofs.Common.{◌≡◌, ℕ, Bool, true, false, List, [], ◌∷◌, length, sym, ap, ◌∙◌, arith}
-use Rattle.std.proofs.Common.{zero-lt-suc}
+use Rattle.std.proofs.Common.{◌≡◌, ℕ, Bool, true, List, [], ◌∷◌, length, arith, zero-lt-suc}
 use Rattle.std.specs.Prelude.{slice_get}
 use Rattle.std.specs.Bool.{OnTrue}
 use Rattle.std.specs.Str.{IsCharBoundary, IsUtf8}
@@ -18,17 +17,8 @@ space_cut (b ∷ bs) utf8 e =
     IsCharBoundary-after_ascii (b ∷ bs) 0 utf8 (zero-lt-suc (length bs)) (omega (arith, space))
 
 on_true : (b : Bool) (P : Type 0) → P → OnTrue b P
-on_true true P p = p
-on_true false P p = tt
+on_true b P p = grind arith
 
 pub returns-then-is_space-2-clause-cut_start : goal.returns-then-is_space-2-clause-cut_start
 returns-then-is_space-2-clause-cut_start c =
-    let text = c.args.text.now in
-    let P : Type 0 = IsCharBoundary text 1 in
-    on_true _ P (elim c.if-is_space.branch [
-      | then-is_space w ↦ space_cut text c.utf8.text
-          (ap (λ t. is_space (slice_get t 0)) (sym c.as_bytes-bytes.ensures.value)
-          ∙ ap is_space (sym c.first.ensures.value) ∙ sym c.is_space.ensures ∙ w.if-is_space.true)
-      | else-is_space w ↦
-          absurd (false≢true (sym w.if-is_space.false ∙ sym w.value-is ∙ c.if-is_space-2.true))
-    ])
+    grind (arith, on_true, then-is_space, space_cut, else-is_space, false≢true)

@@ -1,5 +1,5 @@
 -- A backslash before a pipe goes, and every other character stays.
-use Rattle.std.proofs.Common.{◌≡◌, ◌++◌, OnOk, string_bytes, ap, sym, subst, arith}
+use Rattle.std.proofs.Common.{◌≡◌, ◌++◌, OnOk, string_bytes, sym, subst, arith}
 use Rattle.std.proofs.lemmas.Grind.{common_steps}
 use Rattle.md_buffer.specs.Code.{unescaped_pipes}
 use Rattle.md_buffer.proofs.CodeText.{unescaped_pipes-step}
@@ -13,6 +13,4 @@ returns-else-escapes_pipe c =
     ≡ string_bytes c.args.out.now ++ x)) (sym stays) (grind (arith, common_steps))
 
 pub returns-then-escapes_pipe : goal.returns-then-escapes_pipe
-returns-then-escapes_pipe c =
-    ap (λ x. string_bytes c.args.out.now ++ x) (sym (unescaped_pipes-step c.args.c c.args.rest.now _
-    (rw c.as_bytes.ensures.value at c.if-escapes_pipe.ensures)))
+returns-then-escapes_pipe c = grind (arith, common_steps, unescaped_pipes-step)

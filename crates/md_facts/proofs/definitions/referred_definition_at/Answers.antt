@@ -1,6 +1,6 @@
 -- The definition that the check gives is the one that is found by its identifier; if it gives none,
 -- the link has a resource.
-use Rattle.std.proofs.Common.{ℕ, Option, Some, None}
+use Rattle.std.proofs.Common.{arith, ℕ, Option, Some, None}
 use Rattle.std.specs.Prelude.{IfSome}
 use Rattle.md_tree.specs.Numbers.{IsDefinitionFor}
 use Rattle.md_facts.specs.Definitions.{RefersTo}
@@ -10,8 +10,7 @@ use Rattle.md_facts.proofs.definitions.referred_definition_at.Goals as goal
 if-some : (Is : Option ℕ → Type 0) (P : ℕ → Type 0) → ((place : ℕ) → Is (Some place) → P place) →
     (o : Option ℕ) →
     Is o → IfSome o P
-if-some Is P f None is = tt
-if-some Is P f (Some place) is = f place is
+if-some Is P f o is = grind arith
 
 pub returns-clause-referred : goal.returns-clause-referred
 returns-clause-referred c =

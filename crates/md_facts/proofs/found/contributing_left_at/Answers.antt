@@ -26,8 +26,7 @@ there : (given : Handed) (entry : ℕ) (found : Option ℕ) (children : Forest) 
     IsEnteredAt given entry children → found ≡ last_contributing_at (suc entry) children →
     Named given.events found (last_contributing children)
 there given entry found children enters entered is =
-    subst (λ o. Named given.events o (last_contributing children)) (sym is)
-    (contributing-named given entry ListItem children enters entered)
+    rw is (contributing-named given entry ListItem children enters entered)
 
 pub returns-in_err-last : goal.returns-in_err-last
 returns-in_err-last c = λ one at.

@@ -1,9 +1,6 @@
 -- What is read of the node is its label.
-use Rattle.std.proofs.Common.{◌≡◌, true, refl, sym, ap, ◌∙◌}
-use Rattle.md_base.proofs.Lies.{lie}
+use Rattle.std.proofs.Common.{arith, ◌≡◌, true, sym, ap, ◌∙◌}
 use Rattle.md_base.specs.declared.event.Name.{Name}
-use Rattle.md_base.specs.declared.event.Name.TheVariants.{GfmFootnoteCall, Definition}
-use Rattle.md_base.specs.declared.event.Name.TheVariants.{GfmFootnoteDefinition}
 use Rattle.md_meaning.specs.Places.{identifier_at}
 use Rattle.md_tree.specs.Reads.{is_reader}
 use Rattle.md_steps.specs.Run.{Noticed}
@@ -13,10 +10,7 @@ use Rattle.md_facts.proofs.Labelled.{labelled}
 use Rattle.md_facts.proofs.identifiers.label_read_at.Goals as goal
 
 reader : (name : Name) → is_labelled name ≡ true → is_reader name ≡ true
-reader GfmFootnoteCall h = refl
-reader Definition h = refl
-reader GfmFootnoteDefinition h = refl
-reader _ h = lie h
+reader name h = grind arith
 
 pub returns : goal.returns
 returns c = λ one there.

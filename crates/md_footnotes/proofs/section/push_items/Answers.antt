@@ -42,11 +42,4 @@ loop-called-preserved c =
     )
 
 pub returns : goal.returns
-returns c =
-    let calls : List (List ℕ) = c.args.calls.now in
-    ap (λ qs. laid_after c.args.settings.now.ending.now (string_bytes c.loop-called.out)
-    (flat_map (meaning.item (context_by c.args.settings.now.options.now calls) c.args.notes.now)
-    qs))
-    (sym (drop-missing (meaning.distinct calls) c.loop-called.index
-    (sym c.in_default.ensures.identifier)))
-    ∙ c.loop-called.invariant.0
+returns c = grind (arith, drop-missing)

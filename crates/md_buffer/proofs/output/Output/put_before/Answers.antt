@@ -1,8 +1,8 @@
 -- A head that is pending before all others in the innermost text comes before all of it; into an
 -- empty text the head itself is written. The search alone cites no lemma on nested texts.
-use Rattle.std.proofs.Common.{rules, ◌≡◌, ◌<◌, ◌++◌, [], ℕ, List, length, refl, ap, sym, subst, ◌∙◌}
-use Rattle.std.proofs.Common.{arith, drop, reverse, append-nil}
-use Rattle.std.specs.Prelude.{string_bytes, OnOk}
+use Rattle.std.proofs.Common.{rules, ◌≡◌, ◌<◌, ◌++◌, ℕ, List, length, refl, ap, sym, subst, ◌∙◌}
+use Rattle.std.proofs.Common.{arith, reverse, append-nil}
+use Rattle.std.specs.Prelude.{string_bytes}
 use Rattle.std.proofs.lemmas.Str.{IsUtf8-string_bytes}
 use Rattle.std.specs.Str.{IsUtf8}
 use Rattle.md_buffer.specs.declared.heads.Head.{Head}
@@ -15,18 +15,7 @@ use Rattle.md_buffer.proofs.HeadsBefore as headed
 use Rattle.md_buffer.proofs.output.Output.put_before.Goals as goal
 
 pub returns-then-len-self : goal.returns-then-len-self
-returns-then-len-self c =
-    let o = c.self.inside in
-    let outers : List Start = reverse o.outers.items in
-    let all : c.len.result ≡ length (string_bytes o.bytes) = search rules in
-    let none : c.args.self.now.text ≡ [] =
-    sym (ap (λ (t : Texts). t.text) c.self.view_is)
-    ∙ merged-none (string_bytes o.bytes) (string_bytes o.heads) o.start.place
-    (drop o.start.first o.waiting.items) (omega arith) c.self.invariant.text in
-    subst (λ t. OnOk c.put.result
-    (c.put.new.self ≡ record { text = t; below = c.args.self.now.below }))
-    (ap (λ t. t ++ c.args.head.now) none ∙ sym (append-nil c.args.head.now)
-    ∙ ap (λ t. c.args.head.now ++ t) (sym none)) c.put.ensures
+returns-then-len-self c = grind (arith, merged-none, append-nil)
 
 pub invariant_of-self-in_err-wait_first : goal.invariant_of-self-in_err-wait_first
 invariant_of-self-in_err-wait_first c =

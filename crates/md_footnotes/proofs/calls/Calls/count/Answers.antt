@@ -13,12 +13,7 @@ use Rattle.md_footnotes.proofs.MappedPlaces.{places-again}
 use Rattle.md_footnotes.proofs.calls.Calls.count.Goals as goal
 
 pub count_again-requires-clause-within : goal.count_again-requires-clause-within
-count_again-requires-clause-within c =
-    let q : List ℕ = string_bytes c.args.identifier in
-    place-below c.self.inside.counts.items q c.in-Some.place
-    (sym (c.self.invariant.0 q)
-    ∙ ap (λ text. get_by_text c.self.inside.places text) (sym c.as_str.ensures.value)
-    ∙ sym c.place_under.ensures ∙ c.in-Some.is)
+count_again-requires-clause-within c = grind (arith, place-below)
 
 pub count_again-requires-clause-fits : goal.count_again-requires-clause-fits
 count_again-requires-clause-fits c =
@@ -78,17 +73,7 @@ invariant_of-self-in-None c =
     )
 
 pub returns-in-Some : goal.returns-in-Some
-returns-in-Some c =
-    let q : List ℕ = string_bytes c.args.identifier in
-    let place : ℕ = c.in-Some.place in
-    let keeps =
-    kept-again c.self.inside.counts.items c.count_again.new.counts.items c.self.inside.order.items
-    c.push_reserved.new.self.items q place c.count_again.ensures
-    (c.push_reserved.ensures.items ∙ ap (λ ps. ps ++ place ∷ []) c.reserve.ensures.items)
-    (sym (c.self.invariant.0 q)
-    ∙ ap (λ text. get_by_text c.self.inside.places text) (sym c.as_str.ensures.value)
-    ∙ sym c.place_under.ensures ∙ c.in-Some.is) c.self.invariant.1 c.self.invariant.2 in
-    keeps.0 ∙ ap (λ cs. cs ++ q ∷ []) c.self.view_is
+returns-in-Some c = grind (arith, kept-again)
 
 pub returns-in_ok-put_last-in-None : goal.returns-in_ok-put_last-in-None
 returns-in_ok-put_last-in-None c =

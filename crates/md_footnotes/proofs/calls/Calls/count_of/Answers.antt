@@ -13,13 +13,7 @@ use Rattle.md_footnotes.proofs.calls.Calls.count_of.Goals as goal
 
 counted : (c : goal.After-count_at) → c.count_at.result
     ≡ count_of (calls_in c.self.inside.counts.items c.self.inside.order.items) c.args.identifier.now
-counted c =
-    let entries = c.self.inside.counts.items in
-    let calls : List (List ℕ) = calls_in entries c.self.inside.order.items in
-    let q : List ℕ = c.args.identifier.now in
-    c.count_at.ensures ∙ ap (λ es. count_in es c.in-Some.place) c.as_slice.ensures.value
-    ∙ count-kept entries calls q c.in-Some.place
-    (sym (c.self.invariant.0 q) ∙ sym c.place_under.ensures ∙ c.in-Some.is) c.self.invariant.1
+counted c = grind (arith, count-kept)
 
 pub returns-in-Some-clause-count : goal.returns-in-Some-clause-count
 returns-in-Some-clause-count c =

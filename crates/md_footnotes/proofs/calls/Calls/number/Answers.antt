@@ -9,12 +9,7 @@ use Rattle.md_footnotes.proofs.Placing.{place-below, number-at}
 use Rattle.md_footnotes.proofs.calls.Calls.number.Goals as goal
 
 pub overflow_add-result : goal.overflow_add-result
-overflow_add-result c =
-    let below = place-below c.self.inside.counts.items c.args.identifier.now c.in-Some.place
-    (sym (c.self.invariant.0 c.args.identifier.now) ∙ sym c.place_under.ensures ∙ c.in-Some.is) in
-    let length_is = c.len-len.ensures ∙ c.self.inside.counts.ok.0 in
-    let fits = c.len-len.type_inv in
-    omega (arith, below, length_is, fits)
+overflow_add-result c = grind (arith, place-below)
 
 pub returns-in-Some : goal.returns-in-Some
 returns-in-Some c =
