@@ -1,6 +1,7 @@
 -- The content model allows the meaning of a document's nodes: what pieces add to a text stands as
 -- some content; one induction over blocks, in addition to that of `Forests`, which covers strings,
 -- code and images.
+use Rattle.md_base.proofs.Lies.{lie}
 use Rattle.std.proofs.Common.{◌≡◌, ℕ, Bool, true, List, [], ◌++◌, refl, false, sym, ◌||◌, cond, ap}
 use Rattle.std.proofs.Common.{◌∙◌, subst, append-nil, arith}
 use Rattle.md_meaning.specs.Meaning.Layout.{Piece}
@@ -15,9 +16,9 @@ use Rattle.md_safe.proofs.Claims.{Claims, Known}
 use Rattle.md_safe.proofs.Insides.{is_blocks, is_blocks-same}
 use Rattle.md_content.specs.Built.{content_of, Blocks, is_part, is_source, may_stand}
 use Rattle.md_content.specs.Built.{content_inside, IsBuilt}
-use Rattle.md_safe.proofs.Linking.{unnested-inside, unlinked-here, place_in, with_links, is_spans}
-use Rattle.md_safe.proofs.Linking.{inner_place, inner-place-with, IsLinked, linked-inside}
-use Rattle.md_safe.proofs.Linking.{unnested-parts}
+use Rattle.md_safe.proofs.Linking.{unlinked-spans, unnested-inside, unlinked-here, place_in}
+use Rattle.md_safe.proofs.Linking.{with_links, is_spans, inner_place, inner-place-with, IsLinked}
+use Rattle.md_safe.proofs.Linking.{linked-inside, unnested-parts}
 use Rattle.md_safe.proofs.Elements.{adds-empty_cells}
 use Rattle.std.specs.Prelude.{Option}
 use Rattle.md_base.specs.NameTests.{is_transparent}
@@ -184,7 +185,8 @@ means nested d (Node name start end children rest) around before content f =
       ready = rw (is_blocks-same (content_inside Blocks name) is) at within;
       heading = cond_both (is_transparent name) before.heading [] (Stands nested Phrasing)
           (λ _. f.heading) (λ _. stands-nothing);
-      linked = grind (arith, linked-inside);
+      linked = linked-inside nested d.context.options (is_loose children) content name around
+          f.linked;
       unnested = λ no. unnested-inside d.context.options (is_loose children) name around start end
           children rest is (f.unnested no);
     }) in
@@ -197,11 +199,13 @@ means nested d (Node name start end children rest) around before content f =
       ids = λ call value. refl;
       heading = λ is. f.heading;
       within = inside-means t Blocks name solid f.built.0 f.built.1 f.built.2 known;
-    }) f.built.0 f.placed.0 own (grind (arith, no_footnotes)) (λ is. record {
+    }) f.built.0 f.placed.0 own
+    (λ none. no_footnotes d (content_inside Blocks name) children around' before' none f.built.2)
+    (λ is. record {
       spans = is;
       free = λ prints. unlinked-here nested content name around start end children rest is prints
           f.linked f.unnested;
-      plain = λ no. grind arith;
+      plain = λ no. unlinked-spans content is (λ linked. lie (sym no ∙ (f.linked linked).1));
     }) in
     let later : Means nested d content others = means nested d rest around next content (record {
       white = f.white;
@@ -209,9 +213,15 @@ means nested d (Node name start end children rest) around before content f =
       placed = f.placed.2;
       ready = rw (after-blocks name children) at
           (ready-after t name here f.built.0 f.built.2 found f.ready);
-      heading = grind (arith, on-either);
+      heading = on-either (Stands nested Phrasing) here.found.heading before.heading one.heading
+          f.heading;
       linked = f.linked;
       unnested = λ no. (unnested-parts name around.in_link start end children rest
           (f.unnested no)).1;
     }) in
-    grind (arith, lays-both, on-later, texts-append)
+    record {
+      prints = lays-both one.prints later.prints;
+      heading = grind (arith, on-later);
+      texts = texts-append (Stands nested Flow) here.footnotes others.footnotes one.texts
+          later.texts;
+    }

@@ -81,6 +81,12 @@ pub unnested-inside :
     has_nested_link (inside options loose name around).in_link children ≡ false
 unnested-inside options loose name around start end children rest blocks h = grind arith
 
+-- spans that aren't without links
+pub unlinked-spans : (content : Content) → is_spans content ≡ true →
+    (is_linked content ≡ true → content ≡ Phrasing) →
+    content ≡ Phrasing
+unlinked-spans content is h = grind arith
+
 -- no link is printed where they are
 pub unlinked-here :
     (nested : Bool) (content : Content) (name : Name) (around : Surroundings) (start end : Point)

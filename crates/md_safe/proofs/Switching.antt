@@ -1,5 +1,6 @@
 -- A start tag switches to the mode "text" if it is `title`, and otherwise not.
-use Rattle.std.proofs.Common.{arith, ◌≡◌, ℕ, Bool, false, cond, List, refl, ap, codes}
+use Rattle.std.proofs.Common.{subst, sym, true, arith, ◌≡◌, ℕ, Bool, false, cond, List, refl, ap}
+use Rattle.std.proofs.Common.{codes}
 use Rattle.std.specs.Prelude.{Option, Some, None, bytes_eq}
 use Rattle.std.proofs.lemmas.Slice.Eq.{bytes_eq-Decides}
 use Rattle.md_safe.specs.Token.{StartTag, TokenAttribute}
@@ -70,6 +71,12 @@ starts _ name attributes parser e none = search (entering, ap is_text e)
 
 -- ---- after the characters of a table that were pending
 
+-- ---- `title`
+
+titles : (mode : Mode) (attributes : List TokenAttribute) (parser : Parser) →
+    Tokenizes true (start mode (codes "title") attributes parser)
+titles mode attributes parser = grind arith
+
 steps : (text : Bool) (name : List ℕ) (attributes : List TokenAttribute) (flag : Bool) →
     ((parser : Parser) → Tokenizes text (start parser.mode name attributes parser)) →
     (parser : Parser) → Tokenizes text (step parser (StartTag name attributes flag))
@@ -80,5 +87,8 @@ pub switched :
     step parser (StartTag name attributes flag) ≡ Some next →
     is_text next.mode ≡ bytes_eq name (codes "title")
 switched parser next name attributes flag e = cases (bytes_eq name (codes "title"))
-    (grind (arith, bytes_eq-Decides, steps)) (λ none. rw none ((steps false name attributes flag (λ
-    parser. starts parser.mode name attributes parser refl none) parser).holds next e))
+    (λ same. rw same ((subst (λ name. Tokenizes true (step parser (StartTag name attributes flag)))
+    (sym ((bytes_eq-Decides name (codes "title")).0 same)) (steps true (codes "title") attributes
+    flag (λ parser. titles parser.mode attributes parser) parser)).holds next e))
+    (λ none. rw none ((steps false name attributes flag (λ parser. starts parser.mode name
+    attributes parser refl none) parser).holds next e))
