@@ -92,7 +92,8 @@ pub rank-found : (given : Handed) (document : Forest) (index exit : ℕ)
 rank-found given document index exit node checked flat found reads =
     let own = node-everywhere (IsFit given.bytes) given document HeadingAtx index exit node
     (all-fit given.bytes given.names document (grammatical-there given document checked flat)) in
-    rw (reads, fun_ext mark_is) (fitting given.bytes (first_named HeadingAtxSequence node.children) own.2)
+    rw (reads, fun_ext mark_is)
+    (fitting given.bytes (first_named HeadingAtxSequence node.children) own.2)
 
 -- ---- the last child that contributes
 
