@@ -1,5 +1,5 @@
 -- That a call is a step follows if it is one under a name that is known to be the event's.
-use Rattle.std.proofs.Common.{arith, ◌≡◌, ℕ, List, ap, sym, ◌∙◌}
+use Rattle.std.proofs.Common.{◌≡◌, ℕ, List, ap, sym, ◌∙◌}
 use Rattle.md_base.specs.declared.event.Name.{Name}
 use Rattle.md_meaning.specs.Meaning.At.{Context}
 use Rattle.md_facts.specs.NodeFacts.{IsNoticedAt}
@@ -19,7 +19,10 @@ pub enters-by : (code : Supplied) (index : ℕ) (name known : Name) (before afte
     IsNoticedAt code.checked.now index one →
     after ≡ entered (ending_in code.ending.now context) one.facts known before) →
     Enters code index name before after
-enters-by code index name known before after is shown context one supplies there = grind arith
+enters-by code index name known before after is shown context one supplies there =
+    shown context one supplies there
+    ∙ ap (λ ending. entered (ending_in ending context) one.facts known before) (sym supplies.ending)
+    ∙ ap (λ n. entered context one.facts n before) (sym is)
 
 pub leaves-by : (code : Supplied) (index : ℕ) (name known : Name) (before after : State) →
     name ≡ known →

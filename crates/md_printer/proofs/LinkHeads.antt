@@ -1,10 +1,10 @@
 -- A link's, an image's and a call's pieces, laid on a text.
-use Rattle.std.proofs.Common.{arith, ◌≡◌, ℕ, suc, List, [], ◌∷◌, ◌++◌, append_assoc}
+use Rattle.std.proofs.Common.{◌≡◌, ℕ, suc, List, [], ◌∷◌, ◌++◌, append_assoc, Option, Some, None}
 use Rattle.std.specs.Prelude.{codes}
 use Rattle.md_text.specs.declared.options.CompileOptions.{CompileOptions}
 use Rattle.md_meaning.specs.Meaning.At.{Target}
 use Rattle.md_meaning.specs.Meaning.Layout.{laid_after}
-use Rattle.md_meaning.specs.Meaning.Media.{anchor, picture}
+use Rattle.md_meaning.specs.Meaning.Media.{anchor, picture, href, src}
 use Rattle.std.specs.Fmt.{decimal}
 use Rattle.md_meaning.specs.Meaning.Footnotes.{call_id, count_of, distinct, id_of, place_among}
 use Rattle.md_steps.specs.Sides.{call_pieces}
@@ -33,13 +33,33 @@ pub anchor-laid :
     (ending text : List ℕ) (options : CompileOptions) (target : Target) (label : List ℕ) →
     laid_after ending text (anchor options target label)
     ≡ text ++ (anchor_head options target ++ (label ++ codes "</a>"))
-anchor-laid ending text options target label = grind (arith, anchored, anchored_with)
+anchor-laid ending text options target label = by target.title
+  where
+    by : (title : Option (List ℕ)) →
+        laid_after ending text
+        (anchor options (record { destination = target.destination; title = title }) label)
+        ≡ text ++ (anchor_head options (record { destination = target.destination; title = title })
+        ++ (label ++ codes "</a>"))
+    by None = anchored text (codes "<a href=\"") (href options target.destination) (codes "\"")
+        (codes ">") label (codes "</a>")
+    by (Some title) =
+        anchored_with text (codes "<a href=\"") (href options target.destination) (codes "\"")
+        (codes " title=\"") title (codes "\"") (codes ">") label (codes "</a>")
 
 pub picture-laid :
     (ending text : List ℕ) (options : CompileOptions) (target : Target) (label : List ℕ) →
     laid_after ending text (picture options target label)
     ≡ text ++ (picture_head options target.destination ++ (label ++ picture_tail target.title))
-picture-laid ending text options target label = grind (arith, pictured, pictured_with)
+picture-laid ending text options target label = by target.title
+  where
+    by : (title : Option (List ℕ)) →
+        laid_after ending text
+        (picture options (record { destination = target.destination; title = title }) label)
+        ≡ text ++ (picture_head options target.destination ++ (label ++ picture_tail title))
+    by None = pictured text (codes "<img src=\"") (src options target.destination)
+        (codes "\" alt=\"") label (codes "\"") (codes " />")
+    by (Some title) = pictured_with text (codes "<img src=\"") (src options target.destination)
+        (codes "\" alt=\"") label (codes "\"") (codes " title=\"") title (codes "\"") (codes " />")
 
 -- seven texts in sequence, joined first or written one by one
 apart : (t a b c d e f g : List ℕ) →

@@ -1,15 +1,18 @@
 -- Zeros before a number are removed one by one.
 use Rattle.std.proofs.Common.{◌≡◌, ℕ, Bool, true, false, ◌&&◌, List, [], ◌∷◌, length, refl, ap, sym}
 use Rattle.std.proofs.Common.{◌∙◌, arith}
-use Rattle.std.specs.Prelude.{◌==◌, nat_lt}
+use Rattle.std.specs.Prelude.{if◌then◌else◌, ◌==◌, nat_lt}
 use Rattle.std.proofs.lemmas.Bool.{lt-ltb}
-use Rattle.md_printer.specs.Parts.{unpadded}
+use Rattle.md_printer.specs.Parts.{unpadded, has_leading_zero}
 use Rattle.md_meaning.specs.Meaning.Blocks.{without_zeros}
 
 -- zeros before a number
 pub zeros-same : (digits : List ℕ) → unpadded digits ≡ without_zeros digits
 zeros-same [] = refl
-zeros-same (digit ∷ digits) = let later = zeros-same digits in grind (arith, later)
+zeros-same (digit ∷ digits) =
+    let choose : Bool → List ℕ → List ℕ = λ b rest. if b then rest else digit ∷ digits in
+    ap (choose (has_leading_zero (digit ∷ digits))) (zeros-same digits)
+    ∙ ap (λ b. choose b (without_zeros digits)) (leading digits)
   where
     swapped : (a b : Bool) → a && b ≡ b && a
     swapped true true = refl

@@ -1,5 +1,6 @@
 -- After an ASCII digit a text may be cut.
 use Rattle.std.proofs.Common.{◌≡◌, ℕ, ◌<◌, Bool, true, false, nat_eq, List, length, get_or, arith}
+use Rattle.std.proofs.Common.{refl}
 use Rattle.std.proofs.lemmas.Bool.{eqb-true}
 use Rattle.std.specs.Bool.{OnTrue}
 use Rattle.std.specs.Str.{IsCharBoundary, IsUtf8}
@@ -15,4 +16,7 @@ zero_cut text utf8 long true e =
 zero_cut text utf8 long false e = tt
 
 pub returns-then-digits-gt1-clause-cut : goal.returns-then-digits-gt1-clause-cut
-returns-then-digits-gt1-clause-cut c = grind (arith, zero_cut)
+returns-then-digits-gt1-clause-cut c =
+    let text = c.args.digits.now in
+    rw c.as_bytes.ensures.value
+    (zero_cut text c.utf8.digits (omega arith) (nat_eq (get_or text 0 0) 48) refl)

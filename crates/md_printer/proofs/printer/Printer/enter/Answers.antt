@@ -1,5 +1,6 @@
 -- The facts are those that the check found.
-use Rattle.std.proofs.Common.{◌∷◌, ◌++◌, [], ℕ, List, Bool, true, not, None, ap, ◌∙◌}
+use Rattle.std.proofs.Common.{◌∷◌, ◌++◌, [], ℕ, List, Bool, true, false, not}
+use Rattle.std.proofs.Common.{None, ap, ◌∙◌}
 use Rattle.std.specs.Prelude.{codes}
 use Rattle.md_base.specs.declared.event.Name.TheVariants as names
 use Rattle.md_steps.specs.Sides as sides

@@ -1,17 +1,34 @@
 -- The facts are those that the check found.
-use Rattle.std.proofs.Common.{arith, ◌∷◌, ◌++◌, [], ℕ, Bool, false, Some, ap, sym, ◌∙◌, rules}
-use Rattle.std.specs.Prelude.{codes, if◌then◌else◌}
+use Rattle.std.proofs.Common.{◌∷◌, ◌++◌, [], ℕ, List, Bool, false, Some}
+use Rattle.std.proofs.Common.{ap, sym, ◌∙◌, rules}
+use Rattle.std.specs.Prelude.{codes, if◌then◌else◌, ◌&&◌}
 use Rattle.md_base.specs.declared.event.Name.TheVariants as names
 use Rattle.md_steps.specs.Steps as steps
 use Rattle.md_steps.specs.State.{State}
 use Rattle.md_meaning.specs.Meaning.Layout.{Needed, laid_after, on_own_line, when}
 use Rattle.md_meaning.specs.Meaning.Blocks.{heading_tag}
+use Rattle.md_meaning.specs.Meaning.At.{text_in}
+use Rattle.md_printer.specs.Parts as parts
 use Rattle.std.proofs.lemmas.Result.{on_ok_weaker}
 use Rattle.md_printer.proofs.Answering.{leaves-by}
 use Rattle.md_printer.proofs.printer.Printer.exit.Goals as goal
 
 pub returns-in-LineEnding : goal.returns-in-LineEnding
-returns-in-LineEnding c = grind (arith, on_ok_weaker, leaves-by)
+returns-in-LineEnding c =
+    let old = c.args.self.now in
+    let code = c.args.context.now in
+    let after : List ℕ → State = λ text. record old {
+      text = laid_after code.ending.now old.text (parts.line_closing old text);
+      slurps = if old.scope.in_definition then old.slurps else old.scope.in_code && old.slurps;
+      ended = Some names.LineEnding;
+      marker = 38;
+    } in
+    on_ok_weaker c.leave_line_ending.result
+    (λ e. leaves-by code c.args.index c.args.name names.LineEnding old c.leave_line_ending.new.self
+    c.in-LineEnding.is (λ context one supplies there.
+    e code.ending.now ∙ ap after (c.text_left_at-in-LineEnding.ensures one there
+    ∙ ap (λ bytes. text_in bytes one.facts.place) (sym supplies.bytes))))
+    c.leave_line_ending.ensures
 
 pub returns-in-ListItem : goal.returns-in-ListItem
 returns-in-ListItem c =

@@ -1,5 +1,6 @@
 -- The section comes after the text.
-use Rattle.std.proofs.Common.{ℕ, List, ap, sym, ◌∙◌}
+use Rattle.std.proofs.Common.{ℕ, List}
+use Rattle.std.proofs.Common.{ap, sym, ◌∙◌}
 use Rattle.md_steps.specs.State.{State}
 use Rattle.md_meaning.specs.Meaning.At.{Footnote}
 use Rattle.md_meaning.specs.Meaning.Layout.{laid_after}

@@ -1,5 +1,6 @@
 -- The call is counted under the identifier of the facts.
-use Rattle.std.proofs.Common.{◌∷◌, ◌++◌, [], ℕ, List, not, Some, refl, ap, sym, ◌∙◌}
+use Rattle.std.proofs.Common.{◌∷◌, ◌++◌, [], ℕ, List, not, Some}
+use Rattle.std.proofs.Common.{refl, ap, sym, ◌∙◌}
 use Rattle.std.specs.Prelude.{string_bytes}
 use Rattle.md_base.specs.declared.event.Name.TheVariants as names
 use Rattle.md_steps.specs.Sides as sides

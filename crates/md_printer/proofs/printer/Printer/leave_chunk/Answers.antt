@@ -1,5 +1,6 @@
 -- The line of the facts.
-use Rattle.std.proofs.Common.{◌++◌, [], true, Some, ap, ◌∙◌}
+use Rattle.std.proofs.Common.{◌++◌, [], true, Some}
+use Rattle.std.proofs.Common.{ap, ◌∙◌}
 use Rattle.std.specs.Prelude.{unwrap_or}
 use Rattle.md_steps.specs.State.{State}
 use Rattle.md_base.specs.declared.event.Position.{Position}

@@ -1,5 +1,6 @@
 -- The code, and its tag outside images.
-use Rattle.std.proofs.Common.{◌≡◌, ◌++◌, [], not, Some, ap, ◌∙◌}
+use Rattle.std.proofs.Common.{◌≡◌, ◌++◌, [], not, Some}
+use Rattle.std.proofs.Common.{ap, ◌∙◌}
 use Rattle.std.specs.Prelude.{codes, if◌then◌else◌}
 use Rattle.md_steps.specs.State as states
 use Rattle.md_steps.specs.Steps as steps

@@ -1,5 +1,6 @@
 -- The footnote is stored under the identifier of the facts.
-use Rattle.std.proofs.Common.{◌≡◌, [], ℕ, List, Some, refl, ap, ◌∙◌}
+use Rattle.std.proofs.Common.{◌≡◌, [], ℕ, List, Some}
+use Rattle.std.proofs.Common.{refl, ap, ◌∙◌}
 use Rattle.std.specs.Prelude.{string_bytes}
 use Rattle.md_base.specs.declared.event.Name.TheVariants as names
 use Rattle.md_steps.specs.State as states

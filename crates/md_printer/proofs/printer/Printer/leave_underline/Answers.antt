@@ -1,5 +1,6 @@
 -- The underline of the facts.
-use Rattle.std.proofs.Common.{◌++◌, Bool, Some, refl, ap, sym, ◌∙◌}
+use Rattle.std.proofs.Common.{◌++◌, Bool, Some}
+use Rattle.std.proofs.Common.{refl, ap, sym, ◌∙◌}
 use Rattle.std.specs.Prelude.{codes, if◌then◌else◌}
 use Rattle.md_base.specs.declared.event.Name.TheVariants as names
 use Rattle.md_steps.specs.State.{State}

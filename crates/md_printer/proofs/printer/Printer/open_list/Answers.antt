@@ -1,5 +1,6 @@
 -- The tag with the number in it.
-use Rattle.std.proofs.Common.{◌++◌, ℕ, List, None, ap, sym, ◌∙◌}
+use Rattle.std.proofs.Common.{◌++◌, ℕ, List}
+use Rattle.std.proofs.Common.{None, ap, sym, ◌∙◌}
 use Rattle.std.specs.Prelude.{codes}
 use Rattle.md_steps.specs.Sides as sides
 use Rattle.md_steps.specs.State.{State}

@@ -1,6 +1,8 @@
 -- The number is that of the list, by the facts.
-use Rattle.std.proofs.Common.{◌∷◌, [], ℕ, List, not, Option, ap, sym, ◌∙◌}
-use Rattle.std.specs.Prelude.{codes, bytes_eq}
+use Rattle.std.proofs.Common.{◌∷◌, [], ℕ, List, not, Option}
+use Rattle.std.proofs.Common.{ap, sym, ◌∙◌}
+use Rattle.std.specs.Prelude.{codes}
+use Rattle.std.specs.Prelude.{bytes_eq}
 use Rattle.md_base.specs.declared.event.Position.{Position}
 use Rattle.md_steps.specs.Sides as sides
 use Rattle.md_steps.specs.State.{State}

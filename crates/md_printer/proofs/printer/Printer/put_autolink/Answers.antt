@@ -1,10 +1,12 @@
 -- The text of the facts.
-use Rattle.std.proofs.Common.{rules, ◌++◌, ℕ, List, true, None, ap, sym, ◌∙◌}
+use Rattle.std.proofs.Common.{rules, ◌++◌, ℕ, List, true}
+use Rattle.std.proofs.Common.{None, ap, sym, ◌∙◌}
 use Rattle.std.specs.Prelude.{if◌then◌else◌}
 use Rattle.md_steps.specs.State.{State}
-use Rattle.md_meaning.specs.Meaning.Layout.{laid_after, said, Piece}
+use Rattle.md_meaning.specs.Meaning.Layout.{laid_after, said}
 use Rattle.md_text.specs.declared.options.CompileOptions.{CompileOptions}
 use Rattle.md_text.specs.Encode.{encoded}
+use Rattle.md_meaning.specs.Meaning.Layout.{Piece}
 use Rattle.md_meaning.specs.Meaning.Media.{anchor}
 use Rattle.md_meaning.specs.Meaning.At.{text_in}
 use Rattle.std.proofs.lemmas.Result.{on_ok_weaker}

@@ -1,5 +1,6 @@
 -- Outside images it is shown.
-use Rattle.std.proofs.Common.{not, ap, sym, ◌∙◌}
+use Rattle.std.proofs.Common.{not}
+use Rattle.std.proofs.Common.{ap, sym, ◌∙◌}
 use Rattle.md_steps.specs.Sides as sides
 use Rattle.md_meaning.specs.Meaning.Layout.{laid_after, when}
 use Rattle.md_printer.proofs.LinkHeads.{call-laid}
