@@ -11,7 +11,7 @@ IMPORT = "use name_variants.{"
 COLUMNS, LANES = 100, 16
 # The maximum length of a pair of a spelling and a name in one line.
 PAIR = 60
-# How many tables `names_by_length` has; its contract and its answer file have that number too.
+# How many tables `names_by_length` has; its contract has that number too.
 LENGTHS = 36
 
 
