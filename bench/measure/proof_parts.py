@@ -88,7 +88,8 @@ def lemmas(lines):
         depth, name = len(found[1]), found[2]
         own = (name + " ", "]", ")", "}")
         middle = end_of(lines, at, lambda line: indent(line) > depth)
-        at = end_of(lines, middle, lambda line: indent(line) > depth or line[depth:].startswith(own))
+        at = end_of(
+            lines, middle, lambda line: indent(line) > depth or line[depth:].startswith(own))
         if at == middle or not lines[middle][depth:].startswith(name + " "):
             continue
         if any(line.strip() == "where" for line in lines[middle:at]):
