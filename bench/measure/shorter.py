@@ -21,7 +21,8 @@ import subprocess
 import sys
 import tempfile
 
-import proof_parts
+sys.dont_write_bytecode = True
+import proof_parts  # noqa: E402  (without bytecode in that folder)
 
 ROOT = pathlib.Path(__file__).resolve().parents[2]
 IMPORT = re.compile(r"(?m)^use (\S+)\.\{(.*)\}$")
