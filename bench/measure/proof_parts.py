@@ -154,6 +154,14 @@ def inner_parts(lemma):
                 yield Part("case", at, case.end(), last, len(lines[last]), case[2])
 
 
+def named_in(statement):
+    """The names that a statement gives to its arguments, and None for those without a name."""
+    arguments = apart(" ".join(statement).split(" :", 1)[1], "→")[:-1]
+    for argument in arguments:
+        groups = re.findall(r"\(([^():]+) : ", argument) if argument.startswith("(") else []
+        yield from (name for group in groups for name in group.split()) if groups else [None]
+
+
 def one_clause(lemma):
     """One clause in place of several, for a lemma that doesn't call itself."""
     text = "\n".join(lemma.body)
@@ -165,11 +173,14 @@ def one_clause(lemma):
         sides.append(apart(left[len(lemma.name):].replace("\n", " "), " "))
     if len(sides) < 2 or len({len(side) for side in sides}) > 1:
         return
+    stated = [*named_in(lemma.statement), *[None] * len(sides[0])]
     names = []
-    for number, column in enumerate(zip(*sides), 1):
-        plain = [word for word in column
-                 if re.fullmatch(r"[a-z][\w-]*", word) and word not in CONSTRUCTORS | set(names)]
-        names.append(plain[0] if plain else f"given{number}")
+    for column, name in zip(zip(*sides), stated):
+        plain = [word for word in [name, *column] if word and re.fullmatch(r"[a-z][\w-]*", word)
+                 and word not in CONSTRUCTORS | set(names)]
+        if not plain:
+            return
+        names.append(plain[0])
     yield Part("lemma", 0, 0, len(lemma.body) - 1, len(lemma.body[-1]), " ".join(names))
 
 

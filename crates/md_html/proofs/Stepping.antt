@@ -95,14 +95,14 @@ definition-seen given index checked enters =
 -- ---- counts
 
 kept : (b : Bool) (n m : ℕ) → n ≤ m → (if b then 0 else n) ≤ m
-kept given1 n m le = grind arith
+kept b n m le = grind arith
 
 cells-raised : (name : Name) (n m : ℕ) → n < m → cells_after name n ≤ m
 cells-raised GfmTableCell n m lt = omega (arith, lt)
 cells-raised _ n m lt = omega (arith, lt)
 
 fences-raised : (b : Bool) (n m : ℕ) → n < m → (if b then n + 1 else n) ≤ m
-fences-raised given1 n m lt = grind arith
+fences-raised b n m lt = grind arith
 
 -- one event raises each by one at most
 pub stepped-few : (context : Context) (event : Event) (facts : NodeFacts) (state : State)

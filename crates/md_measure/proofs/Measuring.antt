@@ -20,7 +20,7 @@ use Rattle.md_measure.specs.Nesting.{is_nested, link_after, images_after, nests}
 use Rattle.md_measure.specs.Nesting.{one_less}
 
 pub or_assoc : (a b c : Bool) → a || (b || c) ≡ (a || b) || c
-or_assoc given1 b c = grind arith
+or_assoc a b c = grind arith
 
 capped-step : (counted more later : ℕ) →
     capped (capped (counted + more) + later) ≡ capped (counted + (more + later))
@@ -87,7 +87,7 @@ opened-few : (opens : ℕ) (event : Event) → opened_after opens event ≤ open
 opened-few opens event = moved-few opens event.kind true
 
 if-few : (test : Bool) (n : ℕ) → n + (if test then 1 else 0) ≤ n + 1
-if-few given1 n = grind arith
+if-few test n = grind arith
 
 columns-cases : (first second : Bool) (n : ℕ) →
     (if first then 0 else if second then suc n else n) ≤ n + 1
