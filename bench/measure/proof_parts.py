@@ -158,8 +158,11 @@ def named_in(statement):
     """The names that a statement gives to its arguments, and None for those without a name."""
     arguments = apart(" ".join(statement).split(" :", 1)[1], "→")[:-1]
     for argument in arguments:
-        groups = re.findall(r"\(([^():]+) : ", argument) if argument.startswith("(") else []
-        yield from (name for group in groups for name in group.split()) if groups else [None]
+        groups = [re.match(r"([({])([^(){}:]+) : ", group) for group in apart(argument, " ")]
+        if all(groups):
+            yield from (name for one in groups if one[1] == "(" for name in one[2].split())
+        else:
+            yield None
 
 
 def one_clause(lemma):
