@@ -69,8 +69,6 @@ starts (InText mode) name attributes parser e none = nowhere false
 starts (InTableText mode) name attributes parser e none = nowhere false
 starts _ name attributes parser e none = search (entering, ap is_text e)
 
--- ---- after the characters of a table that were pending
-
 -- ---- `title`
 
 titles : (mode : Mode) (attributes : List TokenAttribute) (parser : Parser) →

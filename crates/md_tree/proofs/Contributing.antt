@@ -1,6 +1,6 @@
 -- The last contributing child that the pass finds is that of the definition.
-use Rattle.std.proofs.Common.{arith, ◌≡◌, ℕ, suc, Bool, cond, Option, Some, None, refl}
-use Rattle.md_tree.proofs.Common.{unwrap_or, Forest, Empty, Node, or_else, contributing_over}
+use Rattle.std.proofs.Common.{arith, ◌≡◌, ℕ, suc, refl}
+use Rattle.md_tree.proofs.Common.{unwrap_or, Forest, Empty, Node, contributing_over}
 use Rattle.md_tree.proofs.Common.{index_if}
 use Rattle.md_pattern.specs.Partners.{last_contributing_at}
 

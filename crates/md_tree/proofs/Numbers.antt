@@ -5,7 +5,7 @@ use Rattle.std.proofs.Common.{◌++◌, length, refl}
 use Rattle.md_tree.proofs.Common.{map, slice_get, option_map, Name, Enter, Exit, Event, Fact}
 use Rattle.md_tree.proofs.Common.{facts_at, facts_of, facts-flatten, standing_of, Forest, Empty}
 use Rattle.md_tree.proofs.Common.{Node, flatten, Referral, Mention, Nothing, reading_of}
-use Rattle.md_tree.proofs.Common.{partner_event, position_there, position_at, position_ended}
+use Rattle.md_tree.proofs.Common.{partner_event, position_at, position_ended}
 use Rattle.md_tree.proofs.Common.{mention_of, mentions_of, with_number, number_for, facts_with}
 use Rattle.md_tree.proofs.Common.{place_of, definition_for, is_of_definitions}
 

@@ -2,7 +2,7 @@
 -- are taken so fit the pattern. Settled: after an item that may be left out, each later item that
 -- takes one of its symbols may be there any number of times.
 use Rattle.std.proofs.Common.{arith, ◌≡◌, Bool, true, false, not, ◌&&◌, ◌||◌, List, [], ◌∷◌, refl}
-use Rattle.std.proofs.Common.{cond, if◌then◌else◌, Option, Some, None, ap, ℕ, ◌++◌, length, sym}
+use Rattle.std.proofs.Common.{cond, if◌then◌else◌, Option, Some, None, ap, ◌++◌, length, sym}
 use denote.Enum.Bare.{sameb}
 use Rattle.std.specs.List.{list_any}
 use Rattle.md_tree.proofs.Common.{list_all, the_type, Symbol, Role, Class, Item, Many, members}

@@ -3,10 +3,10 @@ use Rattle.std.proofs.Common.{arith, ◌≡◌, ℕ, true, Option, Some, List, �
 use Rattle.std.proofs.Common.{◌++◌, length, take, drop, get_or, sym, subst}
 use Rattle.md_tree.proofs.Common.{Point, Name, Exit, Symbol, Role, Reading, Referral, Rule}
 use Rattle.md_tree.proofs.Common.{CompileError, Open, Outer, place, broken_rule, is_complete}
-use Rattle.md_tree.proofs.Common.{Course, IsStop, IsStopInside, slice_get, take-suc}
+use Rattle.md_tree.proofs.Common.{Course, IsStop, IsStopInside, take-suc}
 use Rattle.md_tree.proofs.Common.{take-append-drop, slice_get-get_or, Kind, Enter, Event}
-use Rattle.md_tree.proofs.Common.{standing_of, Handed, EndsBroken, IsRefusal, Runs, StepsBy}
-use Rattle.md_tree.proofs.Common.{beginning, Anything, Unbroken, BreaksAtExit, StopsBy}
+use Rattle.md_tree.proofs.Common.{Handed, EndsBroken, IsRefusal, Runs}
+use Rattle.md_tree.proofs.Common.{beginning, Unbroken, BreaksAtExit, StopsBy}
 use Rattle.md_pattern.specs.declared.kinds.Reading.TheVariants as reading
 use Rattle.md_tree.specs.declared.rule.Rule.TheVariants as rule
 use Rattle.md_tree.specs.Walk.{StopsInside}

@@ -1,9 +1,9 @@
 -- Facts about a list of events, from how a walk over it continues, stops or ends.
-use Rattle.std.proofs.Common.{rules, arith, ◌≡◌, ℕ, Bool, true, cond, None, MatchOption, List, []}
+use Rattle.std.proofs.Common.{arith, ◌≡◌, ℕ, Bool, true, cond, None, MatchOption, List, []}
 use Rattle.std.proofs.Common.{◌∷◌, ◌++◌, sym, ◌∙◌, subst, append_assoc, append-nil}
 use Rattle.md_tree.proofs.Common.{Point, Name, Kind, Event, Flow, Standing, Mdx, Referral, Rule}
 use Rattle.md_tree.proofs.Common.{State, Entry, Open, Forest, flatten, IsShaped, MeetRules, Handed}
-use Rattle.md_tree.proofs.Common.{IsGrammatical, IsReadAs, IsChecked, BeginNoTree, is_complete}
+use Rattle.md_tree.proofs.Common.{IsChecked, BeginNoTree, is_complete}
 use Rattle.md_tree.proofs.Common.{Reads, Course, Runs, Steps, StepsBy, Exits, entered_on, beginning}
 use Rattle.md_tree.proofs.Common.{Anything, Unbroken, BreaksAtExit, StopsBy}
 use Rattle.md_tree.proofs.NodesRead.{Runs-split, Runs-document, after_nodes}
