@@ -74,8 +74,8 @@ def faults_of(names):
         if not re.fullmatch(r"(?!Other)[A-Z][A-Za-z]*", text):
             yield f"{text} isn't in letters, or begins with `Other`"
         if LENGTHS <= len(text):
-            yield (f"{text} is too long: change {LENGTHS} in bench/lists/name_texts.py and in"
-                   " md_base/src/event_names.rt")
+            yield (f"{text} is too long: change {LENGTHS} in bench/lists/name_texts.py, in"
+                   " md_base/src/event_names.rt and in md_script/proofs/NameLemmas.antt")
 
 
 def with_variants(source, names):

@@ -4,11 +4,12 @@
     bench/measure/shorter.py CRATE [--built CLONE] [--write]
 
 A part is a clause of a lemma or of an answer, several clauses as one, a field of a record, a local
-fact that states its type, or a case of `elim`. In a copy of the crate it writes, beside each lemma,
-one more for each part, with `grind` in its place, with what the part cites as facts; it checks the
-copy, tries what passes once more with each fact left out, and prints what it has found. With
---write it writes that into the crate, and checks it; what fails there stays as it was. Then look at
-each change: restore what said more to a reader than the tactic does.
+fact that states its type, or a case by `inl` or `inr`, if it has several lines; lemmas with
+`unfolding` are left out. In a copy of the crate it writes, beside each lemma, one more for each
+part, with `grind` in its place, with what the part cites as facts; it checks the copy, tries what
+passes once more with each fact left out, and prints what it has found. With --write it writes that
+into the crate, and checks it; a lemma that fails there stays as it was. Then look at each change:
+restore what said more to a reader than the tactic does.
 
 The crates below must have been built, in this clone or in CLONE, by `rt ci CRATE` there. It takes
 one minute to ten, since each tactic that finds nothing runs to its limit.
@@ -59,16 +60,17 @@ class Trial:
 
 def laid_out(line):
     """A line of a proof, broken before the tactic and, if need be, between its facts."""
-    found = re.match(r"(.*? (?:=|↦)) ((?:rw \S+ \()?grind \()(.*)\)(\)?[;)]?)$", line)
+    found = re.match(r"(.*? (?:=|↦)) (grind \()(.*)(\);?)$", line) or re.match(
+        r"(.*? (?:=|↦)) (rw \S+ \(grind \()(.*)(\)\);?)$", line)
     if len(line) <= WIDTH or not found:
         return [line]
     margin = " " * (proof_parts.indent(line) + 4)
-    whole = f"{margin}{found[2]}{found[3]}){found[4]}"
+    whole = "".join([margin, *found.groups()[1:]])
     if len(whole) <= WIDTH:
         return [found[1], whole]
     facts = proof_parts.apart(found[3], ",")
     return [found[1], margin + found[2], *(f"{margin}  {fact}," for fact in facts),
-            f"{margin}){found[4]}"]
+            margin + found[4]]
 
 
 def importing(text):
@@ -205,9 +207,13 @@ def write_into(crate, built, found):
         if "logic=proved" in messages:
             subprocess.run(["rt", "fmt"], cwd=folder, check=True)
             break
-        if not any((str(one.path), one.lemma.name) in rejected for one in found):
-            sys.exit(messages)
-        found = [one for one in found if (str(one.path), one.lemma.name) not in rejected]
+        left = [one for one in found if (str(one.path), one.lemma.name) not in rejected]
+        if not left or left == found:
+            for path, text in old.items():
+                (folder / path).write_text(text, encoding="utf-8")
+        if left == found:
+            sys.exit(f"shorter: nothing is written, since the check says:\n{messages}")
+        found = left
     return found
 
 
