@@ -1,6 +1,6 @@
 -- What is printed before all captured texts grows alone, where each that ends has begun.
-use Rattle.std.proofs.Common.{◌≡◌, ◌≤◌, ℕ, zero, suc, ◌-◌, Bool, true, false, not, ◌&&◌, List}
-use Rattle.std.proofs.Common.{[], ◌∷◌, ◌++◌, length, refl, ap, ◌∙◌, arith}
+use Rattle.std.proofs.Common.{◌≡◌, ◌≤◌, ℕ, zero, suc, ◌-◌, Bool, true, false, List}
+use Rattle.std.proofs.Common.{[], ◌∷◌, ◌++◌, length, ap, ◌∙◌, arith}
 use Rattle.std.specs.Prelude.{if◌then◌else◌}
 use Rattle.std.proofs.lemmas.Bool.{and_parts}
 use Rattle.std.proofs.lemmas.List.{length-append}
@@ -9,7 +9,6 @@ use Rattle.md_meaning.specs.Meaning.At.{Context}
 use Rattle.md_meaning.specs.Meaning.Layout.{Piece, Text, Needed, Forced, laid_after, begins_line}
 use Rattle.md_steps.specs.Run.{Noticed, passes, stepped, run}
 use Rattle.md_steps.specs.State.{State, NodeFacts}
-use Rattle.md_steps.specs.Steps.{first_or, others_of}
 use Rattle.md_html.specs.Fits.{may_end, captured_after, fits}
 use Rattle.md_measure.specs.Nesting.{is_none}
 
@@ -44,32 +43,8 @@ outermost-grows text more [] le = le
 outermost-grows text more (outer ∷ others) le = omega arith
 
 -- ---- one event
-enter-first : (c : Bool) (text opened : List ℕ) (below : List (List ℕ)) →
-    length text ≤ length opened →
-    length (outermost text below)
-    ≤ length (outermost (if c then [] else opened) (if c then opened ∷ below else below))
-enter-first true text opened below le = outermost-grows text opened below le
-enter-first false text opened below le = outermost-grows text opened below le
-
-enter-captured : (p c : Bool) (opened : List ℕ) (below : List (List ℕ)) →
-    length (if p then below else if c then opened ∷ below else below)
-    ≡ (if c && not p then suc (length below) else length below)
-enter-captured p c opened below = grind arith
-
 pub one_less : (n : ℕ) → n ≡ suc n - 1
 one_less n = omega arith
-
-exit-captured : (c : Bool) (below : List (List ℕ)) →
-    length (if c then others_of below else below) ≡ (if c then length below - 1 else length below)
-exit-captured c below = grind arith
-
-restored-first : (c : Bool) (text : List ℕ) (below : List (List ℕ)) →
-    (below ≡ [] → not c ≡ true) →
-    outermost text below
-    ≡ outermost (if c then first_or [] below else text) (if c then others_of below else below)
-restored-first true text [] may = grind arith
-restored-first true text (outer ∷ others) may = refl
-restored-first false text below may = refl
 
 -- how many texts are captured after an event
 pub stepped-captured : (context : Context) (event : Event) (facts : NodeFacts) (state : State) →

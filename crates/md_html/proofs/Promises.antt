@@ -7,7 +7,7 @@ use Rattle.md_tree.specs.Grammar.{Handed, IsChecked}
 use Rattle.md_facts.proofs.FoundLemmas.{grammatical-there}
 use Rattle.md_content.proofs.Grammatical.{grammatical-built}
 use Rattle.md_content.proofs.Underlines.{grammatical-underlined}
-use Rattle.md_safe.specs.Options.{KeepsGrammar, KeepsImages}
+use Rattle.md_safe.specs.Options.{KeepsGrammar}
 use Rattle.md_safe.proofs.Whole.{one-reading, safe-links, safe-images}
 use Rattle.md_safe.proofs.WholeIds.{distinct-ids}
 use Rattle.md_safe.proofs.ContainedWhole.{meaning-contained, meaning-unnested}
@@ -20,7 +20,7 @@ use Rattle.md_depth.specs.Levels.{NestsWithin}
 use Rattle.md_depth.proofs.Nodes.{events-nest}
 use Rattle.md_depth.proofs.WholeMoves.{elements-nest}
 use Rattle.md_html.specs.Printed.{IsMeant}
-use Rattle.md_html.specs.Promises.{Promises, SafePromises}
+use Rattle.md_html.specs.Promises.{Promises}
 use Rattle.md_html.specs.Within.{IsReuseWithin}
 use Rattle.md_html.specs.Work.{work}
 
@@ -46,11 +46,6 @@ promises options given text read few meant =
       image-tokens,
       distinct-ids,
     )
-
--- a safe text's, under safe options
-pub safe_promises : (options : CompileOptions) (given : Handed) (text : List ℕ) →
-    KeepsImages options → Promises options given text → SafePromises options given text
-safe_promises options given text keeps kept = grind arith
 
 -- how long it is, where work and what is used again are within a limit
 pub bounded : (options : CompileOptions) (given : Handed) (text : List ℕ) (limit : ℕ) →

@@ -8,7 +8,7 @@ use Rattle.md_base.specs.declared.event.Event.{Event}
 use Rattle.md_base.specs.declared.event.Kind.{Kind}
 use Rattle.md_base.specs.declared.event.Kind.TheVariants.{Enter, Exit}
 use Rattle.md_base.specs.declared.event.Name.{Name}
-use Rattle.md_base.specs.declared.event.Name.TheVariants.{Definition, GfmTableCell}
+use Rattle.md_base.specs.declared.event.Name.TheVariants.{Definition}
 use Rattle.md_base.specs.declared.event.Point.{Point}
 use Rattle.md_base.specs.Tree.{Forest, flatten, entering, exiting}
 use Rattle.md_meaning.specs.Meaning.At.{Context}
@@ -17,7 +17,6 @@ use Rattle.md_tree.specs.Texts.{IsEventAt, EntersAt}
 use Rattle.md_steps.specs.Run.{Noticed, noticed, passes, stepped}
 use Rattle.md_steps.specs.State.{State, NodeFacts}
 use Rattle.md_steps.specs.Steps.{is_passed}
-use Rattle.md_steps.specs.Steps.{cells_after}
 use Rattle.md_facts.specs.NodeFacts.{IsNoticedAt}
 use Rattle.md_facts.proofs.Nodes.{NodeAt, node-entered, node-exited}
 use Rattle.md_facts.proofs.Noticed.{noticed_in}
@@ -93,16 +92,6 @@ definition-seen given index checked enters =
     (here.one, here.there, here.inner, here.least)
 
 -- ---- counts
-
-kept : (b : Bool) (n m : ℕ) → n ≤ m → (if b then 0 else n) ≤ m
-kept b n m le = grind arith
-
-cells-raised : (name : Name) (n m : ℕ) → n < m → cells_after name n ≤ m
-cells-raised GfmTableCell n m lt = omega (arith, lt)
-cells-raised _ n m lt = omega (arith, lt)
-
-fences-raised : (b : Bool) (n m : ℕ) → n < m → (if b then n + 1 else n) ≤ m
-fences-raised b n m lt = grind arith
 
 -- one event raises each by one at most
 pub stepped-few : (context : Context) (event : Event) (facts : NodeFacts) (state : State)

@@ -1,15 +1,12 @@
 -- One event more: each claim about what follows is the claim before it about the event and what
 -- follows.
-use Rattle.std.proofs.Common.{◌≡◌, ℕ, zero, suc, ◌+◌, ◌-◌, ◌*◌, ◌^◌, ◌≤◌, Bool, true, false, List}
-use Rattle.std.proofs.Common.{[], ◌∷◌}
-use Rattle.std.proofs.Common.{◌++◌, length, max, arith}
+use Rattle.std.proofs.Common.{◌≡◌, ℕ, ◌+◌, ◌-◌, ◌*◌, ◌^◌, ◌≤◌, Bool, false, List, [], ◌∷◌, ◌++◌}
+use Rattle.std.proofs.Common.{length, max, arith}
 use Rattle.std.specs.Prelude.{◌||◌, if◌then◌else◌}
 use Rattle.std.proofs.Math.Seq.{append_snoc}
 use Rattle.std.proofs.lemmas.Grind.{common_steps}
 use Rattle.std.proofs.lemmas.List.{length-append}
 use Rattle.md_base.specs.declared.event.Event.{Event}
-use Rattle.md_base.specs.declared.event.Kind.{Kind}
-use Rattle.md_base.specs.declared.event.Kind.TheVariants.{Enter, Exit}
 use Rattle.md_length.specs.Work.{is_read, covered_from, read_length, depth_after, cells, exits}
 use Rattle.md_length.specs.Work.{is_row, columns_after, enters}
 use Rattle.md_length.specs.Reuse.{entries, is_call}
@@ -17,14 +14,9 @@ use Rattle.md_depth.specs.Depth.{opened_after, deepest, depth}
 use Rattle.md_depth.proofs.Nodes.{one-more}
 use Rattle.md_measure.specs.Counting.{capped, moved}
 use Rattle.md_measure.specs.Nesting.{is_nested, link_after, images_after, nests}
-use Rattle.md_measure.specs.Nesting.{one_less}
 
 pub or_assoc : (a b c : Bool) → a || (b || c) ≡ (a || b) || c
 or_assoc a b c = grind arith
-
-capped-step : (counted more later : ℕ) →
-    capped (capped (counted + more) + later) ≡ capped (counted + (more + later))
-capped-step counted more later = grind (arith, common_steps)
 
 pub capped-fits : (n : ℕ) → capped n ≤ 2 ^ 128 - 1
 capped-fits n = grind (arith, common_steps)
@@ -48,9 +40,6 @@ pub cells-step : (counted columns counted_after columns_then : ℕ) (event : Eve
     ≡ capped (cells 0 ((events ++ event ∷ []) ++ rest))
 cells-step counted columns counted_after columns_then event events rest known added held =
     grind (arith, append_snoc)
-
-three : (a b c : ℕ) → (a + b) + c ≡ a + (b + c)
-three a b c = omega arith
 
 pub calls-step : (counted counted_after : ℕ) (event : Event) (events rest : List Event) →
     counted_after ≡ counted + (if enters is_call event then 1 else 0) →
@@ -77,37 +66,8 @@ pub nested-step : (nested in_link nested_after in_link_after : Bool) (images ima
 nested-step nested in_link nested_after in_link_after images images_then event events rest found
     linked counted held = grind (arith, append_snoc)
 
--- no count grows by more than one
-moved-few : (opens : ℕ) (kind : Kind) (counts : Bool) → moved opens kind counts ≤ opens + 1
-moved-few opens Enter true = omega arith
-moved-few opens Exit true = omega arith
-moved-few opens kind false = omega arith
-
-opened-few : (opens : ℕ) (event : Event) → opened_after opens event ≤ opens + 1
-opened-few opens event = moved-few opens event.kind true
-
-if-few : (test : Bool) (n : ℕ) → n + (if test then 1 else 0) ≤ n + 1
-if-few test n = grind arith
-
-columns-cases : (first second : Bool) (n : ℕ) →
-    (if first then 0 else if second then suc n else n) ≤ n + 1
-columns-cases true second n = omega arith
-columns-cases false true n = omega arith
-columns-cases false false n = omega arith
-
-images-few : (image entry : Bool) (n : ℕ) →
-    (if image then (if entry then suc n else one_less n) else n) ≤ n + 1
-images-few true true n = omega arith
-images-few true false zero = omega arith
-images-few true false (suc n) = omega arith
-images-few false entry n = omega arith
-
-grows : (before after few more : ℕ) → after ≤ before + 1 → before ≤ few → more ≡ few + 1 →
-    after ≤ more
-grows before after few more step held one = omega (arith, step, held, one)
-
-one-longer : (events : List Event) (event : Event) → length (events ++ event ∷ []) ≡ length events +
-    1
+one-longer : (events : List Event) (event : Event) →
+    length (events ++ event ∷ []) ≡ length events + 1
 one-longer events event = length-append events (event ∷ [])
 
 module _ (event : Event) (events : List Event) (before : ℕ) (few : before ≤ length events) where

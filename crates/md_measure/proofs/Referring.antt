@@ -3,9 +3,8 @@
 use Rattle.std.proofs.Common.{◌≡◌, ◌<◌, ℕ, zero, suc, ◌+◌, false, Option, Some, None}
 use Rattle.std.proofs.Common.{List, [], ◌∷◌, length, refl, sym, subst, arith}
 use Rattle.std.proofs.lemmas.Grind.{common_steps}
-use Rattle.std.specs.Prelude.{map, drop, slice_get, option_map, ◌-◌}
-use Rattle.std.specs.Option.{option_map_or}
-use Rattle.std.proofs.lemmas.Option.{slice_get-map, slice_get_within}
+use Rattle.std.specs.Prelude.{map, drop, slice_get, ◌-◌}
+use Rattle.std.proofs.lemmas.Option.{slice_get_within}
 use Rattle.std.proofs.lemmas.List.{length-append, drop_all}
 use Rattle.std.proofs.lemmas.Simd.{map-map}
 use Rattle.md_base.specs.declared.event.Event.{Event}
@@ -41,17 +40,6 @@ not-media bytes mentions Image target is = lie (sym is)
 not-media bytes mentions _ Missing is = refl
 not-media bytes mentions _ Resource is = refl
 not-media bytes mentions _ (Label label) is = refl
-
--- the length at a place, where each is cut at the most that a `u128` holds
-found-capped : (found : Option ℕ) →
-    option_map_or (λ n. n) (option_map capped found) 0 ≡ capped (option_map_or (λ n. n) found 0)
-found-capped None = refl
-found-capped (Some n) = refl
-
-pub length-capped : (lengths : List ℕ) (place : Option ℕ) →
-    length_at (map capped lengths) place ≡ capped (length_at lengths place)
-length-capped lengths None = refl
-length-capped lengths (Some place) = grind (arith, slice_get-map)
 
 -- one mention further
 pub led-step : (lengths : List ℕ) (leads : Mention → Option ℕ) (mentions : List Mention)

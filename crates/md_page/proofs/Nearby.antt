@@ -1,6 +1,6 @@
 -- Quicker ways: a link that stays within the page, and a text without headings.
-use Rattle.std.specs.Prelude.{is_none, is_some}
-use Rattle.std.proofs.Common.{◌≡◌, ℕ, ◌==◌, Bool, true, false, ◌&&◌, List, [], ◌∷◌, ◌++◌, inl, inr}
+use Rattle.std.specs.Prelude.{is_some}
+use Rattle.std.proofs.Common.{◌≡◌, ℕ, ◌==◌, true, false, ◌&&◌, List, [], ◌∷◌, ◌++◌, inl, inr}
 use Rattle.std.proofs.Common.{length, drop, map, Option, Some, None, option_map}
 use Rattle.std.proofs.Common.{refl, sym, ap, ◌∙◌, arith, codes}
 use Rattle.std.specs.Option.{option_map_or}
@@ -10,18 +10,12 @@ use Rattle.md_text.specs.References.{begins_with}
 use Rattle.md_text.specs.Html.{written_attributes}
 use Rattle.md_safe.proofs.EscapedCases.{begins-is}
 use Rattle.md_page.specs.Headings.{listed}
-use Rattle.md_page.specs.Scan.{before_angle, value_in, is_away, want_rel}
+use Rattle.md_page.specs.Scan.{before_angle, want_rel}
 use Rattle.md_page.specs.Scan.{picks_link, picks_heading, scanned}
 use Rattle.md_page.specs.Scan.{scanned_headings, with_new, new_id, new_rel, IsScannedTo}
 use Rattle.md_page.specs.declared.headings.Heading.{Heading}
 
 -- ---- links that stay
-
--- what attributes in such parts want
-abbrev want_of : List (List ℕ) → Bool
-want_of parts =
-    option_map_or is_away (value_in (codes " href=") parts) false
-    && is_none (value_in (codes " rel=") parts)
 
 hash-stays : (a : List ℕ) → want_rel (codes " href=\"#" ++ a) ≡ false
 hash-stays a = grind arith

@@ -12,7 +12,7 @@ use Rattle.md_text.proofs.HtmlRead.{passes_not}
 use Rattle.md_safe.specs.Token.{Token, TokenAttribute, Character, StartTag, EndTag, EndOfFile}
 use Rattle.md_safe.specs.Tokens.{seen_attributes}
 use Rattle.md_safe.proofs.Cases.{all-weaker}
-use Rattle.md_page.specs.Pieces.{Piece, Words, Opening, Single, Closing, all_written, all_tokens}
+use Rattle.md_page.specs.Pieces.{Piece, Words, Opening, Single, Closing, all_written}
 use Rattle.md_page.specs.Pieces.{are_sound, are_plain, is_name_byte, is_tag_name, void_names}
 use Rattle.md_page.specs.Scan.{differs}
 use Rattle.md_page.proofs.Plain.{plain_attribute, name_bytes, void-name}
@@ -41,11 +41,6 @@ inside (Closing name) = 47 ∷ name
 pub tag-written : (tag : Piece) (more : List Piece) → is_sound_tag tag ≡ true →
     all_written (tag ∷ more) ≡ 60 ∷ (inside tag ++ (62 ∷ all_written more))
 tag-written tag more h = grind (arith, append_assoc)
-
-pub tag-tokens : (tag : Piece) (more : List Piece) → is_sound_tag tag ≡ true →
-    all_tokens (tag ∷ more) ≡ token_of tag ∷ all_tokens more
-tag-tokens (Words text) more h = lie h
-tag-tokens tag more h = refl
 
 pub tag-sound : (tag : Piece) (more : List Piece) → is_sound_tag tag ≡ true →
     are_sound more ≡ true → are_sound (tag ∷ more) ≡ true
