@@ -5,6 +5,7 @@ pub mod IdentifierLemmas
 pub mod CollapsedLemmas
 pub mod FoldLemmas
 pub mod ReferenceLemmas
+pub mod Sorting
 pub mod SpaceLemmas
 pub mod AsciiLemmas
 pub mod Lies

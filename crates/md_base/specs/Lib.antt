@@ -5,6 +5,7 @@ pub mod Collapsed
 pub mod Is
 pub mod Place
 pub mod Reference
+pub mod References
 pub mod Tree
 pub mod NameTests
 pub mod Children

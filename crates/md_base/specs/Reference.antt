@@ -38,8 +38,12 @@ abbrev pub numbered : ℕ → List ℕ → Option (List ℕ)
 numbered radix digits =
     if is_number radix digits then Some (character_of (digits_value radix digits)) else None
 
--- the text of a reference, by its marker: `&` a name, `#` a decimal number, `x` a hexadecimal one
+-- the character of a reference by a number, by its marker: `#` decimal, `x` hexadecimal
+abbrev pub by_number : ℕ → List ℕ → Option (List ℕ)
+by_number marker value =
+    if marker == 35 then numbered 10 value else if marker == 120 then numbered 16 value else None
+
+-- the text of a reference, by its marker: `&` a name, else a number
 abbrev pub decoded : List (List ℕ × List ℕ) → ℕ → List ℕ → Option (List ℕ)
 decoded names marker value =
-    if marker == 38 then named names value else if marker == 35 then numbered 10 value
-    else if marker == 120 then numbered 16 value else None
+    if marker == 38 then named names value else by_number marker value

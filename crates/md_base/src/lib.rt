@@ -13,6 +13,7 @@ mod name_tables;
 pub mod name_tests;
 mod position;
 mod reference;
+mod references;
 mod slice;
 mod text;
 
@@ -22,4 +23,5 @@ pub use identifier::normalize_identifier;
 pub use lists::{GFM_HTML_TAGFILTER_NAMES, SAFE_PROTOCOL_HREF, SAFE_PROTOCOL_SRC};
 pub use name::is_same_name;
 pub use reference::decode_character_reference;
+pub use references::References;
 pub use slice::Slice;

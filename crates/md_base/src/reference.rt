@@ -3,7 +3,7 @@
 ghost use Rattle.std.specs.Prelude.{◌≡◌, ◌≤◌, encode_utf8, option_copied, option_map, string_bytes};
 ghost use Rattle.std.specs.Prelude.{IfOk};
 ghost use Rattle.md_base.specs.Reference as spec;
-ghost use Rattle.md_base.specs.Reference.{name_table, named, numbered, decoded};
+ghost use Rattle.md_base.specs.Reference.{name_table, named, numbered, by_number, decoded};
 
 use std::alloc::{AllocError, Global};
 
@@ -34,13 +34,27 @@ pub fn decode_character_reference(
 {
     match marker {
         b'&' => copy_text(alloc, find_name(names, value)),
+        _ => decode_number(alloc, value, marker),
+    }
+}
+
+/// Decodes a reference by a number: the marker is `#` for a decimal one and `x` for a hexadecimal
+/// one. Returns `None` if the marker is another byte.
+pub(crate) fn decode_number(
+    alloc: Global,
+    value: &str,
+    marker: u8,
+) -> Result<Option<String>, AllocError>
+    ensures { IfOk result (λ text. option_map string_bytes text ≡ by_number marker value.now) }
+{
+    match marker {
         b'#' => copy_character(alloc, character_from_digits(value, 10)),
         b'x' => copy_character(alloc, character_from_digits(value, 16)),
         _ => Ok(None),
     }
 }
 
-fn copy_text(alloc: Global, text: Option<&str>) -> Result<Option<String>, AllocError>
+pub(crate) fn copy_text(alloc: Global, text: Option<&str>) -> Result<Option<String>, AllocError>
     ensures { IfOk result (λ copy. option_map string_bytes copy ≡ option_copied text.entry) }
 {
     match text {
@@ -62,7 +76,7 @@ fn copy_character(alloc: Global, character: Option<char>) -> Result<Option<Strin
 }
 
 /// The text of the first entry with this name.
-fn find_name<'a>(names: &[(&str, &'a str)], name: &str) -> Option<&'a str>
+pub(crate) fn find_name<'a>(names: &[(&str, &'a str)], name: &str) -> Option<&'a str>
     ensures { option_copied result ≡ named (name_table names.now) name.now }
 {
     for (entry, text) in names {

@@ -5,7 +5,6 @@ use Rattle.std.proofs.Common.{[], length, refl, sym, ap, ◌∙◌, subst}
 use Rattle.std.specs.Prelude.{slice_get, map, option_and_then, if◌then◌else◌}
 use Rattle.std.specs.Option.{option_map_or}
 use Rattle.std.proofs.lemmas.Option.{slice_get-map}
-use Rattle.md_base.specs.Reference.{name_table}
 use Rattle.md_base.specs.Tree.{Forest, flatten}
 use Rattle.md_text.specs.declared.options.CompileOptions.{CompileOptions}
 use Rattle.md_meaning.specs.Meaning.{meaning, ending_at}
@@ -30,7 +29,7 @@ mapped-led : (found : List Defined) (place : Option ℕ) →
 mapped-led found None = refl
 mapped-led found (Some place) = grind (arith, slice_get-map)
 
-module _ (code : Supplied) (named : name_table code.names.now ≡ code.checked.now.names) where
+module _ (code : Supplied) where
   -- before the definitions are known
   abbrev pub alone : Context
   alone =
@@ -39,7 +38,7 @@ module _ (code : Supplied) (named : name_table code.names.now ≡ code.checked.n
   pub alone-supplied : code.definitions.now ≡ [] → Supplies code alone
   alone-supplied none = record {
     bytes = refl;
-    names = sym named;
+    names = refl;
     options = refl;
     ending = refl;
     finds = λ index one place there led. ap (λ ts. target_at ts place) none ∙ none-led place
@@ -60,7 +59,7 @@ module _ (code : Supplied) (named : name_table code.names.now ≡ code.checked.n
         Supplies code (whole document)
     all-supplied document flat = record {
       bytes = refl;
-      names = sym named;
+      names = refl;
       options = refl;
       ending = refl;
       finds = λ index one place there led. ap (λ ts. target_at ts place) (known document flat)

@@ -35,11 +35,9 @@ pub fn render(
 {
     steps_print_what_is_meant();
     let ending = ending_of(checked, options);
-    let names = checked.names();
     let alone = Context {
         alloc,
         checked,
-        names,
         options,
         ending,
         definitions: &[],
@@ -48,7 +46,6 @@ pub fn render(
     let context = Context {
         alloc,
         checked,
-        names,
         options,
         ending,
         definitions: definitions.as_slice(),

@@ -47,11 +47,9 @@ pub fn render_within(
 {
     steps_print_what_is_meant();
     let ending = ending_of(checked, options);
-    let names = checked.names();
     let alone = Context {
         alloc,
         checked,
-        names,
         options,
         ending,
         definitions: &[],
@@ -60,7 +58,6 @@ pub fn render_within(
     let context = Context {
         alloc,
         checked,
-        names,
         options,
         ending,
         definitions: definitions.as_slice(),

@@ -5,7 +5,6 @@ use Rattle.md_base.specs.declared.event.Name.{Name}
 use Rattle.md_base.specs.declared.event.Name.TheVariants as name_variants
 use name_variants.{Data, LineEnding, SpaceOrTab, BlockQuotePrefix, Other, BlankLineEnding}
 use name_variants.{ListItemMarker, ListItemValue, HeadingAtxSequence}
-use Rattle.md_base.specs.Reference.{name_table}
 use Rattle.md_meaning.specs.Meaning.At.{Context, Target}
 use Rattle.md_steps.specs.Sides.{referred}
 use Rattle.md_steps.specs.State.{State}
@@ -23,7 +22,7 @@ target_at targets place =
 -- the code's input encodes the context of the steps
 pub record Supplies (code : Supplied) (context : Context) : Type 0 where
   pub bytes : context.bytes ≡ code.checked.now.bytes
-  pub names : context.names ≡ name_table code.names.now
+  pub names : context.names ≡ code.checked.now.names
   pub options : context.options ≡ code.options.now
   pub ending : context.ending ≡ code.ending.now
   pub finds : (index : ℕ) (one : Noticed) (place : Option ℕ) →

@@ -21,7 +21,7 @@ ghost use Rattle.md_base.specs.Place.{serialized_between};
 use crate::calls::serialized;
 use crate::context::Context;
 use crate::printer::Printer;
-use md_base::{Name, Point, decode_character_reference};
+use md_base::{Name, Point};
 use md_buffer::push_code;
 use md_facts::{place_left_at, text_left_at, text_of_leaf};
 use md_text::gfm_tagfilter;
@@ -75,7 +75,7 @@ impl<'a> Printer<'a> {
             (Leaves context.now index names.CharacterReferenceValue self.old self.new) }
     {
         let value = text_left_at(context.checked, index);
-        let decoded = decode_character_reference(context.alloc, value, self.marker, context.names)?;
+        let decoded = context.checked.decode(context.alloc, value, self.marker)?;
         let text = decoded.unwrap_or(String::new(context.alloc));
         self.ends(Name::CharacterReferenceValue);
         self.put_encoded(text.as_str(), self.scope.is_escaping)

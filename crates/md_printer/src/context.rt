@@ -13,8 +13,6 @@ pub struct Context<'a> {
     pub alloc: Global,
     /// The events, and the facts that the check found about them.
     pub checked: &'a Checked<'a>,
-    /// The names of character references, each with its text.
-    pub names: &'a [(&'a str, &'a str)],
     /// The options.
     pub options: &'a CompileOptions,
     /// The line ending to print.

@@ -27,7 +27,6 @@ pub use Rattle.md_base.specs.NameTests.{is_label_text, is_reference, is_definiti
 pub use Rattle.md_base.specs.NameTests.{is_footnote_label, is_table_head, is_delimiter_row}
 pub use Rattle.md_base.proofs.Lies.{lie}
 pub use Rattle.md_base.specs.declared.event.Kind.{Kind}
-pub use Rattle.md_base.specs.Reference.{name_table}
 pub use Rattle.md_pattern.specs.declared.kinds.Symbol.{Symbol}
 pub use Rattle.md_pattern.specs.declared.kinds.Role.{Role}
 pub use Rattle.md_pattern.specs.declared.kinds.Reading.{Reading}
@@ -82,6 +81,7 @@ pub use Rattle.md_tree.specs.Mentions.{mentions_of, mentions_among, IsResolved, 
 pub use Rattle.md_tree.specs.Mentions.{identifier_at, defined, footnoted, mentions_with, defined_by}
 pub use Rattle.md_tree.specs.Mentions.{footnoted_by}
 pub use Rattle.md_tree.specs.Grammar.{Handed, IsGrammatical, IsReadAs, IsChecked, handed}
+pub use Rattle.md_tree.specs.Grammar.{input_of}
 pub use Rattle.md_tree.specs.Refusal.{IsRefusal, opening, Level, role_in, symbol_after, EndsInGroup}
 pub use Rattle.md_tree.specs.Refusal.{EndsBroken, before_in, BeginNoTree}
 pub use Rattle.md_tree.specs.Resolve.{IsUnresolvedBy, IsUnresolved}

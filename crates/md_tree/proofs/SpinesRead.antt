@@ -1,6 +1,6 @@
 -- What the reading of a spine symbol by symbol says of it: it matches its pattern, ends in a group
 -- that is open, or may end after some more symbols.
-use Rattle.std.proofs.Common.{arith, ◌≡◌, inl, inr, ℕ, zero, suc, ◌+◌, Bool, true, Option, Some}
+use Rattle.std.proofs.Common.{arith, ◌≡◌, inl, inr, ℕ, zero, suc, Bool, true, Option, Some}
 use Rattle.std.proofs.Common.{None, List, [], ◌∷◌, ◌++◌, replicate, refl, sym, ap, ◌∙◌, MatchOption}
 use Rattle.std.proofs.Common.{◌⊎◌, subst, false, append_assoc, append-nil}
 use Rattle.md_tree.proofs.Common.{list_all, option_map, Symbol, Item, Stage, Whole, Numeric}

@@ -12,7 +12,6 @@ use Rattle.md_tree.specs.declared.rule.Rule.TheVariants as rule
 use Rattle.md_tree.specs.Walk.{StopsInside}
 use Rattle.std.proofs.Math.Seq.{drop-cons}
 use Rattle.md_tree.specs.declared.rule.CompileError.TheVariants as error
-use Rattle.md_pattern.specs.declared.kinds.Standing.TheVariants as standing
 use Rattle.md_tree.specs.Refusal.{IsOrder, IsMdx, IsBroken, IsLost}
 use Rattle.md_tree.specs.Refusal as refusal
 use Rattle.md_tree.proofs.Verdicts.{Reached-runs, BeginNoTree-stuck, outside-stopped}

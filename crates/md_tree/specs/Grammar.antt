@@ -25,8 +25,12 @@ pub record Handed : Type 0 where
   pub names : List (List ℕ × List ℕ)
 
 -- the input as a record
+abbrev pub input_of : List Event → List ℕ → List (List ℕ × List ℕ) → Handed
+input_of events bytes names = record { events = events; bytes = bytes; names = names }
+
+-- the input as a record, from a slice of names with their texts
 abbrev pub handed : List Event → List ℕ → List (Bor (List ℕ) × Bor (List ℕ)) → Handed
-handed events bytes names = record { events = events; bytes = bytes; names = name_table names }
+handed events bytes names = input_of events bytes (name_table names)
 
 -- the events are the flattening of this document of the grammar over the bytes and names
 pub record IsReadAs (given : Handed) (forest : Forest) : Type 0 where

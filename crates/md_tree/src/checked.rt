@@ -11,8 +11,9 @@ mod nodes;
 mod read;
 
 use crate::texts::Texts;
-use md_base::{AlignKind, Event, Name};
+use md_base::{AlignKind, Event, Name, References};
 use md_pattern::{Fact, FactList, Facts};
+use std::alloc::{AllocError, Global};
 use std::marker::Model;
 
 /// Events, a document's bytes and a table of names that have passed the check: the events are the
@@ -22,7 +23,7 @@ pub struct Checked<'a> {
     events: &'a [Event],
     /// The document's bytes, with the valid text at their beginning.
     texts: Texts<'a>,
-    names: &'a [(&'a str, &'a str)],
+    names: References<'a>,
     facts: FactList,
     /// The alignments of each table.
     tables: Vec<Vec<AlignKind>>,
@@ -47,10 +48,10 @@ impl<'a> Model for Checked<'a> {
 }
 
 impl<'a> Checked<'a> {
-    ghost use Rattle.std.specs.Prelude.{◌≡◌, suc, map};
+    ghost use Rattle.std.specs.Prelude.{◌≡◌, suc, map, option_map, string_bytes, IfOk};
     ghost use Rattle.md_tree.specs.Texts.{EntersAt};
-    ghost use Rattle.md_base.specs.Reference.{name_table};
-    ghost use Rattle.md_tree.specs.Grammar.{IsChecked, handed};
+    ghost use Rattle.md_base.specs.Reference.{name_table, decoded};
+    ghost use Rattle.md_tree.specs.Grammar.{IsChecked, input_of};
     ghost use Rattle.md_base.specs.Tree.{Forest};
     ghost use Rattle.md_pattern.specs.Partners.{last_contributing_at};
     ghost use Rattle.md_tree.specs.Indices.{AreDefinitions};
@@ -67,16 +68,16 @@ impl<'a> Checked<'a> {
     pub(crate) fn new(
         events: &'a [Event],
         texts: Texts<'a>,
-        names: &'a [(&'a str, &'a str)],
+        names: References<'a>,
         found: Facts,
     ) -> Checked<'a>
-        requires grammatical { IsChecked (handed events.now texts names.now) }
-        requires facts { AreNumbered (handed events.now texts names.now) found.facts }
+        requires grammatical { IsChecked (input_of events.now texts names) }
+        requires facts { AreNumbered (input_of events.now texts names) found.facts }
         requires tables { map (λ t. t.items) found.tables.items ≡ tables_at events.now }
         requires definitions { found.definitions.items ≡ definitions_at events.now }
         requires first_ending { found.first_ending ≡ first_index events.now }
         requires visits { found.visits ≡ length events.now }
-        ensures { result ≡ handed events.entry.now texts.entry names.entry.now }
+        ensures { result ≡ input_of events.entry.now texts.entry names.entry }
     {
         let Facts {
             facts,
@@ -138,7 +139,24 @@ impl<'a> Checked<'a> {
     pub fn names(&self) -> &'a [(&'a str, &'a str)]
         ensures { name_table result.now ≡ self.now.names }
     {
-        self.names
+        self.names.listed()
+    }
+
+    /// Decodes a character reference as [`md_base::decode_character_reference`] does by the names.
+    ///
+    /// # Errors
+    ///
+    /// Returns an error only if memory runs out.
+    pub fn decode(
+        &self,
+        alloc: Global,
+        value: &str,
+        marker: u8,
+    ) -> Result<Option<String>, AllocError>
+        ensures { IfOk result
+            (λ text. option_map string_bytes text ≡ decoded self.now.names marker value.now) }
+    {
+        self.names.decode(alloc, value, marker)
     }
 
     /// The index of the event that exits the first line ending, blank or not, or None if there is

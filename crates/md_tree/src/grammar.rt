@@ -1,9 +1,9 @@
 //! Checks a list of events against the grammar.
 
 ghost use Rattle.std.specs.Prelude.{◌≡◌, [], true, false, length, map, IfOk, OnOk, IfErr};
-ghost use Rattle.md_base.specs.Reference.{name_table};
 ghost use Rattle.md_pattern.specs.Ending.{first_index};
-ghost use Rattle.md_tree.specs.Grammar.{handed, IsChecked};
+ghost use Rattle.md_base.specs.Reference.{name_table};
+ghost use Rattle.md_tree.specs.Grammar.{handed, input_of, IsChecked};
 ghost use Rattle.md_tree.specs.Refusal.{IsOrder, IsMdx, IsOfNode, IsLost, IsOutside, IsRefusal};
 ghost use Rattle.md_tree.specs.Numbers.{AreNumbered};
 ghost use Rattle.md_pattern.specs.Steps.{is_complete};
@@ -19,7 +19,7 @@ use crate::resolve::resolve;
 use crate::rule::{CompileError, Rule};
 use crate::texts::Texts;
 use crate::walk::Walk;
-use md_base::Event;
+use md_base::{Event, References};
 use md_pattern::Facts;
 use std::alloc::Global;
 
@@ -63,13 +63,14 @@ pub fn check<'a>(
     ensures lost { IfErr result (IsLost (handed events.now bytes.now names.now)) }
 {
     let found = find(alloc, events, bytes, names)?;
-    Ok(Checked::new(events, found.texts, names, found.facts))
+    Ok(Checked::new(events, found.texts, found.names, found.facts))
 }
 
 /// The facts about a document of the grammar.
 #[derive(Drop)]
 struct Found<'a> {
     texts: Texts<'a>,
+    names: References<'a>,
     facts: Facts,
 }
 
@@ -78,10 +79,11 @@ fn find<'a>(
     alloc: Global,
     events: &[Event],
     bytes: &'a [u8],
-    names: &[(&str, &str)],
+    names: &'a [(&'a str, &'a str)],
 ) -> Result<Found<'a>, CompileError>
     ensures grammatical { OnOk result (IsChecked (handed events.now bytes.now names.now)) }
     ensures texts { IfOk result (λ found. found.texts ≡ bytes.now) }
+    ensures names { IfOk result (λ found. found.names ≡ name_table names.now) }
     ensures facts { IfOk result
         (λ found. AreNumbered (handed events.now bytes.now names.now) found.facts.facts) }
     ensures tables { IfOk result
@@ -94,11 +96,12 @@ fn find<'a>(
     ensures refused { IfErr result (IsRefusal (handed events.now bytes.now names.now)) }
 {
     let texts = Texts::new(alloc, bytes)?;
+    let references = References::new(alloc, names)?;
     let input = Input {
         alloc,
         events,
         bytes: &texts,
-        names,
+        names: &references,
     };
     let read = read_events(input)?;
     if !is_done(&read.walk) {
@@ -114,6 +117,7 @@ fn find<'a>(
     resolve(alloc, &texts, &walk.mentions, &mut found.facts)?;
     Ok(Found {
         texts,
+        names: references,
         facts: found,
     })
 }
@@ -128,7 +132,7 @@ struct Read {
 /// Reads all events, each by the walk and by the pass that finds or infers facts.
 fn read_events(input: Input) -> Result<Read, CompileError>
     ensures walked { IfOk result
-        (λ read. Runs (Unbroken input.entry.bytes.now (name_table input.entry.names.now))
+        (λ read. Runs (Unbroken input.entry.bytes.now input.entry.names.now)
         input.entry.events.now beginning
         (course_of input.entry.events.now (length input.entry.events.now) read.walk)) }
     ensures facts { IfOk result (λ read. read.found.facts ≡ facts_at input.entry.events.now) }
@@ -140,7 +144,7 @@ fn read_events(input: Input) -> Result<Read, CompileError>
         (λ read. read.found.first_ending ≡ first_index input.entry.events.now) }
     ensures visits { IfOk result (λ read. read.found.visits ≡ length input.entry.events.now) }
     ensures refused { IfErr result
-        (IsRefusal (handed input.entry.events.now input.entry.bytes.now input.entry.names.now)) }
+        (IsRefusal (input_of input.entry.events.now input.entry.bytes.now input.entry.names.now)) }
 {
     let mut reader = Reader::new(input)?;
     let mut visits = 0;

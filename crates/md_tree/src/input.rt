@@ -5,7 +5,7 @@ ghost use Rattle.md_base.specs.Place.{text_between, label_between};
 ghost use Rattle.md_tree.specs.Walk.{point_at, place_at};
 
 use crate::texts::Texts;
-use md_base::{Event, Point, Position, Slice};
+use md_base::{Event, Point, Position, References, Slice};
 use std::alloc::Global;
 /// A document's events and bytes, and the names of character references with their texts.
 #[derive(Clone, Copy)]
@@ -17,7 +17,7 @@ pub struct Input<'t, 'a> {
     /// The document's bytes, with their valid texts.
     pub bytes: &'t Texts<'a>,
     /// The names of character references, each with its text.
-    pub names: &'a [(&'a str, &'a str)],
+    pub names: &'t References<'a>,
 }
 
 /// The point of the event at an index.

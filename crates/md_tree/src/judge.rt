@@ -2,7 +2,6 @@
 
 ghost use Rattle.std.specs.Prelude.{◌≡◌, None, List};
 ghost use Rattle.std.specs.Prelude.{IfOk};
-ghost use Rattle.md_base.specs.Reference.{name_table};
 ghost use Rattle.md_tree.specs.Rules.{unless};
 ghost use Rattle.md_tree.specs.Rules.{broken_rule, target_at};
 ghost use Rattle.md_pattern.specs.Places.{state_of};
@@ -77,7 +76,7 @@ pub fn read_node(
     target: &mut Aim,
 ) -> Result<Option<Rule>, AllocError>
     ensures broken { IfOk result
-        (λ broken. broken ≡ broken_rule input.entry.bytes.now (name_table input.entry.names.now)
+        (λ broken. broken ≡ broken_rule input.entry.bytes.now input.entry.names.now
         outer.entry.now.reading (state_of outer.entry.now.place None).role outer.entry.now.before
         (point_at input.entry.events.now entry) (point_at input.entry.events.now exit) Missing) }
     ensures target { (events : List Event)
@@ -108,7 +107,7 @@ fn read_rest(
     target: &mut Aim,
 ) -> Result<Option<Rule>, AllocError>
     ensures broken { IfOk result
-        (λ broken. broken ≡ broken_rule input.entry.bytes.now (name_table input.entry.names.now)
+        (λ broken. broken ≡ broken_rule input.entry.bytes.now input.entry.names.now
         outer.entry.now.reading (state_of outer.entry.now.place None).role outer.entry.now.before
         (point_at input.entry.events.now entry) (point_at input.entry.events.now exit) Missing) }
     ensures target { (events : List Event)
@@ -139,7 +138,7 @@ pub fn read_ended(
     target: &mut Aim,
 ) -> Result<Option<Rule>, AllocError>
     ensures broken { IfOk result
-        (λ broken. broken ≡ broken_rule input.entry.bytes.now (name_table input.entry.names.now)
+        (λ broken. broken ≡ broken_rule input.entry.bytes.now input.entry.names.now
         open_node.entry.now.outer.reading (state_of open_node.entry.now.outer.place None).role
         open_node.entry.now.outer.before (point_at input.entry.events.now open_node.entry.now.entry)
         (point_at input.entry.events.now exit) (target_seen input.entry.events.now inner)) }
@@ -203,7 +202,7 @@ fn read_other(
     target: &mut Aim,
 ) -> Result<Option<Rule>, AllocError>
     ensures broken { IfOk result
-        (λ broken. broken ≡ broken_rule input.entry.bytes.now (name_table input.entry.names.now)
+        (λ broken. broken ≡ broken_rule input.entry.bytes.now input.entry.names.now
         spot.reading (state_of spot.around None).role spot.before
         (point_at input.entry.events.now spot.entry)
         (point_at input.entry.events.now spot.exit) (target_seen input.entry.events.now inner)) }

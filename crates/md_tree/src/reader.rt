@@ -2,11 +2,10 @@
 
 ghost use Rattle.std.specs.Prelude.{◌≡◌, ◌<◌, ◌≤◌, ◌+◌, true, suc, None, Some, slice_get, length};
 ghost use Rattle.std.specs.Prelude.{IfOk, OnOk, IfErr, IfSome};
-ghost use Rattle.md_base.specs.Reference.{name_table};
 ghost use Rattle.md_base.specs.declared.event.Event.{Event};
 ghost use Rattle.md_base.specs.declared.event.Kind.TheVariants as kind;
 ghost use Rattle.md_pattern.specs.Ending.{ending_after};
-ghost use Rattle.md_tree.specs.Grammar.{handed};
+ghost use Rattle.md_tree.specs.Grammar.{input_of};
 ghost use Rattle.md_tree.specs.Refusal.{IsRefusal};
 ghost use Rattle.md_tree.specs.Reader.{IsLeaf, HasRead};
 
@@ -36,7 +35,7 @@ impl Reader {
     /// `AllocError`, only if memory runs out.
     pub fn new(input: Input) -> Result<Reader, AllocError>
         ensures { IfOk result
-            (λ reader. HasRead input.entry.bytes.now (name_table input.entry.names.now)
+            (λ reader. HasRead input.entry.bytes.now input.entry.names.now
             input.entry.events.now 0 reader) }
     {
         Ok(Reader {
@@ -61,15 +60,15 @@ impl Reader {
         event: Event,
     ) -> Result<usize, CompileError>
         requires here { slice_get input.events.now index ≡ Some event }
-        requires before { HasRead input.bytes.now (name_table input.names.now)
+        requires before { HasRead input.bytes.now input.names.now
             input.events.now index self.old }
         ensures read { IfOk result
-            (λ count. HasRead input.entry.bytes.now (name_table input.entry.names.now)
+            (λ count. HasRead input.entry.bytes.now input.entry.names.now
             input.entry.events.now (index + count) self.new) }
         ensures counted { IfOk result
             (λ count. (0 < count) × (index + count ≤ length input.entry.events.now)) }
         ensures refused { IfErr result
-            (IsRefusal (handed input.entry.events.now input.entry.bytes.now
+            (IsRefusal (input_of input.entry.events.now input.entry.bytes.now
             input.entry.names.now)) }
     {
         match own_exit(input.events, index, &event) {
@@ -87,13 +86,13 @@ impl Reader {
     /// Reads the event at an index.
     fn read(&mut self, input: Input, index: usize, event: Event) -> Result<(), CompileError>
         requires here { slice_get input.events.now index ≡ Some event }
-        requires before { HasRead input.bytes.now (name_table input.names.now)
+        requires before { HasRead input.bytes.now input.names.now
             input.events.now index self.old }
         ensures read { OnOk result
-            (HasRead input.entry.bytes.now (name_table input.entry.names.now) input.entry.events.now
+            (HasRead input.entry.bytes.now input.entry.names.now input.entry.events.now
             (suc index) self.new) }
         ensures refused { IfErr result
-            (IsRefusal (handed input.entry.events.now input.entry.bytes.now
+            (IsRefusal (input_of input.entry.events.now input.entry.bytes.now
             input.entry.names.now)) }
     {
         // Many nodes have such a name, so it is written here as a constant, as for leaves.
@@ -109,13 +108,13 @@ impl Reader {
     /// The same for an event whose name has no meaning.
     fn read_other(&mut self, input: Input, index: usize, event: Event) -> Result<(), CompileError>
         requires here { slice_get input.events.now index ≡ Some event }
-        requires before { HasRead input.bytes.now (name_table input.names.now) input.events.now
+        requires before { HasRead input.bytes.now input.names.now input.events.now
             index self.old }
         ensures read { OnOk result
-            (HasRead input.entry.bytes.now (name_table input.entry.names.now) input.entry.events.now
+            (HasRead input.entry.bytes.now input.entry.names.now input.entry.events.now
             (suc index) self.new) }
         ensures refused { IfErr result
-            (IsRefusal (handed input.entry.events.now input.entry.bytes.now
+            (IsRefusal (input_of input.entry.events.now input.entry.bytes.now
             input.entry.names.now)) }
     {
         self.walk.step(input, index, &event)?;
@@ -136,13 +135,13 @@ impl Reader {
         requires here { slice_get input.events.now index ≡ Some event }
         requires after { slice_get input.events.now (suc index) ≡ Some exit.now }
         requires leaf { IsLeaf event exit.now }
-        requires before { HasRead input.bytes.now (name_table input.names.now)
+        requires before { HasRead input.bytes.now input.names.now
             input.events.now index self.old }
         ensures read { OnOk result
-            (HasRead input.entry.bytes.now (name_table input.entry.names.now) input.entry.events.now
+            (HasRead input.entry.bytes.now input.entry.names.now input.entry.events.now
             (suc (suc index)) self.new) }
         ensures refused { IfErr result
-            (IsRefusal (handed input.entry.events.now input.entry.bytes.now
+            (IsRefusal (input_of input.entry.events.now input.entry.bytes.now
             input.entry.names.now)) }
     {
         // Most leaves have one of these names. A name that is written here lets the compiler
@@ -177,13 +176,13 @@ impl Reader {
         requires here { slice_get input.events.now index ≡ Some event }
         requires after { slice_get input.events.now (suc index) ≡ Some exit.now }
         requires leaf { IsLeaf event exit.now }
-        requires before { HasRead input.bytes.now (name_table input.names.now)
+        requires before { HasRead input.bytes.now input.names.now
             input.events.now index self.old }
         ensures read { OnOk result
-            (HasRead input.entry.bytes.now (name_table input.entry.names.now) input.entry.events.now
+            (HasRead input.entry.bytes.now input.entry.names.now input.entry.events.now
             (suc (suc index)) self.new) }
         ensures refused { IfErr result
-            (IsRefusal (handed input.entry.events.now input.entry.bytes.now
+            (IsRefusal (input_of input.entry.events.now input.entry.bytes.now
             input.entry.names.now)) }
     {
         self.walk.leaf(input, index, event.name)?;

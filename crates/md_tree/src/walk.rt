@@ -39,7 +39,6 @@ impl Walk {
     ghost use Rattle.std.specs.Prelude.{◌≡◌, ◌<◌, ◌+◌, List, suc, true, false, None, Some, length};
     ghost use Rattle.std.specs.Prelude.{IfErr, OnOk};
     ghost use Rattle.md_base.specs.NameTests.{is_table};
-    ghost use Rattle.md_base.specs.Reference.{name_table};
     ghost use Rattle.md_base.specs.declared.event.Event.{Event};
     ghost use Rattle.md_base.specs.declared.event.Kind.TheVariants as kind;
     ghost use Rattle.md_tree.specs.Machine.{Steps, Enters, after_entry};
@@ -76,11 +75,11 @@ impl Walk {
     pub fn step(&mut self, input: Input, index: usize, event: &Event) -> Result<(), CompileError>
         requires { event.now.point ≡ point_at input.events.now index }
         ensures ok { OnOk result
-            (Steps (Unbroken input.entry.bytes.now (name_table input.entry.names.now)) event.now
+            (Steps (Unbroken input.entry.bytes.now input.entry.names.now) event.now
             (course_of input.entry.events.now index self.old)
             (course_of input.entry.events.now (suc index) self.new)) }
         ensures refused { IfErr result
-            (IsStop input.entry.bytes.now (name_table input.entry.names.now)
+            (IsStop input.entry.bytes.now input.entry.names.now
             index event.now.kind event.now.name event.now.point
             (course_of input.entry.events.now index self.old)) }
     {
@@ -98,7 +97,7 @@ impl Walk {
             (course_of input.entry.events.now index self.old)
             (course_of input.entry.events.now (suc index) self.new)) }
         ensures refused { IfErr result
-            (IsStop input.entry.bytes.now (name_table input.entry.names.now) index kind.Enter name
+            (IsStop input.entry.bytes.now input.entry.names.now index kind.Enter name
             (point_at input.entry.events.now index)
             (course_of input.entry.events.now index self.old)) }
     {
@@ -187,12 +186,12 @@ impl Walk {
     pub fn leaf(&mut self, input: Input, index: usize, name: Name) -> Result<(), CompileError>
         requires { index + 1 < length input.events.now }
         ensures ok { OnOk result
-            (Passes (Unbroken input.entry.bytes.now (name_table input.entry.names.now)) name
+            (Passes (Unbroken input.entry.bytes.now input.entry.names.now) name
             (point_at input.entry.events.now index) (point_at input.entry.events.now (suc index))
             (course_of input.entry.events.now index self.old)
             (course_of input.entry.events.now (suc (suc index)) self.new)) }
         ensures refused { IfErr result
-            (IsStopAtLeaf input.entry.bytes.now (name_table input.entry.names.now) index name
+            (IsStopAtLeaf input.entry.bytes.now input.entry.names.now index name
             (point_at input.entry.events.now index) (point_at input.entry.events.now (suc index))
             (course_of input.entry.events.now index self.old)) }
         ensures no_table { OnOk result (is_table name ≡ false) }

@@ -3,7 +3,7 @@
 ghost use Rattle.std.specs.Prelude.{◌≡◌, ◌&&◌, None, List, length, nat_lt, nat_le, is_some};
 ghost use Rattle.std.specs.Prelude.{option_copied, IfOk, if◌then◌else◌};
 ghost use Rattle.md_base.specs.Place.{fits, label_between};
-ghost use Rattle.md_base.specs.Reference.{name_table, is_number, decoded};
+ghost use Rattle.md_base.specs.Reference.{is_number, decoded};
 ghost use Rattle.md_tree.specs.Rules.{is_line_ending, is_decodable, is_list_number, is_rank};
 ghost use Rattle.md_tree.specs.Rules.{marker_after, columns, unless, broken_by, broken_by_target};
 ghost use Rattle.md_tree.specs.Walk.{point_at, place_at, target_seen};
@@ -15,7 +15,7 @@ use super::rule_unless;
 use crate::input::{Input, place_at, point_at};
 use crate::open_nodes::Aim;
 use crate::rule::Rule;
-use md_base::{Point, Slice, decode_character_reference};
+use md_base::{Point, Slice};
 use md_pattern::{Role, SpineState, Symbol};
 use md_text::LineEnding;
 use std::alloc::AllocError;
@@ -96,7 +96,7 @@ pub(super) fn broken_value(
 ) -> Result<Option<Rule>, AllocError>
     ensures { IfOk result
         (λ broken. broken ≡ broken_by (option_copied text.entry)
-        (λ t. unless (is_decodable (name_table input.entry.names.now) before t)
+        (λ t. unless (is_decodable input.entry.names.now before t)
         rule.CharacterReference)) }
 {
     let Some(text) = text else {
@@ -113,9 +113,9 @@ pub(super) fn broken_value(
 fn is_decodable(input: Input, marker: u8, value: &str) -> Result<bool, AllocError>
     ensures { IfOk result
         (λ decodes.
-        decodes ≡ is_some (decoded (name_table input.entry.names.now) marker value.now)) }
+        decodes ≡ is_some (decoded input.entry.names.now marker value.now)) }
 {
-    let text = decode_character_reference(input.alloc, value, marker, input.names)?;
+    let text = input.names.decode(input.alloc, value, marker)?;
     Ok(text.is_some())
 }
 

@@ -19,7 +19,6 @@ use std::alloc::AllocError;
 impl Walk {
     ghost use Rattle.std.specs.Prelude.{◌≡◌, ◌<◌, suc, true, Some};
     ghost use Rattle.std.specs.Prelude.{reverse, IfErr, OnOk};
-    ghost use Rattle.md_base.specs.Reference.{name_table};
     ghost use Rattle.md_base.specs.declared.event.Kind.TheVariants as kind;
     ghost use Rattle.md_pattern.specs.Steps.{is_complete};
     ghost use Rattle.md_pattern.specs.Places.{state_of};
@@ -37,13 +36,13 @@ impl Walk {
         name: Name,
     ) -> Result<(), CompileError>
         ensures ok { OnOk result
-            (Exits (Unbroken input.entry.bytes.now (name_table input.entry.names.now))
+            (Exits (Unbroken input.entry.bytes.now input.entry.names.now)
             (course_of input.entry.events.now index self.old).open_nodes name
             (point_at input.entry.events.now index)
             (course_of input.entry.events.now index self.old)
             (course_of input.entry.events.now (suc index) self.new)) }
         ensures refused { IfErr result
-            (IsStop input.entry.bytes.now (name_table input.entry.names.now) index kind.Exit name
+            (IsStop input.entry.bytes.now input.entry.names.now index kind.Exit name
             (point_at input.entry.events.now index)
             (course_of input.entry.events.now index self.old)) }
     {
@@ -64,7 +63,7 @@ impl Walk {
     #[inline(always)]
     fn leave(&mut self, input: Input, index: usize, open_node: &Open) -> Result<(), CompileError>
         ensures ok { OnOk result
-            (ExitsWhere (Unbroken input.entry.bytes.now (name_table input.entry.names.now))
+            (ExitsWhere (Unbroken input.entry.bytes.now input.entry.names.now)
             (Some (outer_of input.entry.events.now (reverse self.old.targets.items)
             open_node.entry.now)) (point_at input.entry.events.now open_node.entry.now.entry)
             (point_at input.entry.events.now index) (opens_seen input.entry.events.now
@@ -72,7 +71,7 @@ impl Walk {
             self.old.open_nodes.items) (course_of input.entry.events.now index self.old)
             (course_of input.entry.events.now (suc index) self.new)) }
         ensures refused { IfErr result
-            (IsStopInside input.entry.bytes.now (name_table input.entry.names.now) index
+            (IsStopInside input.entry.bytes.now input.entry.names.now index
             (outer_of input.entry.events.now (reverse self.old.targets.items) open_node.entry.now)
             (place_at input.entry.events.now open_node.entry.now.entry index)
             (course_of input.entry.events.now index self.old)) }
@@ -97,7 +96,7 @@ impl Walk {
     ) -> Result<(), CompileError>
         requires { is_complete (state_of self.now.place self.now.before) ≡ true }
         ensures ok { OnOk result
-            (ExitsWhere (Unbroken input.entry.bytes.now (name_table input.entry.names.now))
+            (ExitsWhere (Unbroken input.entry.bytes.now input.entry.names.now)
             (Some (outer_of input.entry.events.now (reverse self.old.targets.items)
             open_node.entry.now)) (point_at input.entry.events.now open_node.entry.now.entry)
             (point_at input.entry.events.now index) (opens_seen input.entry.events.now
@@ -105,7 +104,7 @@ impl Walk {
             self.old.open_nodes.items) (course_of input.entry.events.now index self.old)
             (course_of input.entry.events.now (suc index) self.new)) }
         ensures refused { IfErr result
-            (IsStopInside input.entry.bytes.now (name_table input.entry.names.now) index
+            (IsStopInside input.entry.bytes.now input.entry.names.now index
             (outer_of input.entry.events.now (reverse self.old.targets.items) open_node.entry.now)
             (place_at input.entry.events.now open_node.entry.now.entry index)
             (course_of input.entry.events.now index self.old)) }

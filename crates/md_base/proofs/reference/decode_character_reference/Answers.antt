@@ -3,5 +3,5 @@
 use Rattle.std.proofs.Common.{rules}
 use Rattle.md_base.proofs.reference.decode_character_reference.Goals as goal
 
-pub returns-in-120 : goal.returns-in-120
-returns-in-120 c = search rules
+pub returns-in_default : goal.returns-in_default
+returns-in_default c = search rules

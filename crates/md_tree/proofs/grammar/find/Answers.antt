@@ -35,7 +35,7 @@ pub returns-then-not-is_done-clause-refused : goal.returns-then-not-is_done-clau
 returns-then-not-is_done-clause-refused c =
     IsRefusal-undone (handed c.args.events.now c.args.bytes.now c.args.names.now)
     (course_of c.args.events.now (length c.args.events.now) c.in_ok-read.read.walk)
-    (rw c.in_ok-texts.ensures at c.in_ok-read.ensures.walked)
+    (rw (c.in_ok-texts.ensures, c.in_ok-references.ensures) at c.in_ok-read.ensures.walked)
     (λ e. c.is_done.ensures.undone c.if-not-is_done.true
     (none_open c.args.events.now (reverse c.in_ok-read.read.walk.targets.items)
     c.in_ok-read.read.walk.open_nodes.items e))
@@ -46,7 +46,7 @@ returns-in_err-resolve-clause-refused c =
     c.from_residual-in_err-resolve.ensures.1 in
     let given = handed c.args.events.now c.args.bytes.now c.args.names.now in
     let mentions = c.in_ok-read.read.walk.mentions.items in
-    let document = walked given c.in_ok-read.read.walk (rw c.in_ok-texts.ensures at
+    let document = walked given c.in_ok-read.read.walk (rw (c.in_ok-texts.ensures, c.in_ok-references.ensures) at
     c.in_ok-read.ensures.walked) (c.is_done.ensures.done c.if-not-is_done.false) in
     rw (p.1, p.2) (IsRefusal-lost given mentions c.in_err-resolve.field-0.0 document
     (subst (λ ms. IsUnresolved c.args.bytes.now ms c.in_err-resolve.field-0.0) c.deref.ensures.value
@@ -57,7 +57,7 @@ pub returns-clause-grammatical : goal.returns-clause-grammatical
 returns-clause-grammatical c =
     let given = handed c.args.events.now c.args.bytes.now c.args.names.now in
     let mentions = c.in_ok-read.read.walk.mentions.items in
-    let document = walked given c.in_ok-read.read.walk (rw c.in_ok-texts.ensures at
+    let document = walked given c.in_ok-read.read.walk (rw (c.in_ok-texts.ensures, c.in_ok-references.ensures) at
     c.in_ok-read.ensures.walked) (c.is_done.ensures.done c.if-not-is_done.false) in
     IsChecked-walked given mentions document
     (subst (λ ms. All (IsResolved c.args.bytes.now (mentions_among ms))
@@ -68,7 +68,7 @@ pub returns-clause-facts : goal.returns-clause-facts
 returns-clause-facts c = λ forest flattens.
     let given = handed c.args.events.now c.args.bytes.now c.args.names.now in
     let mentions = c.in_ok-read.read.walk.mentions.items in
-    let document = walked given c.in_ok-read.read.walk (rw c.in_ok-texts.ensures at
+    let document = walked given c.in_ok-read.read.walk (rw (c.in_ok-texts.ensures, c.in_ok-references.ensures) at
     c.in_ok-read.ensures.walked) (c.is_done.ensures.done c.if-not-is_done.false) in
     rw (c.with_front_alone-texts.ensures, c.in_ok-texts.ensures) at c.in_ok-resolve.ensures.numbered
     ∙ ap (λ ms. numbered (number_for given.bytes (mentions_among ms)) ms

@@ -2,7 +2,7 @@
 -- is known before it sees it.
 use Rattle.std.proofs.Common.{◌≡◌, ℕ, ◌≤◌, List, length, take, ap, ◌∙◌, subst, arith}
 use Rattle.std.proofs.lemmas.List.{take_all}
-use Rattle.md_tree.proofs.Common.{name_table, Event, first_index, PassState, passed_over}
+use Rattle.md_tree.proofs.Common.{Event, first_index, PassState, passed_over}
 use Rattle.md_tree.proofs.Common.{pass_beginning, Runs, beginning, course_of, Unbroken}
 use Rattle.md_pattern.specs.Columns.{Collected}
 use Rattle.md_tree.proofs.grammar.read_events.Goals as goal
@@ -18,7 +18,7 @@ loop-event-preserved c = (c.in_ok-visits.ensures.read, c.in_ok-visits.ensures.co
 pub returns-clause-walked : goal.returns-clause-walked
 returns-clause-walked c =
     let events = c.args.input.events.now in
-    let passes = Unbroken c.args.input.bytes.now (name_table c.args.input.names.now) in
+    let passes = Unbroken c.args.input.bytes.now c.args.input.names.now in
     let count = c.loop-event.visits in
     let all = c.in_default.ensures.lookup.3 in
     subst (λ es. Runs passes es beginning

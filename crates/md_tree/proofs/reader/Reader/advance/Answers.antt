@@ -1,7 +1,7 @@
 -- One event was read, or two, and no more than exist: the last of them exists. The search doesn't
 -- find that both sums are the same index, nor that an index with an event is within the list.
 use Rattle.std.proofs.Common.{◌≡◌, suc, ◌+◌, ◌<◌, arith, subst, length, ℕ}
-use Rattle.md_tree.proofs.Common.{slice_get_within, name_table, HasRead}
+use Rattle.md_tree.proofs.Common.{slice_get_within, HasRead}
 use Rattle.md_tree.proofs.reader.Reader.advance.Goals as goal
 
 two_more : (n : ℕ) → suc (suc n) ≡ n + 2
@@ -12,7 +12,7 @@ one_more n = omega arith
 
 pub returns-in_ok-read_leaf-in-Some-clause-read : goal.returns-in_ok-read_leaf-in-Some-clause-read
 returns-in_ok-read_leaf-in-Some-clause-read c =
-    subst (λ n. HasRead c.args.input.bytes.now (name_table c.args.input.names.now)
+    subst (λ n. HasRead c.args.input.bytes.now c.args.input.names.now
     c.args.input.events.now n
     c.read_leaf.new.self) (two_more c.args.index) c.in_ok-read_leaf-in-Some.ensures.read
 
@@ -25,7 +25,7 @@ returns-in_ok-read_leaf-in-Some-clause-counted c =
 
 pub returns-in_ok-read-in-None-clause-read : goal.returns-in_ok-read-in-None-clause-read
 returns-in_ok-read-in-None-clause-read c =
-    subst (λ n. HasRead c.args.input.bytes.now (name_table c.args.input.names.now)
+    subst (λ n. HasRead c.args.input.bytes.now c.args.input.names.now
     c.args.input.events.now n
     c.read.new.self) (one_more c.args.index) c.in_ok-read-in-None.ensures.read
 

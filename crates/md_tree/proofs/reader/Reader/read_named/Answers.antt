@@ -2,7 +2,7 @@
 -- overflow, as an event is there. The search doesn't go through the first event to the second:
 -- `Leaves` does.
 use Rattle.std.proofs.Common.{rules, suc, ◌<◌, add-one, ap, ◌∙◌, length}
-use Rattle.md_tree.proofs.Common.{slice_get_within, err_from_is_err_and, ending_after, handed}
+use Rattle.md_tree.proofs.Common.{slice_get_within, err_from_is_err_and, ending_after, input_of}
 use Rattle.md_tree.proofs.Common.{course_of}
 use Rattle.md_tree.proofs.Leaves.{Runs-leaf, IsRefusal-leaf, passed-leaf_more, first_index-leaf}
 use Rattle.md_tree.proofs.reader.Reader.read_named.Goals as goal
@@ -12,7 +12,7 @@ returns-in_err-leaf-clause-refused c =
     let p = err_from_is_err_and c.from_residual.result c.from_residual.ensures.1 in
     let events = c.args.input.events.now in
     rw (p.1, p.2)
-    (IsRefusal-leaf (handed events c.args.input.bytes.now c.args.input.names.now) c.args.index
+    (IsRefusal-leaf (input_of events c.args.input.bytes.now c.args.input.names.now) c.args.index
     c.args.event c.args.exit.now c.requires.leaf c.requires.here c.requires.after
     (course_of events c.args.index c.args.self.now.walk) c.requires.before.walked
     c.in_err-leaf.field-0.0 c.in_err-leaf.ensures.refused)
@@ -26,7 +26,7 @@ overflow_add-index c =
 pub returns-clause-read : goal.returns-clause-read
 returns-clause-read c =
     let events = c.args.input.events.now in
-    let given = handed events c.args.input.bytes.now c.args.input.names.now in
+    let given = input_of events c.args.input.bytes.now c.args.input.names.now in
     let index = c.args.index in
     let entry = c.args.event in
     let exit = c.args.exit.now in

@@ -3,7 +3,7 @@
 use Rattle.std.proofs.Common.{◌≡◌, if◌then◌else◌, List, [], ◌∷◌, ◌++◌, Some, None, Result, Ok, Err}
 use Rattle.std.proofs.Common.{ap, ◌∙◌}
 use Rattle.std.specs.Prelude.{IfErr}
-use Rattle.md_tree.proofs.Common.{reverse, reverse-append, name_table, Event, Aim, point_at}
+use Rattle.md_tree.proofs.Common.{reverse, reverse-append, Event, Aim, point_at}
 use Rattle.md_tree.proofs.Common.{outer_of, opens_at, opens_seen, course_of}
 use Rattle.md_tree.specs.declared.open_nodes.Open.{Open as KeptOpen}
 use Rattle.md_tree.specs.Walk.{open_seen, targets_around, is_aimed}
@@ -28,7 +28,7 @@ returns-then-open_node-clause-refused c =
     let left = c.pop.new.self.items in
     let self = c.args.self.now in
     let bytes = c.args.input.bytes.now in
-    let names = name_table c.args.input.names.now in
+    let names = c.args.input.names.now in
     let open_node = c.in-Some.open_node in
     let targets = reverse self.targets.items in
     let outer = outer_of events targets open_node in
