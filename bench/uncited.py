@@ -15,7 +15,6 @@ constructors and their symbols.
 
 import pathlib
 import re
-import subprocess
 import sys
 
 import twins
@@ -25,13 +24,6 @@ COMMENT = re.compile(r"^\s*//.*$", re.MULTILINE)
 WORD = re.compile(r"[^\s(){};,.\[\]:&*!<>=\"']+")
 ROOT_TEXT = re.compile(r"(?:record|data) |\S+ : goal\.")
 ALIAS = re.compile(r"use (\S+) as \S+$", re.MULTILINE)
-
-
-def listed(pattern):
-    """The files that git has, of those that exist."""
-    names = subprocess.run(["git", "-C", ROOT, "ls-files", pattern], check=True,
-                           capture_output=True, text=True).stdout.split()
-    return [name for name in names if (ROOT / name).exists()]
 
 
 def defined(files, where, name):
@@ -56,12 +48,12 @@ def is_root(path, name, text, of_code):
 
 def main():
     """Prints what isn't cited."""
-    paths = {twins.module(file): file for file in listed("crates/*.antt")}
+    paths = {twins.module(file): file for file in twins.listed("crates/*.antt")}
     files = {where: twins.File(ROOT / file) for where, file in paths.items()}
     named = {where: [whole for whole in ALIAS.findall((ROOT / file).read_text(encoding="utf-8"))
                      if whole in files] for where, file in paths.items()}
     of_code = set()
-    for file in listed("crates/*.rt"):
+    for file in twins.listed("crates/*.rt"):
         text = (ROOT / file).read_text(encoding="utf-8")
         of_code.update(WORD.findall(COMMENT.sub("", text)))
     left, cited = [], set()
