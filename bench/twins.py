@@ -13,7 +13,7 @@ repository: names are looked up in the file and in what it imports. Goals aren't
 prover names them and each function needs its own answer. They stand in the files Answers.antt,
 Invariants.antt and Proof.antt, beside lemmas, which are compared.
 
-Of the code (crates/*/src) it compares the functions' bodies, without comments and layout: two are
+It compares the code (crates/*/src) too: the functions' bodies, without comments and layout: two are
 twins if their bodies are equal and have sixty characters or more, or if ten lines of the one are in
 the other. `ALLOWED` has those that stay, each with the reason.
 """
