@@ -20,7 +20,8 @@ ROOT = pathlib.Path(__file__).resolve().parents[1]
 WEAK = {
     "BAD EDIT": "doesn't apply, or can't be read",
     "only by a limit of the prover": "is refused only by a limit of the prover",
-    "only because a proof file names": "is refused only because a proof file names what it takes away",
+    "only because a proof file names":
+        "is refused only because a proof file names what it takes away",
 }
 REFUSED = re.compile(r"^rt: must-fail (\w+/[\w.-]+)\.edit: refused, as it must be")
 NAMED = re.compile(r"^rt: (?:must-fail )?(.+?)(?:\.edit)?: ")

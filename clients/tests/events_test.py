@@ -1,5 +1,5 @@
 #!/usr/bin/env python3
-"""Runs the examples of docs/use/EVENTS.md: each script must have the HTML below it.
+"""Runs the examples of scripts in docs/use/EVENTS.md and README.md: each must have the HTML below it.
 
     events_test.py            prints the examples that don't
     events_test.py --write    writes the HTML of each
@@ -10,7 +10,8 @@ import re
 import sys
 
 HERE = pathlib.Path(__file__).resolve().parent
-PAGES = [HERE.parent.parent / "docs" / "use" / "EVENTS.md"]
+ROOT = HERE.parent.parent
+PAGES = [ROOT / "docs" / "use" / "EVENTS.md", ROOT / "README.md"]
 sys.path.insert(0, str(HERE.parent / "python"))
 
 from bivdrazo import run  # noqa: E402
