@@ -1,7 +1,7 @@
 #!/usr/bin/env python3
 """Measures in one run, and writes the tables of docs/use/SPEED.md and docs/maintain/PERF.md.
 
-    bench/measure/tables.py [--write] [--jobs TITLE=PROGRAM]... [NAME..]
+    bench/measure/tables.py [--write] [--jobs TITLE=PROGRAM]... [--start CHECKOUT] [NAME..]
 
 It prints the tables, that of renderers after all that clients/speed prints, and with --write writes
 each into the page that has a line `<!-- NAME: bench/measure/tables.py -->`, after that line; with
@@ -10,6 +10,11 @@ clients/build for the events of real Markdown, and what clients/speed requires; 
 the original BIVDRAZO_ORIGINAL, as original.py says. --jobs names the builds of md_bench that the
 table of jobs compares, by default this checkout's alone; from the second on each has its ratio to
 the first. Times are minimums of some runs: let nothing else run. All of it takes some 20 minutes.
+
+The table `start` isn't made unless it is named: `bench/measure/tables.py --write start` builds the
+benchmark in this checkout and in one of the commit that docs/PERF.md names, which proves both if
+nothing is kept of them, and times both alternately (bench/run). --start names a checkout in which that
+was done before.
 """
 
 import argparse
@@ -20,6 +25,7 @@ import pathlib
 import re
 import subprocess
 import sys
+import tempfile
 
 ROOT = pathlib.Path(__file__).resolve().parents[2]
 PAGES = (ROOT / "docs/use/SPEED.md", ROOT / "docs/maintain/PERF.md")
@@ -153,6 +159,42 @@ def jobs(builds):
     return table(head, rows)
 
 
+def built(checkout):
+    """Builds the benchmark in a checkout, proved."""
+    folder = pathlib.Path(checkout, "crates/md_bench")
+    with open(folder / "stdin", "rb") as texts:
+        subprocess.run(["rt", "run"], cwd=folder, stdin=texts, stdout=sys.stderr, check=True)
+
+
+def make_start(checkout):
+    """Makes a checkout of the commit that docs/PERF.md names, with the benchmark of this one."""
+    commit = re.search(r"`([0-9a-f]{40})`", (ROOT / "docs/PERF.md").read_text("utf-8"))[1]
+    subprocess.run(["git", "clone", "--quiet", ROOT, checkout], check=True)
+    subprocess.run(["git", "-C", checkout, "checkout", "--quiet", commit], check=True)
+    for folder in ("bench", "crates/md_bench"):
+        subprocess.run(["rm", "-rf", f"{checkout}/{folder}"], check=True)
+    archive = subprocess.run(["git", "-C", ROOT, "archive", "HEAD", "bench", "crates/md_bench"],
+                             stdout=subprocess.PIPE, check=True).stdout
+    subprocess.run(["tar", "xf", "-", "-C", checkout], input=archive, check=True)
+    line = next(line for line in (ROOT / "crates.txt").read_text("utf-8").splitlines()
+                if line.startswith("md_bench:"))
+    with open(f"{checkout}/crates.txt", "a", encoding="utf-8") as crates:
+        print(line, file=crates)
+    built(checkout)
+
+
+def start(checkout):
+    """The seconds of the jobs at the start and now, by bench/run."""
+    built(ROOT)
+    with tempfile.TemporaryDirectory() as folder:
+        if checkout is None:
+            checkout = f"{folder}/start"
+            make_start(checkout)
+        rows = [line.split() for line in printed(ROOT / "bench/run", checkout, ROOT)[1:] if line]
+    return table(["workload", "seconds at the start", "seconds now", "start over now"],
+                 [[name, old, new, ratio] for name, old, new, _, ratio in rows])
+
+
 def put(name, lines):
     """Writes a table into the page that has its mark."""
     mark = MARK.format(name)
@@ -171,12 +213,15 @@ def main():
     words = argparse.ArgumentParser(usage="see the head of this file")
     words.add_argument("--write", action="store_true")
     words.add_argument("--jobs", action="append", default=[])
+    words.add_argument("--start")
     words.add_argument("names", nargs="*")
     given = words.parse_args()
     builds = [tuple(word.split("=", 1)) for word in given.jobs] or [("now", str(BENCHMARK))]
     makers = {"beside": beside, "shapes": shapes, "events": events, "nodes": nodes,
               "renderers": renderers, "jobs": lambda: jobs(builds)}
-    for name in given.names or makers:
+    all_names = list(makers)
+    makers["start"] = lambda: start(given.start)
+    for name in given.names or all_names:
         print(f"{name}, {datetime.datetime.now():%Y-%m-%d %H:%M}\n", flush=True)
         lines = makers[name]()
         print("\n".join(lines) + "\n", flush=True)

@@ -12,6 +12,9 @@ A page is a `.md` file in git. In each page:
   crate, or in a crate that the page names. `*` and `..` match anything.
 - `md_crate::path::item` and `Type::method` exist in the sources.
 
+And docs/maintain/PERF.md has under "Today" the seconds of each workload at the start and now, in
+the form in which bench/measure/tables.py writes them, with the commit that docs/PERF.md names.
+
 Prints each broken one on a line, and exits with status 1.
 """
 
@@ -48,6 +51,11 @@ FOREIGN = {
     "One": "an example of docs/maintain/DECISIONS.md",
 }
 
+# The table of the seconds at the start and now.
+TIMED = "<!-- start: bench/measure/tables.py -->"
+TIMED_HEAD = ["| workload | seconds at the start | seconds now | start over now |",
+              "|---|--:|--:|--:|"]
+TIMES = re.compile(r"\| (\w+) \| (\d+\.\d{3}) \| (\d+\.\d{3}) \| (\d+\.\d{2}) \|")
 FENCED = re.compile(r"^ *```.*?^ *```$", re.MULTILINE | re.DOTALL)
 SPAN = re.compile(r"(`+)(.+?)\1", re.DOTALL)
 LINK = re.compile(r"\[[^\]]*\]\(([^)\s]+)\)(?:,\s+\"([^\"]+)\")?")
@@ -191,9 +199,28 @@ def broken(page):
                 yield f"the file {word}"
 
 
+def untimed():
+    """What the page on speed lacks of the seconds at the start and now."""
+    page, named = read("docs/maintain/PERF.md"), read("docs/PERF.md").split("\n")[0]
+    commit = re.search(r"`([0-9a-f]{40})`", named)
+    if commit is None or commit[1] not in page:
+        yield "not the commit that docs/PERF.md names in its first line"
+    today = page.partition("\n## Today\n")[2].partition("\n## ")[0]
+    table = today.partition(f"{TIMED}\n")[2].split("\n\n")[0].split("\n")
+    rows = {row[1]: row.groups() for row in map(TIMES.fullmatch, table[2:]) if row}
+    if table[:2] != TIMED_HEAD or len(rows) != len(table) - 2:
+        yield f"no table after {TIMED} under 'Today', or one of another form"
+    lines = [line.split() for line in read("bench/workloads.txt").splitlines()]
+    for name in (words[0] for words in lines if words and words[0][0] != "#"):
+        _, before, now, ratio = rows.get(name, (name, "0", "1", "1"))
+        if abs(float(before) / float(now) - float(ratio)) > 0.02:
+            yield f"no row of {name} at the start and now, or another ratio than theirs"
+
+
 def main():
     pages = sorted(path for path in files() if path.endswith(".md"))
     faults = [f"{page}: {fault}" for page in pages for fault in broken(page)]
+    faults += [f"docs/maintain/PERF.md: {fault}" for fault in untimed()]
     print("\n".join(faults) if faults else f"links: {len(pages)} pages")
     return bool(faults)
 

@@ -7,12 +7,16 @@ Each file `NAME.md` of FOLDER becomes `NAME.html` in SITE. A page is written to 
 then renamed, so no page is ever written by half. A page that is newer than its file stays, so a
 second run renders only what is missing or changed.
 
+SITE is for these pages alone: a page `NAME.html` is removed if FOLDER has no `NAME.md` any more, or
+if that fails now, so what was deleted or is refused isn't shown by its old page. If FOLDER can't be
+listed, nothing is removed, and the exit status is 2.
+
 Standard error shows the progress. REPORT has a line in JSON for each file that fails,
 `{"file": "NAME.md", "cause": "..."}`, and after each task a line with the counts so far,
-`{"rendered": 2990, "unchanged": 0, "failed": 10, "left": 7000}`. It is written as the run goes on:
-if the program is killed, REPORT says what was done, and another run does the rest.
+`{"rendered": 2990, "unchanged": 0, "removed": 1, "failed": 10, "left": 7000}`. It is written as the
+run goes on: if the program is killed, REPORT says what was done, and another run does the rest.
 
-The exit status is 0 if no file failed, 1 if one did. Requires Debian's python3-dask and
+Otherwise the exit status is 0 if no file failed, 1 if one did. Requires Debian's python3-dask and
 python3-distributed.
 """
 
@@ -88,8 +92,17 @@ def render(name, folder, site):
                                 max_work=MAX_WORK)
         write(page_of(name, site), html)
     except Exception as error:  # with any error, the other files are rendered
-        return {"file": name, "cause": cause_of(error)}
+        return without_page(name, site, cause_of(error))
     return None
+
+
+def without_page(name, site, cause):
+    """Removes the old page of a file that fails; returns the file's line of the report."""
+    try:
+        page_of(name, site).unlink(missing_ok=True)
+    except OSError as error:
+        cause += f"; its old page stays: {cause_of(error)}"
+    return {"file": name, "cause": cause}
 
 
 def render_all(names, folder, site):
@@ -100,7 +113,7 @@ def render_all(names, folder, site):
 
 def results(client, names, folder, site, together):
     """For each task, as soon as it ends: its number of files, and its lines of the report. If the
-    task's worker ended each time, each of its files has a line.
+    task's worker ended each time, each of its files has a line and no page.
     """
     bag = dask.bag.from_sequence(names, partition_size=together)
     tasks = client.compute(bag.map_partitions(render_all, folder, site).to_delayed())
@@ -112,16 +125,17 @@ def results(client, names, folder, site, together):
             yield len(part), task.result()
         else:
             cause = f"the worker: {cause_of(error)}"
-            yield len(part), [{"file": name, "cause": cause} for name in part]
+            yield len(part), [without_page(name, site, cause) for name in part]
         task.release()
 
 
 class Report:
     """The report, and the progress on standard error."""
 
-    def __init__(self, lines, unchanged, left):
+    def __init__(self, lines, unchanged, removed, left):
         self.lines = lines
-        self.counts = {"rendered": 0, "unchanged": unchanged, "failed": 0, "left": left}
+        self.counts = {"rendered": 0, "unchanged": unchanged, "removed": removed, "failed": 0,
+                       "left": left}
         self.total = left
         self.shown = 0.0
         self.write([])
@@ -144,15 +158,24 @@ class Report:
                   f"{self.counts['failed']} failed", file=sys.stderr, flush=True)
 
 
-def render_folder(folder, site, report, together):
-    """Renders the folder; returns the report."""
-    names = sorted(name for name in os.listdir(folder) if name.endswith(".md"))
+def remove_others(names, site):
+    """Removes the pages of files that aren't in the folder; returns their number."""
+    kept = {page_of(name, site).name for name in names}
+    others = [page for page in site.glob("*.html") if page.name not in kept and page.is_file()]
+    for page in others:
+        page.unlink()
+    return len(others)
+
+
+def render_folder(names, folder, site, report, together):
+    """Renders the files of the folder; returns the report."""
     site.mkdir(parents=True, exist_ok=True)
     for part in site.glob("*.part"):  # left by a worker that was killed
         part.unlink()
+    removed = remove_others(names, site)
     left = [name for name in names if not is_done(name, folder, site)]
     with open(report, "w", encoding="utf-8") as lines:
-        made = Report(lines, len(names) - len(left), len(left))
+        made = Report(lines, len(names) - len(left), removed, len(left))
         if not left:
             return made
         with tempfile.TemporaryDirectory() as space:
@@ -175,9 +198,13 @@ def main():
                         help="the number of files in a task (default: %(default)s)")
     given = parser.parse_args()
     signal.signal(signal.SIGTERM, lambda *_: sys.exit(128 + signal.SIGTERM))
-    counts = render_folder(given.folder, given.site, given.report, given.together).counts
+    try:
+        names = sorted(name for name in os.listdir(given.folder) if name.endswith(".md"))
+    except OSError as error:
+        parser.error(f"{given.folder}: {cause_of(error)}")
+    counts = render_folder(names, given.folder, given.site, given.report, given.together).counts
     print(f"{counts['rendered']} files rendered, {counts['unchanged']} unchanged, "
-          f"{counts['failed']} failed: {given.report}")
+          f"{counts['removed']} removed, {counts['failed']} failed: {given.report}")
     return 1 if counts["failed"] else 0
 
 

@@ -3,17 +3,22 @@
 
     FLASK_APP=flask_comments.py flask run
 
-Shows the comments in the list COMMENTS, which replaces a database. A comment that exceeds a limit
-is shown as an error. Requires Flask (Debian: python3-flask).
+Shows the comments in the list COMMENTS, which replaces a database. They come from JSON, so a name
+or a text can be any value: null, a number, or a text with a lone surrogate, which UTF-8 can't
+encode. A comment that can't be rendered is shown as a message, and doesn't stop the page. Requires
+Flask (Debian: python3-flask).
 """
+
+import json
 
 from flask import Flask, render_template_string
 
-from bivdrazo import TooLong, TooMuchWork, markdown_to_html
+from bivdrazo import markdown_to_html
 
 COMMENTS = [
     ("<Ada>", "**a** <script>alert(1)</script> [b](javascript:alert(1))"),
     ("Bob", "c" * 10_001),
+    *json.loads(r'[["Cy\ud800", "half a character: \ud800"], [null, 7]]'),
 ]
 
 # Jinja escapes the names. It inserts the texts unchanged, since they have `__html__`; a template in
@@ -27,18 +32,26 @@ PAGE = """<!doctype html>
 app = Flask(__name__)
 
 
+def name_of(value):
+    """The name as a text that UTF-8 can encode."""
+    return value.encode(errors="replace").decode() if isinstance(value, str) else "?"
+
+
 def rendered(number, text):
-    """The HTML of a comment; its ids differ from those of all other comments."""
+    """The HTML of a comment, or a message. Comments share only the id `footnote-label`."""
+    if not isinstance(text, str):
+        return "This comment can't be shown: it isn't a text"
     try:
         return markdown_to_html(
             text, footnote_prefix=f"comment-{number}-", number_ids=True, rel="nofollow ugc",
             max_input=10_000, max_output=100_000, max_work=50_000)
-    except (TooLong, TooMuchWork) as error:
+    except ValueError as error:  # a limit, or a lone surrogate
         return f"This comment can't be shown: {error}"
 
 
 @app.route("/")
 def comments():
     """The page with all comments."""
-    shown = [(name, rendered(number, text)) for number, (name, text) in enumerate(COMMENTS)]
+    shown = [(name_of(name), rendered(number, text))
+             for number, (name, text) in enumerate(COMMENTS)]
     return render_template_string(PAGE, comments=shown)

@@ -1,5 +1,5 @@
 #!/usr/bin/env python3
-"""Runs the examples of docs/use/EVENTS.md: each script must have the HTML below it.
+"""Runs the scripts of docs/use/EVENTS.md and README.md: each must have the HTML below it.
 
     events_test.py            prints the examples that don't
     events_test.py --write    writes the HTML of each
@@ -10,12 +10,14 @@ import re
 import sys
 
 HERE = pathlib.Path(__file__).resolve().parent
-PAGES = [HERE.parent.parent / "docs" / "use" / "EVENTS.md"]
+ROOT = HERE.parent.parent
+PAGES = [ROOT / "docs" / "use" / "EVENTS.md", ROOT / "README.md"]
 sys.path.insert(0, str(HERE.parent / "python"))
 
 from bivdrazo import run  # noqa: E402
 
-EXAMPLE = re.compile(r"(```\n(?P<script>.*?)\n```\n\n```html\n)(?P<html>.*?)(```\n)", re.DOTALL)
+SCRIPT = r"(?<=\n\n)(```\n(?P<script>(?:(?!```).)*?)\n```\n\n```html\n)"
+EXAMPLE = re.compile(SCRIPT + r"(?P<html>.*?)(```\n)", re.DOTALL)
 
 
 def corrected(match):
@@ -33,7 +35,7 @@ def is_right(page):
     if len(examples) != text.count("```html\n"):
         print(f"{page.name}: HTML without a script before it")
         return False
-    print(f"{page.name}: {len(examples)} examples" if not wrong else f"{page.name}: failed")
+    print(f"{page.name}: {len(examples)} run" if not wrong else f"{page.name}: failed")
     return not wrong
 
 

@@ -16,12 +16,16 @@ const BUFFER: usize = 1 << 16;
 /// A new file that isn't renamed after this time was left by a run that was killed.
 const OLDEST_PART: Duration = Duration::from_secs(60 * 60);
 
-/// Reads a file, or standard input, which may have at most `limit` bytes.
-pub fn read(path: &Path, limit: Option<usize>) -> Result<String, Failure> {
-    let input: Box<dyn Read> = match path.to_str() {
+/// Opens a file, or standard input.
+pub fn open(path: &Path) -> io::Result<Box<dyn Read>> {
+    Ok(match path.to_str() {
         Some("-") => Box::new(io::stdin()),
         _ => Box::new(File::open(path)?),
-    };
+    })
+}
+
+/// Reads a text, which may have at most `limit` bytes.
+pub fn read(mut input: impl Read, limit: Option<usize>) -> Result<String, Failure> {
     let mut bytes = Vec::new();
     match limit {
         Some(limit) => {
@@ -33,7 +37,6 @@ pub fn read(path: &Path, limit: Option<usize>) -> Result<String, Failure> {
             }
         }
         None => {
-            let mut input = input;
             input.read_to_end(&mut bytes)?;
         }
     }
@@ -115,9 +118,8 @@ pub fn write(path: &Path, texts: &[&str], is_synced: bool) -> io::Result<()> {
     })
 }
 
-/// Copies a file in the same way.
-pub fn copy(source: &Path, target: &Path) -> io::Result<()> {
-    let mut source = File::open(source)?;
+/// Copies an open file in the same way.
+pub fn copy(mut source: File, target: &Path) -> io::Result<()> {
     fill(target, |file| io::copy(&mut source, file).map(drop))
 }
 

@@ -96,7 +96,7 @@ fn render(
     if let Some(target) = target.filter(|target| files::is_same(source, target)) {
         return Err(format!("{}: is the document itself", target.display()).into());
     }
-    let read = render::read(arguments, source)?;
+    let read = render::read(arguments, files::open(source)?)?;
     if let Some(fault) = &read.fault {
         files::report(&format!("{}: {fault}", source.display()));
     }

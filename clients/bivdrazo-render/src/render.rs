@@ -8,6 +8,7 @@ use crate::parser::{self, ParserError};
 use crate::{files, text};
 use bivdrazo::{contents, markdown_with_headings, Attributes, Error, Heading};
 use std::borrow::Cow;
+use std::io;
 use std::path::Path;
 
 /// A document that was read.
@@ -23,7 +24,7 @@ pub struct Read {
 }
 
 /// Reads and compiles a document, with the chosen parser.
-pub fn read(arguments: &Arguments, source: &Path) -> Result<Read, Failure> {
+pub fn read(arguments: &Arguments, source: impl io::Read) -> Result<Read, Failure> {
     let text = files::read(source, arguments.max_input)?;
     let front = match arguments.has_front_matter() {
         true => front_matter(&text),

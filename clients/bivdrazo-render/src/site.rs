@@ -167,8 +167,7 @@ impl<'a> Site<'a> {
 
     /// Reads a document, and changes its links to other documents into links to their pages.
     fn read(&self, source: &Path) -> Result<(Read, Found), Failure> {
-        self.tree.check_link(source)?;
-        let mut read = render::read(self.arguments, &self.folder.join(source))?;
+        let mut read = render::read(self.arguments, self.tree.open(source)?)?;
         let is_asked = self.arguments.has_heading_ids();
         let mut found = Found::with_fault(read.fault.take());
         let read = read.with_urls(self.arguments, |url| {
@@ -271,8 +270,9 @@ impl<'a> Site<'a> {
         if !self.is_asked_for(file) && is_newer {
             return Ok(Done::Kept);
         }
+        let opened = self.tree.open(file)?;
         self.make_folder_of(&target)?;
-        files::copy(&source, &target).map_err(|error| format!("{}: {error}", target.display()))?;
+        files::copy(opened, &target).map_err(|error| format!("{}: {error}", target.display()))?;
         Ok(Done::Copied)
     }
 

@@ -4,13 +4,18 @@ use crate::failures::{Failed, Failure, FAILED};
 use std::collections::HashSet;
 use std::ffi::OsStr;
 use std::fmt::Display;
-use std::fs::{self, DirEntry};
+use std::fs::{self, DirEntry, File, OpenOptions};
 use std::os::unix::ffi::OsStrExt;
+use std::os::unix::fs::OpenOptionsExt;
+use std::os::unix::io::AsRawFd;
 use std::path::{Path, PathBuf};
 
 /// The ending of a source, and that of a page.
 pub const SOURCE_ENDING: &str = "md";
 pub const PAGE_ENDING: &str = "html";
+
+/// Opening a pipe doesn't wait for a writer (`O_NONBLOCK` of Linux).
+const NO_WAIT: i32 = 0o4000;
 
 /// The error of a source that is a symbolic link out of the folder, to a hidden file, or to
 /// something else than a file.
@@ -26,8 +31,6 @@ pub struct Tree {
     pub files: HashSet<PathBuf>,
     /// The folders; the path of the outermost one is empty.
     pub folders: HashSet<PathBuf>,
-    /// The sources that are symbolic links.
-    linked: HashSet<PathBuf>,
     /// The canonical path of the folder.
     root: PathBuf,
 }
@@ -104,9 +107,6 @@ impl Tree {
         match is_source {
             _ if !is_file => {}
             true => {
-                if kind.is_symlink() {
-                    self.linked.insert(path.clone());
-                }
                 self.pages.insert(path);
             }
             false => {
@@ -121,30 +121,32 @@ impl Tree {
     fn is_linked_file(&self, path: &Path, is_source: bool) -> Result<bool, Failure> {
         match fs::canonicalize(self.root.join(path)) {
             Ok(end) if end.is_dir() => Ok(false),
-            Ok(end) if self.may_be_read(&end) => Ok(true),
+            Ok(end) if end.is_file() && self.is_inside(&end) => Ok(true),
             Ok(_) if is_source => Err(OUTSIDE.into()),
             Err(error) if is_source => Err(error.into()),
             _ => Ok(false),
         }
     }
 
-    /// Fails if a source is by now a symbolic link to no file of the folder.
-    pub fn check_link(&self, source: &Path) -> Result<(), Failure> {
-        if self.linked.contains(source) {
-            let end = fs::canonicalize(self.root.join(source))?;
-            if !self.may_be_read(&end) {
-                return Err(OUTSIDE.into());
-            }
+    /// Opens a file of the tree. Since it was listed, a symbolic link may have replaced it or one of
+    /// its folders: this fails if what was opened is no file of the folder.
+    pub fn open(&self, path: &Path) -> Result<File, Failure> {
+        let mut options = OpenOptions::new();
+        options.read(true).custom_flags(NO_WAIT);
+        let file = options.open(self.root.join(path))?;
+        let link = format!("/proc/self/fd/{}", file.as_raw_fd());
+        let end = fs::read_link(&link).map_err(|error| format!("{link}: {error}"))?;
+        match file.metadata()?.is_file() && self.is_inside(&end) {
+            true => Ok(file),
+            false => Err(OUTSIDE.into()),
         }
-        Ok(())
     }
 
-    /// Whether a canonical path is that of a file in the folder, and no part of it is hidden.
-    fn may_be_read(&self, end: &Path) -> bool {
-        let is_inside = end.strip_prefix(&self.root).map_or(false, |path| {
+    /// Whether a canonical path is in the folder, and no part of it is hidden.
+    fn is_inside(&self, end: &Path) -> bool {
+        end.strip_prefix(&self.root).map_or(false, |path| {
             path.iter().all(|name| !name.as_bytes().starts_with(b"."))
-        });
-        is_inside && end.is_file()
+        })
     }
 
     /// Whether a path is that of an existing file of the tree.
@@ -156,5 +158,67 @@ impl Tree {
         path.strip_prefix(&self.root).map_or(false, |path| {
             self.pages.contains(path) || self.files.contains(path)
         })
+    }
+}
+
+#[cfg(test)]
+mod tests {
+    use super::*;
+    use std::env;
+    use std::io::Read;
+    use std::os::unix::fs::symlink;
+    use std::process::{self, Command};
+
+    /// The text of a file of the tree, or the message.
+    fn text_of(tree: &Tree, path: &str) -> Result<String, String> {
+        let mut file = tree
+            .open(Path::new(path))
+            .map_err(|error| error.to_string())?;
+        let mut text = String::new();
+        file.read_to_string(&mut text).unwrap();
+        Ok(text)
+    }
+
+    /// After a folder was listed, its files and folders are replaced.
+    #[test]
+    fn replaced() {
+        let all = env::temp_dir().join(format!("bivdrazo-tree-{}", process::id()));
+        let folder = all.join("folder");
+        for path in ["secret/sub", "folder/sub", "folder/.hidden"] {
+            fs::create_dir_all(all.join(path)).unwrap();
+        }
+        let kept = ["in.md", "linked.md", "new.md"];
+        let gone = ["out.md", "i.png", "hidden.md", "pipe.md", "sub/a.md"];
+        for path in kept.iter().chain(&gone) {
+            fs::write(folder.join(path), "public").unwrap();
+        }
+        for path in ["secret/sub/a.md", "folder/.hidden/a.md"] {
+            fs::write(all.join(path), "secret").unwrap();
+        }
+        let (tree, failed) = Tree::of(&folder, &all.join("site")).unwrap();
+        assert!(failed.is_empty());
+        assert_eq!(tree.pages.len() + tree.files.len(), 8);
+        for path in kept.iter().chain(&gone) {
+            assert_eq!(text_of(&tree, path).as_deref(), Ok("public"), "{path}");
+            fs::remove_file(folder.join(path)).unwrap();
+        }
+        fs::write(folder.join("in.md"), "public").unwrap();
+        symlink("in.md", folder.join("linked.md")).unwrap();
+        fs::write(folder.join("new.md"), "new").unwrap();
+        for path in ["out.md", "i.png"] {
+            symlink("../secret/sub/a.md", folder.join(path)).unwrap();
+        }
+        symlink(".hidden/a.md", folder.join("hidden.md")).unwrap();
+        let pipe = folder.join("pipe.md");
+        assert!(Command::new("mkfifo").arg(pipe).status().unwrap().success());
+        fs::remove_dir(folder.join("sub")).unwrap();
+        symlink("../secret/sub", folder.join("sub")).unwrap();
+        assert_eq!(text_of(&tree, "in.md").as_deref(), Ok("public"));
+        assert_eq!(text_of(&tree, "linked.md").as_deref(), Ok("public"));
+        assert_eq!(text_of(&tree, "new.md").as_deref(), Ok("new"));
+        for path in gone {
+            assert_eq!(text_of(&tree, path).unwrap_err(), OUTSIDE, "{path}");
+        }
+        fs::remove_dir_all(all).unwrap();
     }
 }

@@ -15,7 +15,7 @@ class SafeHtml(str):
 
     It is safe as the content of an element such as `div`; no HTML is safe in an attribute's value,
     a script or a style. It compares, hashes and pickles like any `str`, and unpickles as a
-    SafeHtml. Any other text made from it, such as a slice or a sum, is a plain `str`, since it may
+    SafeHtml; a database or JSON returns a plain `str`. Any other text made from it, such as a slice or a sum, is a plain `str`, since it may
     not be safe HTML:
 
     >>> [type(made).__name__ for made in (html, html[3:], html + "<b>", f"{html}", html.strip())]
@@ -26,6 +26,6 @@ class SafeHtml(str):
 
     __slots__ = ()
 
-    def __html__(self) -> str:
-        """The HTML as a plain `str`."""
-        return str.__str__(self)
+    def __html__(self) -> SafeHtml:
+        """The HTML itself. MarkupSafe formats a plain `str` only escaped."""
+        return self

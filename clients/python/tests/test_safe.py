@@ -17,6 +17,7 @@ from bivdrazo import markdown_with_headings, run
 
 try:
     import jinja2
+    from markupsafe import Markup
     WHY_NO_JINJA = None
 except ImportError:
     WHY_NO_JINJA = "Jinja is missing"
@@ -80,7 +81,7 @@ class Values(unittest.TestCase):
         self.assertLess("<", self.MADE)
         self.assertEqual(repr(self.MADE), repr(plain))
         self.assertEqual(json.dumps(self.MADE), json.dumps(plain))
-        self.assertIs(type(self.MADE.__html__()), str)
+        self.assertIs(self.MADE.__html__(), self.MADE)
         self.assertFalse(hasattr(self.MADE, "__dict__"))
 
     def test_pickles(self):
@@ -114,6 +115,15 @@ class Templates(unittest.TestCase):
         page = jinja2.Environment(autoescape=True).from_string("{{ a }}{{ a[3:] }}{{ a + b }}")
         self.assertEqual(page.render(a=made, b="<i>"),
                          made + html.escape(made[3:]) + html.escape(made + "<i>"))
+
+    @unittest.skipIf(WHY_NO_JINJA, WHY_NO_JINJA)
+    def test_markup(self):
+        made = markdown_to_html("**a** <b>")
+        for text in (Markup("<p>{}</p>").format(made), Markup("<p>%s</p>") % made,
+                     Markup("<p>") + made + Markup("</p>"),
+                     Markup("").join([Markup("<p>"), made, Markup("</p>")])):
+            self.assertEqual(text, f"<p>{made}</p>")
+        self.assertEqual(Markup("{}").format(made + "<i>"), html.escape(made + "<i>"))
 
     @unittest.skipIf(WHY_NO_JINJA, WHY_NO_JINJA)
     def test_example_of_jinja(self):

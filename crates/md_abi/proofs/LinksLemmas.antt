@@ -1,17 +1,13 @@
 -- What an answer about links in links says.
-use Rattle.std.proofs.Common.{arith}
-use Rattle.std.proofs.Common.{◌≡◌, Bool, true, false, List}
+use Rattle.std.proofs.Common.{◌≡◌, Bool, false, List}
 use Rattle.std.proofs.Common.{sym, ◌∙◌}
 use Rattle.md_base.specs.declared.event.Event.{Event}
 use Rattle.md_base.specs.Tree.{Forest, flatten}
 use Rattle.md_safe.specs.Links.{has_nested_link}
 use Rattle.md_abi.specs.Standing.{StandFor}
 use Rattle.md_abi.specs.Events.{event_of}
-use Rattle.md_abi.specs.Failures.{about, answer_of, IsEventFault}
-use Rattle.md_abi.specs.Links.{TellsOfLinks, AreRead}
-use Rattle.md_abi.specs.declared.answer.Answer.{Answer}
+use Rattle.md_abi.specs.Failures.{about}
 use Rattle.md_abi.specs.declared.event.CEvent.{CEvent}
-use Rattle.md_abi.specs.declared.failure.Failure.{Failure}
 use Rattle.md_abi.proofs.WithinLemmas.{some_once}
 
 -- the answer about the document that some events encode
@@ -26,15 +22,3 @@ pub nesting_of_read : (events : List CEvent) (read : List Event) (nested : Bool)
     IsNestingOf events nested
 nesting_of_read events read nested stand nests document other =
     nests document (some_once (flatten document) read (sym other ∙ stand))
-
-pub nested_reported : (events : List CEvent) (answer : Answer) → answer ≡ about 12 0 →
-    AreRead events → IsNestingOf events true → TellsOfLinks events answer
-nested_reported events answer is read nests = grind arith
-
-pub none_reported : (events : List CEvent) (answer : Answer) → answer ≡ about 0 0 →
-    AreRead events → IsNestingOf events false → TellsOfLinks events answer
-none_reported events answer is read nests = grind arith
-
-pub failure_reported : (events : List CEvent) (why : Failure) (answer : Answer) →
-    answer ≡ answer_of why → IsEventFault events why → TellsOfLinks events answer
-failure_reported events why answer is fault = grind arith

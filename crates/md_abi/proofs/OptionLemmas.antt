@@ -9,9 +9,6 @@ use Rattle.md_abi.specs.declared.failure.Failure.{Failure}
 
 module _ {A : Type 0} (options : COptions) (field : ℕ) (value : Option A)
     (at : slice_get (readable_fields options) field ≡ Some (is_some value)) where
-  fault_of : (why : Failure) → IsFaultOf field value why → IsOptionFault options why
-  fault_of why fault = grind arith
-
   -- the result of `?`
   pub fault_reported : {T : Type 0} (r : Result T Failure) (why : Failure) →
       IsErrAnd r (λ made. made ≡ why) →

@@ -38,17 +38,9 @@ white_split : (b : ℕ) (text : List ℕ) → is_white b ≡ true →
     slice_split is_white (b ∷ text) ≡ [] ∷ slice_split is_white text
 white_split b text white = grind arith
 
-pub collapsed-white : (b : ℕ) (text : List ℕ) → is_white b ≡ true →
-    collapsed (b ∷ text) ≡ collapsed text
-collapsed-white b text white = grind (arith, white_split)
-
 pub in_word-white : (b : ℕ) (text : List ℕ) → is_white b ≡ true →
     in_word (b ∷ text) ≡ after_word text
 in_word-white b text white = ap word_on (white_split b text white)
-
-pub after_word-white : (b : ℕ) (text : List ℕ) → is_white b ≡ true →
-    after_word (b ∷ text) ≡ after_word text
-after_word-white b text white = grind (arith, white_split)
 
 -- ---- at another byte
 

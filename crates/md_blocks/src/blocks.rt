@@ -14,7 +14,7 @@ use std::alloc::{AllocError, Global};
 #[derive(Drop)]
 pub struct Blocks {
     /// The blocks in document order. Each container that is entered is exited, the innermost first,
-    /// and at most [`MAX_DEPTH`](crate::MAX_DEPTH) of them nest.
+    /// and at most [`MOST_CONTAINERS`](crate::MOST_CONTAINERS) of them nest.
     pub tape: Vec<Block>,
     /// The lines of all leaves. The lines of one leaf are adjacent.
     pub lines: Vec<Line>,

@@ -5,7 +5,7 @@ ghost use Rattle.std.specs.Prelude.{OnOk, IfOk, IfSome, IsTrue};
 
 use crate::block::{Block, ContainerKind};
 use crate::marker::{Marker, footnote_label, item_marker, task_box};
-use crate::nesting::{MAX_DEPTH, Open};
+use crate::nesting::{MOST_CONTAINERS, Open};
 use crate::pass::{CODE_INDENT, OpenLeaf, Pass};
 use crate::position::Position;
 use std::alloc::AllocError;
@@ -26,14 +26,14 @@ impl<'a> Pass<'a> {
         ensures same_line { position.new.line ≡ position.old.line }
     {
         match byte {
-            b'>' if depth < MAX_DEPTH => {
+            b'>' if depth < MOST_CONTAINERS => {
                 self.begin_quote(position, depth)?;
                 Ok(true)
             }
-            b'[' if self.options.footnotes && depth < MAX_DEPTH => {
+            b'[' if self.options.footnotes && depth < MOST_CONTAINERS => {
                 self.begin_footnote(position, depth)
             }
-            b'*' | b'-' | b'+' | b'0'..=b'9' if depth < MAX_DEPTH - 1 => {
+            b'*' | b'-' | b'+' | b'0'..=b'9' if depth < MOST_CONTAINERS - 1 => {
                 let in_paragraph = is_whole && self.leaf == OpenLeaf::Paragraph;
                 match item_marker(position.line, position.text, in_paragraph) {
                     Some(marker) => {

@@ -23,7 +23,7 @@ mod table;
 pub use block::{Block, ContainerKind, LineRange};
 pub use blocks::{Blocks, parse_blocks};
 pub use definition::{Definition, Definitions};
-pub use nesting::MAX_DEPTH;
+pub use nesting::MOST_CONTAINERS;
 pub use options::{DocumentHtml, MarkdownOptions};
 pub use preamble::{FrontMatter, front_matter};
 pub use table::next_cell;

@@ -9,7 +9,7 @@ use std::alloc::{AllocError, Global};
 
 /// The maximum depth of nested containers. A marker that would begin a deeper one is text. This
 /// bounds the work for each line.
-pub const MAX_DEPTH: usize = 96;
+pub const MOST_CONTAINERS: usize = 96;
 
 /// An open container.
 #[derive(Clone, Copy)]

@@ -1,5 +1,5 @@
 -- What is printed before all captured texts grows alone, where each that ends has begun.
-use Rattle.std.proofs.Common.{◌≡◌, ◌≤◌, ℕ, zero, suc, ◌-◌, Bool, true, false, List}
+use Rattle.std.proofs.Common.{◌≡◌, ◌≤◌, ℕ, zero, suc, Bool, true, false, List}
 use Rattle.std.proofs.Common.{[], ◌∷◌, ◌++◌, length, ap, ◌∙◌, arith}
 use Rattle.std.specs.Prelude.{if◌then◌else◌}
 use Rattle.std.proofs.lemmas.Bool.{and_parts}
@@ -43,8 +43,6 @@ outermost-grows text more [] le = le
 outermost-grows text more (outer ∷ others) le = omega arith
 
 -- ---- one event
-pub one_less : (n : ℕ) → n ≡ suc n - 1
-one_less n = omega arith
 
 -- how many texts are captured after an event
 pub stepped-captured : (context : Context) (event : Event) (facts : NodeFacts) (state : State) →

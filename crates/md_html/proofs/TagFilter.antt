@@ -1,5 +1,5 @@
 -- Where HTML is escaped the tag filter changes no meaning.
-use Rattle.std.proofs.Common.{◌≡◌, ℕ, Bool, false, ◌&&◌, zero, suc, List, [], ◌++◌, arith}
+use Rattle.std.proofs.Common.{◌≡◌, ℕ, Bool, false, ◌&&◌, List, [], ◌++◌, arith}
 use Rattle.std.proofs.Common.{refl, ap, ◌∙◌}
 use Rattle.md_base.specs.declared.event.Name.{Name}
 use Rattle.md_base.specs.declared.event.Name.TheVariants.{BlockQuote}
@@ -12,14 +12,10 @@ use Rattle.md_meaning.specs.Meaning.Inherited.{inside, outermost}
 use Rattle.md_tree.specs.Rules.{place}
 use Rattle.md_meaning.specs.Meaning.Finds.{first_ending}
 use Rattle.md_meaning.specs.Meaning.{meaning, ending_at}
-use Rattle.md_meaning.specs.Meaning.Layout.{Piece, layout}
+use Rattle.md_meaning.specs.Meaning.Layout.{layout}
 use Rattle.md_meaning.specs.Meaning.At.{Context, Defined, Footnote, At, Before}
 use Rattle.md_meaning.specs.Meaning.Before.{nothing_before, before_children}
-use Rattle.md_meaning.specs.Meaning.Spans.{html}
-use Rattle.md_meaning.specs.Meaning.Means.{prints}
 use Rattle.md_meaning.specs.Meaning.Nodes.{Outcome, outcome, node, both, continued, before_next}
-use Rattle.md_meaning.specs.Meaning.Footnotes.{backreferences}
-use Rattle.md_meaning.specs.Meaning.Footnotes.{item}
 use Rattle.md_meaning.specs.Meaning.Footnotes.{section}
 
 -- the options with the tag filter on or off
@@ -29,17 +25,6 @@ filtering filter options = record options { gfm_tagfilter = filter }
 -- the context of nodes, under these options
 abbrev under : Bool → Context → Context
 under filter context = record context { options = filtering filter context.options }
-
-html-moot : (filter : Bool) (context : Context) (at : At) → context.options.allow_dangerous_html ≡
-    false →
-    html (under filter context) at ≡ html context at
-html-moot filter context at h = grind arith
-
-means-moot : (filter : Bool) (context : Context) (at : At) →
-    context.options.allow_dangerous_html ≡ false →
-    (name : Name) (inner : List Piece) →
-    prints (under filter context) at name inner ≡ prints context at name inner
-means-moot filter context at h name inner = grind arith
 
 inside-moot : (filter : Bool) (options : CompileOptions) (loose : Bool) (name : Name)
     (around : Surroundings) →
@@ -83,18 +68,6 @@ meant-moot filter context h around before (Node name start end children rest) =
     (node-moot filter context here h name inner)
     ∙ ap (λ m. both (node context here name inner) m) (meant-moot filter context h around
     (before_next here name (node context here name inner)) rest)
-
-ways_back-moot :
-    (filter : Bool) (options : CompileOptions) (identifier : List ℕ) (number count : ℕ) →
-    backreferences (filtering filter options) identifier number count
-    ≡ backreferences options identifier number count
-ways_back-moot filter options identifier number zero = refl
-ways_back-moot filter options identifier number (suc count) = grind arith
-
-item-moot :
-    (filter : Bool) (context : Context) (footnotes : List Footnote) (identifier : List ℕ) →
-    item (under filter context) footnotes identifier ≡ item context footnotes identifier
-item-moot filter context footnotes identifier = grind arith
 
 section-moot : (filter : Bool) (context : Context) (footnotes : List Footnote) →
     section (under filter context) footnotes ≡ section context footnotes

@@ -24,11 +24,6 @@ identifier-short : (bytes : List ℕ) (label : Position) →
 identifier-short bytes label =
     grind (arith, label-short bytes label.start label.end, normalized-short)
 
--- by what a call refers
-abbrev left_identifier : List ℕ → Referral → List ℕ
-left_identifier bytes left =
-    elim left [ referral.Label at ↦ unwrap_or (identifier_at bytes at) [] | _ ↦ [] ]
-
 labels-left : (bytes : List ℕ) (forest : Forest) (left : Referral) →
     called (λ identifier. length identifier) bytes forest
     + 12 * label_span (target_of forest left) ≤ 12 * lengths forest + 12 * label_span left

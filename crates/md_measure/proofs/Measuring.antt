@@ -15,9 +15,6 @@ use Rattle.md_depth.proofs.Nodes.{one-more}
 use Rattle.md_measure.specs.Counting.{capped, moved}
 use Rattle.md_measure.specs.Nesting.{is_nested, link_after, images_after, nests}
 
-pub or_assoc : (a b c : Bool) → a || (b || c) ≡ (a || b) || c
-or_assoc a b c = grind arith
-
 pub capped-fits : (n : ℕ) → capped n ≤ 2 ^ 128 - 1
 capped-fits n = grind (arith, common_steps)
 

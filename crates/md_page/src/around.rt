@@ -39,12 +39,20 @@ pub fn page_around<H: Html>(alloc: Global, title: &str, body: &H) -> Result<Stri
     ensures tree { IfOk result (λ text. IsBuiltAsWritten (H.text body.now)
         → IsBuiltPageAround (shown title.now) (H.text body.now) (string_bytes text)) }
 {
+    page_of(alloc, title, body.as_str())
+}
+
+/// The text of the page with this title and this body.
+pub(crate) fn page_of(alloc: Global, title: &str, body: &str) -> Result<String, AllocError>
+    ensures { IfOk result (λ text. string_bytes text
+        ≡ page_text (encoded true title.now) body.now) }
+{
     let escaped = encode(alloc, title, true)?;
     let mut text = String::new(alloc);
     text.push_str("<!doctype html>\n<html><head><meta charset=\"utf-8\" /><title>")?;
     text.push_str(escaped.as_str())?;
     text.push_str("</title></head><body>")?;
-    text.push_str(body.as_str())?;
+    text.push_str(body)?;
     text.push_str("</body></html>\n")?;
     Ok(text)
 }

@@ -20,12 +20,12 @@ ghost use Rattle.md_safe.specs.Page.{IsBuiltPage};
 ghost use Rattle.md_page.specs.Page.{IsPageOf, page_text};
 
 pub use around::page_around;
+use around::page_of;
 pub use handed::{list_headings, with_given_ids};
 pub use headings::Heading;
 pub use html::{AttributedHtml, Html};
 pub use ids::{WithHeadingIds, with_heading_ids};
 use md_html::SafeHtml;
-use md_text::encode;
 pub use rel::with_link_rel;
 use std::alloc::{AllocError, Global};
 pub use taken::{list_ids, written_id};
@@ -66,12 +66,5 @@ pub fn page(alloc: Global, title: &str, body: &SafeHtml) -> Result<String, Alloc
     ensures tree { IfOk result (λ text. IsBuiltAsRead body.now
         → IsBuiltPage (with_line_feeds (encoded false title.now)) body.now (string_bytes text)) }
 {
-    let escaped = encode(alloc, title, true)?;
-    let mut text = String::new(alloc);
-    text.push_str("<!doctype html>\n<html><head><meta charset=\"utf-8\" /><title>")?;
-    text.push_str(escaped.as_str())?;
-    text.push_str("</title></head><body>")?;
-    text.push_str(body.as_str())?;
-    text.push_str("</body></html>\n")?;
-    Ok(text)
+    page_of(alloc, title, body.as_str())
 }

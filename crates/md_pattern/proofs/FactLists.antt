@@ -3,16 +3,13 @@ use Rattle.std.proofs.Common.{◌≡◌, ℕ, ◌-◌, ◌<◌, ◌^◌, List, [
 use Rattle.std.specs.Prelude.{set, ◌≤◌}
 use Rattle.std.proofs.lemmas.List.{map-append, map-set, append-nil, length-map}
 use Rattle.std.proofs.lemmas.List.{set-append_left, set-append_right}
-use Rattle.std.proofs.lemmas.List.Elements.{All-head, All-tail, All-weaker, All-push, All-set}
+use Rattle.std.proofs.lemmas.List.Elements.{All-head, All-tail}
 use Rattle.md_pattern.specs.declared.facts.Fact.{Fact}
 use Rattle.md_pattern.specs.Facts.{partner_alone}
 use Rattle.md_pattern.specs.FactWords.{IsWord, AreWords, fact_of_word, facts_of_words, all_facts}
 
 module _ (old new : List Fact) (still : (word : ℕ) → IsWord old word → IsWord new word)
     (same : (word : ℕ) → IsWord old word → fact_of_word new word ≡ fact_of_word old word) where
-  pub AreWords-still : (words : List ℕ) → AreWords old words → AreWords new words
-  AreWords-still words are = All-weaker (IsWord old) (IsWord new) still words are
-
   pub facts-same : (words : List ℕ) → AreWords old words →
       facts_of_words new words ≡ facts_of_words old words
   facts-same [] are = grind (arith, All-head, All-tail)
@@ -20,22 +17,12 @@ module _ (old new : List Fact) (still : (word : ℕ) → IsWord old word → IsW
       grind (arith, All-head, All-tail, facts-same words (All-tail (IsWord old) word words are))
 
   -- a word that is added
-  pub AreWords-push : (words : List ℕ) (word : ℕ) → AreWords old words → IsWord new word →
-      AreWords new (words ++ word ∷ [])
-  AreWords-push words word are is =
-      All-push (IsWord new) words word (AreWords-still words are) is
-
   pub facts-push : (words : List ℕ) (word : ℕ) (fact : Fact) → AreWords old words →
       fact_of_word new word ≡ fact →
       facts_of_words new (words ++ word ∷ []) ≡ facts_of_words old words ++ fact ∷ []
   facts-push words word fact are says = grind (arith, map-append, facts-same)
 
   -- writing a word at an index
-  pub AreWords-put : (words : List ℕ) (index word : ℕ) → AreWords old words → IsWord new word →
-      AreWords new (set words index word)
-  AreWords-put words index word are is =
-      All-set (IsWord new) words index word is (AreWords-still words are)
-
   pub facts-put : (words : List ℕ) (index word : ℕ) (fact : Fact) → AreWords old words →
       fact_of_word new word ≡ fact →
       facts_of_words new (set words index word) ≡ set (facts_of_words old words) index fact

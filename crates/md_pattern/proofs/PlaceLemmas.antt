@@ -121,11 +121,6 @@ encodes_row-some i letter other all = grind arith
 pub ends-count : (letters : List ℕ) → AreEnds letters → length letters ≡ 114
 ends-count letters are = grind (arith, are, length-map, counted)
 
--- the last symbol of a spine doesn't decide whether the spine may end
-whole-complete : (place : At) (before : Option Symbol) →
-    is_complete (state_at place None) ≡ is_complete (state_at place before)
-whole-complete place before = refl
-
 pub ends-at : (letters : List ℕ) (i letter : ℕ) (before : Option Symbol) → AreEnds letters →
     i < length letters →
     letter ≡ get_or letters i 0 → eqb letter 101 ≡ is_complete (state_at (place_at i) before)

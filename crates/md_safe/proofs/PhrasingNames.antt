@@ -1,7 +1,7 @@
 -- Where phrasing content may be inserted, what builds an element there, and which elements there
 -- are.
 use Rattle.std.proofs.Common.{◌≡◌, ℕ, ◌≤◌, suc, Bool, true, false, List, [], ◌∷◌, ◌++◌, ◌∙◌, codes}
-use Rattle.std.proofs.Common.{arith, not, ◌&&◌}
+use Rattle.std.proofs.Common.{arith}
 use Rattle.std.specs.Prelude.{Some, None, find, option_map, bytes_eq}
 use Rattle.std.specs.Option.{option_map_or}
 use Rattle.std.proofs.lemmas.Slice.Eq.{bytes_eq-Decides}
@@ -109,10 +109,6 @@ pub record IsOrdinary (name : List ℕ) : Type 0 where
   pub starts : (attributes : List TokenAttribute) (p : Parser) →
       start_in_body name attributes p ≡ reconstructed p (insert name attributes)
   pub ends : (p : Parser) → end_in_body name p ≡ end_other name p
-
-abbrev pub is_outer : List ℕ → Bool
-is_outer name = not (is_one_of parts name) && (not (is_one_of cells name) && (not
-    (is_one_of (codes "table" ∷ codes "tr" ∷ sections) name) && bytes_eq name name))
 
 pub void-named : (name : List ℕ) → is_one_of (codes "br" ∷ codes "img" ∷ codes "input" ∷ []) name
     ≡ true → IsVoid name

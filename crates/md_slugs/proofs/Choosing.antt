@@ -22,9 +22,6 @@ use Rattle.md_page.proofs.HeadingTexts.{encoded-seen}
 use Rattle.md_page.proofs.LinkRule.{seen-encoded}
 use Rattle.md_slugs.specs.Chosen.{AreChosen}
 
-pub none-chosen : (others : List (List ℕ)) → AreChosen others []
-none-chosen others = (refl, λ w h. refl)
-
 distinct-last : (xs : List (List ℕ)) (v : List ℕ) → are_distinct xs ≡ true →
     is_among v xs ≡ false → are_distinct (xs ++ (v ∷ [])) ≡ true
 distinct-last [] v d n = refl

@@ -1,11 +1,10 @@
 -- Blocks stand in nothing that a definition reads.
-use Rattle.std.proofs.Common.{◌≡◌, Bool, true, false, ◌||◌, arith}
+use Rattle.std.proofs.Common.{◌≡◌, Bool, true, false, arith}
 use Rattle.md_base.specs.declared.event.Name.{Name}
-use Rattle.md_base.specs.NameTests.{is_transparent}
 use Rattle.md_text.specs.declared.options.CompileOptions.{CompileOptions}
 use Rattle.md_meaning.specs.declared.surroundings.Surroundings.{Surroundings}
 use Rattle.md_meaning.specs.Meaning.Inherited.{inside}
-use Rattle.md_steps.specs.Content.{Content, Blocks, is_allowed, content_of, content_inside}
+use Rattle.md_steps.specs.Content.{Content, Blocks, is_allowed, content_inside}
 use Rattle.md_steps.proofs.Standing.{follows, picked}
 
 abbrev pub is_blocks : Content → Bool
@@ -14,10 +13,6 @@ is_blocks c = elim c [ Blocks ↦ true | _ ↦ false ]
 -- blocks stand in nothing that a definition reads
 abbrev pub Open : Content → Surroundings → Type 0
 Open c around = is_blocks c ≡ true → (around.is_escaping ≡ true) × (around.in_code ≡ false)
-
--- where blocks may stand in a node, it keeps what the surroundings say of both
-abbrev holds_blocks : Name → Bool
-holds_blocks name = is_transparent name || is_blocks (content_of name)
 
 pub open-inside :
     (options : CompileOptions) (loose : Bool) (c : Content) (name : Name) (a : Surroundings) →

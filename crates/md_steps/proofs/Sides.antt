@@ -15,7 +15,6 @@ use Rattle.md_base.specs.NameTests.{is_fence, is_chunk, is_cell}
 use Rattle.md_pattern.specs.Looseness.{is_loose}
 use Rattle.md_pattern.specs.Alignments.{alignments}
 use Rattle.md_meaning.specs.declared.surroundings.Container.TheVariants as container
-use Rattle.md_meaning.specs.declared.surroundings.Container.{Container}
 use Rattle.md_meaning.specs.declared.surroundings.Surroundings.{Surroundings}
 use Rattle.md_meaning.specs.Meaning.Inherited.{inside}
 use Rattle.md_meaning.specs.Meaning.Layout.{Piece, layout, when}
@@ -99,13 +98,6 @@ Ends context at cells left ended inner name =
 abbrev Meant : Context → At → List Piece → Name → List Piece
 Meant context at inner name = prints context at name (if is_quiet name then [] else inner)
 
--- that is what the node means, but for texts that are set aside and for fences, which count those
--- before them; what is quiet has nothing inside
-abbrev BothSides : Context → At → ℕ → State → Option Name → List Piece → Name → Type 0
-BothSides context at cells left ended inner name =
-    (if is_set_aside name || is_fence name then Ends context at cells left ended inner name
-    else Meant context at inner name) ≡ Ends context at cells left ended inner name
-
 tight_sides : (b : Bool) (inner start : List Piece) (piece : Piece) (pieces : List Piece) →
     (if b then inner else start ++ (inner ++ (piece ∷ pieces)))
     ≡ when (not b) start ++ joined inner (when (not b) (piece ∷ pieces))
@@ -150,8 +142,6 @@ sides-seen context at cells left ended inner name aside quiet k =
     (ended-is (captures name) (is_quiet name) (is_open name) inner stop quiet)
 
 -- ---- the surroundings in a node are those that its children see
-abbrev contained_is : Container → Bool
-contained_is kind = elim kind [ container.Nothing ↦ false | _ ↦ true ]
 
 abbrev table_or : Name → List AlignKind → List AlignKind → List AlignKind
 table_or name own columns = if is GfmTable name then own else columns

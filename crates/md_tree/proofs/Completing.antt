@@ -31,9 +31,6 @@ AreSettled (open_node ∷ others) = WaitsSettled open_node.outer × AreSettled o
 abbrev pub HasSettled : Course → Type 0
 HasSettled course = IsSettled course.state × AreSettled course.open_nodes
 
-abbrev EntersSettled : Entry → Type 0
-EntersSettled entry = IsSettled entry.state × WaitsSettled entry.outer
-
 -- ---- no event leaves this
 settled_enter : (standing : Standing) (named : Name) (point : Point) (from to : Course) →
     HasSettled from → (b : Bool) → may_hold from.state.role ≡ b → (o : Option Entry) →

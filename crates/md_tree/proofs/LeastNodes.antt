@@ -58,10 +58,6 @@ has_least one = elim (least one) [ Empty ↦ false | _ ↦ true ]
 
 -- ---- the least nodes have the shape of the grammar
 
--- a role whose spine may end after these symbols
-abbrev Ends : Role → List Symbol → Type 0
-Ends around symbols = (ends_after (start_of around) symbols ≡ true) × (may_hold around ≡ true)
-
 -- a spine without symbols may end
 bare : (around : Role) → ends_after (start_of around) [] ≡ true → Matches around []
 bare around e = matches_after around [] e

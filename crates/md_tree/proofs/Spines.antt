@@ -1,16 +1,10 @@
 -- The spine of shaped nodes is the same by names and by symbols.
-use Rattle.std.proofs.Common.{false, true, arith, ◌≡◌, Bool, Option, List, [], ◌∷◌, ◌++◌, refl}
+use Rattle.std.proofs.Common.{arith, ◌≡◌, Option, List, [], ◌∷◌, ◌++◌, refl}
 use Rattle.std.proofs.Common.{append_assoc}
-use Rattle.md_tree.proofs.Common.{Space, Through, Name, Symbol, Role, Standing, Forest, Empty, Node}
+use Rattle.md_tree.proofs.Common.{Name, Symbol, Role, Forest, Empty, Node}
 use Rattle.md_tree.proofs.Common.{spine, AreShaped}
 use Rattle.md_base.specs.Children.{spine_names}
 use Rattle.md_tree.specs.Laws.{symbols_of}
-
--- a transparent name
-abbrev is_through : Standing → Bool
-is_through Through = true
-is_through Space = true
-is_through _ = false
 
 appended : (names others : List Name) →
     symbols_of (names ++ others) ≡ symbols_of names ++ symbols_of others

@@ -1,7 +1,6 @@
 -- One event further, and one mention; at the end nothing is still to come.
-use Rattle.std.proofs.Common.{◌≡◌, ℕ, ◌+◌, ◌-◌, ◌^◌, ◌≤◌, rules, ap, sym, ◌∙◌, arith}
+use Rattle.std.proofs.Common.{◌+◌, rules, ap, sym, ◌∙◌, arith}
 use Rattle.std.proofs.Common.{add-one}
-use Rattle.std.proofs.lemmas.Grind.{common_steps}
 use Rattle.std.specs.Prelude.{drop}
 use Rattle.md_tree.specs.Mentions.{mentions_of}
 use Rattle.md_tree.specs.Numbers.{definition_for}
@@ -10,11 +9,6 @@ use Rattle.md_measure.specs.Counting.{capped}
 use Rattle.md_measure.proofs.Referring.{split-there, mention-at, led-step, capped-more}
 use Rattle.md_measure.proofs.Referring.{led-all}
 use Rattle.md_measure.proofs.referred.referred_length.Goals as goal
-
--- what is counted is all
-all-added : (counted later whole : ℕ) → counted ≤ 2 ^ 128 - 1 → later ≡ 0 →
-    capped (counted + later) ≡ capped whole → counted ≡ capped whole
-all-added counted later whole fits none before = grind (arith, common_steps, fits, none, before)
 
 pub referred_at-requires-clause-there : goal.referred_at-requires-clause-there
 referred_at-requires-clause-there c = grind (arith, split-there)
