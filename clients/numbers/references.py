@@ -54,37 +54,35 @@ def python_file():
 
 def rattle_file():
     """The module of the parser: all names in the order of their bytes, as one text, and where each
-    begins in it.
+    begins in it, and how long it is.
     """
-    entries = [f"{name};{stands_for}" for name, stands_for in sorted(references())]
+    pairs = sorted(references())
+    entries = [f"{name};{stands_for}" for name, stands_for in pairs]
     starts = [0]
-    for entry in entries:
-        starts.append(starts[-1] + len(entry.encode("utf-8")))
+    for entry in entries[:-1]:
+        starts.append(starts[-1] + len(entry.encode("utf-8")) + 1)
     text = f"//! {COMMENT}\n\n"
-    text += "/// All names in the order of their bytes, each with `;` and what it stands for.\n"
-    text += '#[rattlefmt::skip]\nstatic TEXT: &str = "\\\n'
-    text += lines_of(map(escaped, entries), "\\\n") + '\\\n";\n\n'
-    text += "/// Where each begins in that text, and where the last one ends.\n"
-    text += f"#[rattlefmt::skip]\nstatic STARTS: [u16; {len(starts)}] = [\n    "
-    text += lines_of([f"{start}, " for start in starts], "\n    ").replace(" \n", "\n").rstrip()
-    text += "\n];\n\n/// How many names there are.\n"
+    text += "/// All names in the order of their bytes, each with `;` and what it stands for. NUL is\n"
+    text += "/// between two of them.\n"
+    text += '#[rattlefmt::skip]\npub(crate) static TEXT: &str = "\\\n'
+    separated = [entry + "\0" for entry in entries[:-1]] + entries[-1:]
+    text += lines_of(map(escaped, separated), "\\\n") + '\\\n";\n\n'
+    text += "/// How many names there are.\n"
     text += f"pub(crate) const COUNT: usize = {len(entries)};\n\n"
-    return text + ENTRY
+    text += array("Where each name begins in that text.", "STARTS", "u16", starts) + "\n"
+    return text + array("The length of each name.", "LENGTHS", "u8", [len(name) for name, _ in pairs])
 
 
-ENTRY = """\
-/// A name by its number, then `;`, then what it stands for.
-pub(crate) fn entry(number: usize) -> Option<&'static [u8]> {
-    let from = STARTS.get(number)?;
-    let to = STARTS.get(number.checked_add(1)?)?;
-    TEXT.as_bytes().get(*from as usize..*to as usize)
-}
-"""
+def array(comment, name, kind, numbers):
+    """A table with a number for each name."""
+    text = f"/// {comment}\n#[rattlefmt::skip]\npub(crate) static {name}: [{kind}; COUNT] = [\n    "
+    rows = lines_of([f"{number}, " for number in numbers], "\n    ")
+    return text + rows.replace(" \n", "\n").rstrip() + "\n];\n"
 
 
 def escaped(text):
     """A text as a literal of Rattle has it."""
-    special = {"\n": "\\n", '"': '\\"', "\\": "\\\\"}
+    special = {"\0": "\\0", "\n": "\\n", '"': '\\"', "\\": "\\\\"}
     return "".join(special.get(each) or (each if " " < each < "\x7f" else f"\\u{{{ord(each):x}}}")
                    for each in text)
 

@@ -1,6 +1,13 @@
 //! Character references, and the names that a document uses.
 
-use crate::names::{COUNT, entry};
+ghost use Rattle.std.specs.Prelude.{◌≡◌, ◌==◌, IfSome, IsTrue};
+ghost use Rattle.std.specs.List.{before_first};
+ghost use Rattle.md_base.specs.Reference.{name_table};
+ghost use Rattle.md_references.specs.declared.names.TheConstants.{TEXT};
+ghost use Rattle.md_references.specs.Names.{are_html, has, html_references, name_and_text};
+ghost use Rattle.md_references.specs.Places.{IsBeforeEntry};
+
+use crate::names::{COUNT, LENGTHS, STARTS, TEXT};
 use md_base::decode_character_reference;
 use std::alloc::{AllocError, Global};
 use std::cmp::Ordering;
@@ -61,8 +68,7 @@ fn find(name: &[u8]) -> Option<usize> {
     let (mut low, mut high) = (0, COUNT);
     while low < high {
         let middle = low + (high - low) / 2;
-        let (entry, _) = split(middle)?;
-        match entry.cmp(name) {
+        match name_at(middle)?.cmp(name) {
             Ordering::Less => low = middle + 1,
             Ordering::Equal => return Some(middle),
             Ordering::Greater => high = middle,
@@ -71,11 +77,58 @@ fn find(name: &[u8]) -> Option<usize> {
     None
 }
 
+/// A name by its number.
+fn name_at(number: usize) -> Option<&'static [u8]> {
+    let start = usize::from(*STARTS.get(number)?);
+    let length = usize::from(*LENGTHS.get(number)?);
+    table().as_bytes().get(start..start.saturating_add(length))
+}
+
 /// A name by its number, and its text.
-fn split(number: usize) -> Option<(&'static [u8], &'static [u8])> {
-    let entry = entry(number)?;
-    let length = entry.iter().position(|byte| *byte == b';')?;
-    Some((entry.get(..length)?, entry.get(length..)?.get(1..)?))
+fn entry(number: usize) -> Option<(&'static str, &'static str)>
+    ensures { IfSome result (λ entry. IsTrue (has html_references (entry.0.now, entry.1.now))) }
+{
+    let start = usize::from(*STARTS.get(number)?);
+    let (before, rest) = table().split_at_checked(start)?;
+    if is_before_entry(before.as_bytes()) {
+        name_and_text(first_entry(rest))
+    } else {
+        None
+    }
+}
+
+/// Whether an entry begins after a text from the table's beginning.
+fn is_before_entry(text: &[u8]) -> bool
+    ensures { IsTrue result → IsBeforeEntry text.now }
+{
+    match text.split_last() {
+        Some((last, _)) => *last == 0,
+        None => true,
+    }
+}
+
+/// The entry at the beginning of a text.
+fn first_entry(text: &str) -> &str
+    ensures { result.now ≡ before_first (λ byte. byte == 0) text.now }
+{
+    match text.split_once('\0') {
+        Some((entry, _)) => entry,
+        None => text,
+    }
+}
+
+/// The name of an entry, and its text.
+fn name_and_text(entry: &str) -> Option<(&str, &str)>
+    ensures { IfSome result (λ parts. (parts.0.now, parts.1.now) ≡ name_and_text entry.now) }
+{
+    entry.split_once(';')
+}
+
+/// The whole table.
+fn table() -> &'static str
+    ensures { result.now ≡ TEXT.now }
+{
+    TEXT
 }
 
 /// Returns the text of a character reference, from its `&` to its `;`, or nothing if it isn't one.
@@ -97,11 +150,8 @@ pub fn text_of_reference(alloc: Global, reference: &[u8]) -> Result<String, Allo
             let digits = inner.get(1..).unwrap_or("");
             decode_character_reference(alloc, digits, b'#', &[])?
         }
-        name => match find(name).and_then(split) {
-            Some((_, text)) => {
-                let text = str::from_utf8(text).unwrap_or("");
-                Some(String::from_str(alloc, text)?)
-            }
+        name => match find(name).and_then(entry) {
+            Some((_, text)) => Some(String::from_str(alloc, text)?),
             None => None,
         },
     };
@@ -113,8 +163,9 @@ pub fn text_of_reference(alloc: Global, reference: &[u8]) -> Result<String, Allo
 pub struct UsedNames {
     /// Each name with its text.
     names: Vec<(&'static str, &'static str)>,
-    /// Their numbers.
-    numbers: Vec<usize>,
+    /// For each name of HTML whether it is among them; empty before the first.
+    are_used: Vec<bool>,
+    pub ghost html: { IsTrue (are_html (name_table names.items)) },
 }
 
 impl UsedNames {
@@ -122,12 +173,14 @@ impl UsedNames {
     pub fn new(alloc: Global) -> UsedNames {
         UsedNames {
             names: Vec::new(alloc),
-            numbers: Vec::new(alloc),
+            are_used: Vec::new(alloc),
         }
     }
 
     /// The names, each with its text.
-    pub fn as_slice(&self) -> &[(&'static str, &'static str)] {
+    pub fn as_slice(&self) -> &[(&'static str, &'static str)]
+        ensures html { IsTrue (are_html (name_table result.now)) }
+    {
         self.names.as_slice()
     }
 
@@ -140,14 +193,18 @@ impl UsedNames {
         let Some(number) = find(name) else {
             return Ok(());
         };
-        if self.numbers.contains(&number) {
+        if self.are_used.is_empty() {
+            self.are_used.resize(COUNT, false)?;
+        }
+        let Some(is_used) = self.are_used.get_mut(number) else {
+            return Ok(());
+        };
+        if *is_used {
             return Ok(());
         }
-        if let Some((name, text)) = split(number) {
-            if let (Ok(name), Ok(text)) = (str::from_utf8(name), str::from_utf8(text)) {
-                self.names.push((name, text))?;
-                self.numbers.push(number)?;
-            }
+        *is_used = true;
+        if let Some(entry) = entry(number) {
+            self.names.push(entry)?;
         }
         Ok(())
     }
