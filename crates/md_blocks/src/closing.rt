@@ -17,13 +17,22 @@ impl<'a> Pass<'a> {
         self.nesting.close_to(depth, self.at)
     }
 
-    /// Prepares for a child that is no item: closes the containers that didn't match, and a list.
+    /// Prepares for a child that is no item: closes the containers that didn't match, and a list,
+    /// and writes the blank line before the child.
     pub(crate) fn make_room(&mut self, depth: usize) -> Result<(), AllocError>
+        ensures { OnOk result (vec_len self.new.nesting.stack ≤ depth) }
+    {
+        self.make_room_for_text(depth)?;
+        self.put_blank_line()
+    }
+
+    /// The same for a paragraph. The blank line before it is written with it, since it isn't a
+    /// child if it has only definitions.
+    pub(crate) fn make_room_for_text(&mut self, depth: usize) -> Result<(), AllocError>
         ensures { OnOk result (vec_len self.new.nesting.stack ≤ depth) }
     {
         self.close_unmatched(depth)?;
         self.nesting.close_list(self.at)?;
-        self.put_blank_line()?;
         self.nesting.note_child();
         Ok(())
     }
@@ -101,6 +110,7 @@ impl<'a> Pass<'a> {
         ensures { vec_len self.new.nesting.stack ≡ vec_len self.old.nesting.stack }
     {
         if self.take_definitions()? {
+            self.put_blank_line()?;
             let lines = self.leaf_lines();
             return self.nesting.put(Block::Paragraph(lines));
         }

@@ -73,6 +73,8 @@ impl<'a> Pass<'a> {
         requires shallow { depth < 96 }
         ensures goes_on { IfOk result (λ has_begun. IsTrue has_begun
             → position.old.at < position.new.at) }
+        ensures not_code { IfOk result (λ has_begun. IsTrue has_begun
+            → position.new.indent ≡ 0) }
         ensures same_line { position.new.line ≡ position.old.line }
     {
         let Some(label) = footnote_label(position.line, position.text) else {
@@ -84,6 +86,7 @@ impl<'a> Pass<'a> {
         let open = open_block(ContainerKind::FootnoteDefinition);
         self.nesting.enter(Block::EnterFootnote { label }, open)?;
         position.pass(label.end + 2 - position.text);
+        position.pass_blanks();
         Ok(true)
     }
 

@@ -3,7 +3,7 @@
 use crate::label::{folded_bytes, folded_label};
 use md_lines::{Cursor, Line, Place, Span, Title, read_destination, read_label, read_title};
 use std::alloc::{AllocError, Global};
-use std::collections::{BTreeMap, BTreeSet};
+use std::collections::BTreeMap;
 
 /// The maximum number of bytes of a short destination and title.
 const MOST_AGAIN: usize = 256;
@@ -31,7 +31,9 @@ pub struct Definition {
 pub struct Definitions {
     list: Vec<Definition>,
     by_label: BTreeMap<String, usize>,
-    footnotes: BTreeSet<String>,
+    /// The first footnote with each label, by its number among all footnotes.
+    footnotes: BTreeMap<String, usize>,
+    footnote_count: usize,
 }
 
 impl Definitions {
@@ -39,7 +41,8 @@ impl Definitions {
         Definitions {
             list: Vec::new(alloc),
             by_label: BTreeMap::new(alloc),
-            footnotes: BTreeSet::new(alloc),
+            footnotes: BTreeMap::new(alloc),
+            footnote_count: 0,
         }
     }
 
@@ -81,23 +84,29 @@ impl Definitions {
         }
     }
 
-    /// Whether a footnote is defined with a label, which is a range of the document.
+    /// How many definitions of footnotes there are.
+    pub fn footnote_count(&self) -> usize {
+        self.footnote_count
+    }
+
+    /// Returns the first footnote that is defined with a label, which is a range of the document:
+    /// its number among all definitions of footnotes, in document order, from 0.
     ///
     /// # Errors
     ///
     /// Returns an error only if memory runs out.
-    pub fn has_footnote(
+    pub fn find_footnote(
         &self,
         alloc: Global,
         bytes: &[u8],
         label: Span,
-    ) -> Result<bool, AllocError> {
+    ) -> Result<Option<usize>, AllocError> {
         if self.footnotes.is_empty() {
-            return Ok(false);
+            return Ok(None);
         }
         match folded_bytes(alloc, bytes.get(label.start..label.end).unwrap_or(&[]))? {
-            Some(label) => Ok(self.footnotes.contains(label.as_str())),
-            None => Ok(false),
+            Some(label) => Ok(self.footnotes.get(label.as_str()).copied()),
+            None => Ok(None),
         }
     }
 
@@ -108,11 +117,15 @@ impl Definitions {
         bytes: &[u8],
         label: Span,
     ) -> Result<(), AllocError> {
+        let index = self.footnote_count;
+        self.footnote_count = index.saturating_add(1);
         if let Some(label) = folded_bytes(
             alloc,
             bytes.get(label.start..label.end).unwrap_or(&[]),
         )? {
-            self.footnotes.insert(label)?;
+            if self.footnotes.get(label.as_str()).is_none() {
+                self.footnotes.insert(label, index)?;
+            }
         }
         Ok(())
     }

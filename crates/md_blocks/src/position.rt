@@ -110,6 +110,19 @@ impl<'a> Position<'a> {
         self.indent = indent;
     }
 
+    /// Skips the spaces and tabs.
+    #[inline(always)]
+    pub(crate) fn pass_blanks(&mut self)
+        ensures at { self.new.at ≡ self.old.text }
+        ensures indent { self.new.indent ≡ 0 }
+        ensures line { self.new.line ≡ self.old.line }
+    {
+        self.at = self.text;
+        self.column = self.column.wrapping_add(self.indent);
+        self.is_in_tab = false;
+        self.indent = 0;
+    }
+
     /// Skips the mark of a quote, and a column of space after it.
     #[inline(always)]
     pub(crate) fn pass_quote_mark(&mut self)

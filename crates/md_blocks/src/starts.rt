@@ -158,6 +158,7 @@ impl<'a> Pass<'a> {
         if !self.take_definitions()? {
             return Ok(false);
         }
+        self.put_blank_line()?;
         self.lines.push(Line::part(marks.start, marks.end))?;
         self.leaf = OpenLeaf::None;
         let lines = self.leaf_lines();
@@ -210,12 +211,11 @@ impl<'a> Pass<'a> {
             OpenLeaf::Paragraph => {}
             OpenLeaf::Table { columns } if is_whole && self.takes_row(columns, position) => {}
             _ => {
-                self.make_room(depth)?;
+                self.make_room_for_text(depth)?;
                 self.begin(OpenLeaf::Paragraph);
             }
         }
         self.lines.push(position.text_line())?;
-        self.blank_line = None;
         Ok(())
     }
 
@@ -253,9 +253,9 @@ impl<'a> Pass<'a> {
             self.begin(OpenLeaf::None);
             self.lines.push(head)?;
         }
+        self.put_blank_line()?;
         self.leaf = OpenLeaf::Table { columns };
         self.lines.push(position.text_line())?;
-        self.blank_line = None;
         Ok(true)
     }
 }

@@ -1,6 +1,6 @@
 //! Reads brackets: links, images and calls of footnotes.
 
-ghost use Rattle.std.specs.Prelude.{◌≡◌, OnOk, IfOk, false, vec_len};
+ghost use Rattle.std.specs.Prelude.{◌≡◌, OnOk, IfOk, IfNone, None, false, vec_len};
 
 use crate::reader::Reader;
 use md_lines::{Cursor, Place, Span, Title, read_destination, read_label, read_title};
@@ -94,8 +94,8 @@ impl<'a> Reader<'a> {
         if is_inactive {
             return Ok(here);
         }
-        if self.is_footnote_call(leaf, &open, here)? {
-            return self.put_footnote_call(&open, here);
+        if let Some(footnote) = self.called_footnote(leaf, &open, here)? {
+            return self.put_footnote_call(&open, here, footnote);
         }
         match self.find_target(leaf, &open, here)? {
             Some(found) => self.put_link(&open, here, &found),
@@ -103,35 +103,41 @@ impl<'a> Reader<'a> {
         }
     }
 
-    /// Whether a bracket that ends there is a call of a footnote.
-    fn is_footnote_call(
+    /// The number of the footnote that a bracket which ends there calls.
+    fn called_footnote(
         &mut self,
         leaf: &Leaf,
         open: &Bracket,
         here: Place,
-    ) -> Result<bool, AllocError>
+    ) -> Result<Option<usize>, AllocError>
         ensures off { self.old.options.now.footnotes ≡ false
-            → IfOk result (λ is_call. is_call ≡ false) }
+            → IfOk result (λ footnote. footnote ≡ None) }
     {
         let text = leaf.bytes.get(open.inside.at..here.at).unwrap_or(b"");
         let is_label = text.starts_with(b"^") && text.len() <= MOST_OF_LABEL;
         if !is_label || open.has_bracket || open.inside.line != here.line {
-            return Ok(false);
+            return Ok(None);
         }
         if !self.options.footnotes {
-            return Ok(false);
+            return Ok(None);
         }
         let label = Span::new(open.inside.at.saturating_add(1), here.at);
-        self.definitions.has_footnote(self.alloc, leaf.bytes, label)
+        self.definitions
+            .find_footnote(self.alloc, leaf.bytes, label)
     }
 
     /// Changes an open bracket and its content to a call of a footnote. A `!` before it is text.
-    fn put_footnote_call(&mut self, open: &Bracket, here: Place) -> Result<Place, AllocError> {
+    fn put_footnote_call(
+        &mut self,
+        open: &Bracket,
+        here: Place,
+        footnote: usize,
+    ) -> Result<Place, AllocError> {
         let start = open.inside.at.saturating_sub(1);
         let after = here.at.saturating_add(1);
         self.tokens.truncate(open.token);
         self.delimiters.truncate(open.delimiters);
-        self.push(Mark::FootnoteCall, start, after, 0)?;
+        self.push(Mark::FootnoteCall, start, after, footnote)?;
         self.from = after;
         Ok(Place {
             line: here.line,
@@ -231,11 +237,7 @@ fn read_resource(leaf: &Leaf, place: Place) -> Option<Found> {
     }
     cursor.skip_spaces();
     let destination = read_destination(&mut cursor)?;
-    let title = if cursor.skip_spaces() {
-        read_title(&mut cursor)
-    } else {
-        None
-    };
+    let title = read_spaced_title(&mut cursor);
     cursor.skip_spaces();
     if !cursor.take(b')') {
         return None;
@@ -244,4 +246,24 @@ fn read_resource(leaf: &Leaf, place: Place) -> Option<Found> {
         target: Target::Resource(destination, title),
         end: cursor.place(),
     })
+}
+
+/// Reads spaces and a title after them. If there is none, or it has no end, the cursor doesn't move.
+fn read_spaced_title(cursor: &mut Cursor<'_>) -> Option<Title>
+    ensures stays { IfNone result (cursor.new ≡ cursor.old) }
+{
+    // Most links have no title.
+    if cursor.peek() == Some(b')') {
+        return None;
+    }
+    let before = *cursor;
+    if !cursor.skip_spaces() {
+        *cursor = before;
+        return None;
+    }
+    let title = read_title(cursor);
+    if title.is_none() {
+        *cursor = before;
+    }
+    title
 }

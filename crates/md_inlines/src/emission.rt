@@ -2,6 +2,7 @@
 
 ghost use Rattle.std.specs.Prelude.{◌≡◌, false, not, true, OnOk};
 
+use crate::calls::Calls;
 use crate::links::write_label_start;
 use crate::reader::Reader;
 use crate::source::Source;
@@ -44,6 +45,7 @@ pub(crate) struct LeafContext<'e> {
     pub(crate) leaf: &'e Leaf<'e>,
     pub(crate) source: &'e Source<'e>,
     pub(crate) reader: &'e Reader<'e>,
+    pub(crate) calls: &'e mut Calls,
     /// How many links are open.
     pub(crate) links: usize,
     /// How many images are open.
@@ -58,11 +60,13 @@ pub(crate) fn write_tokens(
     reader: &Reader,
     leaf: &Leaf,
     source: &Source,
+    calls: &mut Calls,
 ) -> Result<(), AllocError> {
     let mut context = LeafContext {
         leaf,
         source,
         reader,
+        calls,
         links: 0,
         images: 0,
         spans: 0,
@@ -121,7 +125,7 @@ impl<'e> LeafContext<'e> {
                 let end = self.leaf.end(token.index);
                 writer.leaf(Name::LineEnding, end, self.leaf.next(token.index))
             }
-            Mark::FootnoteCall => self.write_call(writer, start, end),
+            Mark::FootnoteCall => self.write_call(writer, token),
             Mark::Url => {
                 self.write_url_link(writer, start.saturating_add(1), end.saturating_sub(1))
             }
@@ -241,7 +245,7 @@ impl<'e> LeafContext<'e> {
             match bare_link(text, from, at) {
                 Some(link) => {
                     writer.data(from, link.start)?;
-                    writer.leaf(link.name, link.start, link.end)?;
+                    self.write_link(writer, link.name, link.start, link.end)?;
                     from = link.end;
                     at = link.end.max(at.saturating_add(1));
                 }
@@ -323,7 +327,7 @@ fn bare_link(text: &[u8], low: usize, at: usize) -> Option<BareLink> {
     match text.get(at) {
         Some(b'@') => address(text, low, at, high),
         Some(b':') => url(text, low, at, high),
-        Some(_) => www(text, low, at, high),
+        Some(_) => www(text, 0, low, at, high),
         None => None,
     }
 }

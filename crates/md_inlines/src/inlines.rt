@@ -1,5 +1,6 @@
 //! The inline pass over the leaves of a document.
 
+use crate::calls::Calls;
 use crate::emission::write_tokens;
 use crate::reader::Reader;
 use crate::source::Source;
@@ -18,7 +19,9 @@ use std::alloc::{AllocError, Global};
 pub struct Inlines<'a> {
     source: Source<'a>,
     definitions: &'a Definitions,
+    options: &'a MarkdownOptions,
     reader: Reader<'a>,
+    calls: Calls,
 }
 
 impl<'a> Inlines<'a> {
@@ -42,8 +45,38 @@ impl<'a> Inlines<'a> {
                 base,
             },
             definitions,
+            options,
             reader: Reader::new(alloc, definitions, options),
+            calls: Calls::new(alloc),
         }
+    }
+
+    /// Enters the next definition of a footnote: the next leaves belong to it.
+    ///
+    /// # Errors
+    ///
+    /// Returns an error only if memory runs out.
+    pub fn enter_footnote(&mut self) -> Result<(), AllocError> {
+        self.calls.enter()
+    }
+
+    /// Exits the innermost definition of a footnote.
+    pub fn exit_footnote(&mut self) {
+        self.calls.exit();
+    }
+
+    /// Drops the footnotes that nothing calls, or only dropped ones: no call in them is one. Returns
+    /// whether they have calls, so that the whole document must be written again.
+    ///
+    /// # Errors
+    ///
+    /// Returns an error only if memory runs out.
+    pub fn drop_uncalled(&mut self) -> Result<bool, AllocError> {
+        if !self.calls.drop_uncalled()? {
+            return Ok(false);
+        }
+        self.reader = Reader::new(self.source.alloc, self.definitions, self.options);
+        Ok(true)
     }
 
     /// Writes the events of a leaf.
@@ -70,7 +103,19 @@ impl<'a> Inlines<'a> {
         first: usize,
     ) -> Result<(), AllocError> {
         self.reader.read(leaf, first)?;
-        write_tokens(writer, &self.reader, leaf, &self.source)
+        write_tokens(writer, &self.reader, leaf, &self.source, &mut self.calls)
+    }
+
+    /// Writes the events of a cell of a table, in which a bar has a backslash before it.
+    ///
+    /// # Errors
+    ///
+    /// Returns an error only if memory runs out.
+    pub fn write_cell(&mut self, writer: &mut Writer, text: Line) -> Result<(), AllocError> {
+        self.reader.is_cell = true;
+        self.write_leaf(writer, &[text])?;
+        self.reader.is_cell = false;
+        Ok(())
     }
 
     /// Writes the events of a text in which only escapes and character references are read.

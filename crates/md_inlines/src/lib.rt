@@ -2,6 +2,7 @@
 #![tactic(auto)]
 
 mod brackets;
+mod calls;
 mod emission;
 mod inlines;
 mod links;

@@ -12,7 +12,7 @@ use md_writer::Writer;
 use std::alloc::AllocError;
 
 impl<'e> LeafContext<'e> {
-    /// Writes an autolink; inside a link it is text.
+    /// Writes an autolink; inside a link it is text. NUL in a URL is U+FFFD, as in text.
     pub(crate) fn write_link(
         &self,
         writer: &mut Writer,
@@ -20,7 +20,13 @@ impl<'e> LeafContext<'e> {
         start: usize,
         end: usize,
     ) -> Result<(), AllocError> {
-        let name = if self.links > 0 { Name::Data } else { name };
+        if self.links > 0 {
+            return writer.leaf(Name::Data, start, end);
+        }
+        let text = self.leaf.bytes.get(start..end).unwrap_or(b"");
+        if text.contains(&0) {
+            return self.write_link_to_text(writer, start, end, false);
+        }
         writer.leaf(name, start, end)
     }
 
@@ -39,28 +45,42 @@ impl<'e> LeafContext<'e> {
         if self.links > 0 {
             return write_url(writer, bytes, start, end);
         }
+        self.write_link_to_text(writer, start, end, true)
+    }
+
+    /// Writes a link whose destination is its text, with the character references in it if
+    /// `has_references`.
+    fn write_link_to_text(
+        &self,
+        writer: &mut Writer,
+        start: usize,
+        end: usize,
+        has_references: bool,
+    ) -> Result<(), AllocError> {
+        let bytes = self.leaf.bytes;
         write_label_start(writer, Name::Link, start, start)?;
-        write_url(writer, bytes, start, end)?;
+        write_url_text(writer, bytes, start, end, has_references)?;
         writer.exit(Name::LabelText, end)?;
         writer.exit(Name::Label, end)?;
         writer.enter(Name::Resource, start)?;
         writer.enter(Name::ResourceDestinationString, start)?;
-        write_url(writer, bytes, start, end)?;
+        write_url_text(writer, bytes, start, end, has_references)?;
         writer.exit(Name::ResourceDestinationString, end)?;
         writer.exit(Name::Resource, end)?;
         writer.exit(Name::Link, end)
     }
 
-    /// Writes a call of a footnote; inside a link it is text.
+    /// Writes a call of a footnote; inside a link, and in a dropped footnote, it is text.
     pub(crate) fn write_call(
-        &self,
+        &mut self,
         writer: &mut Writer,
-        start: usize,
-        end: usize,
+        token: &Token,
     ) -> Result<(), AllocError> {
-        if self.links > 0 {
+        let (start, end) = (token.start, token.end);
+        if self.links > 0 || self.calls.is_dropped() {
             return writer.leaf(Name::Data, start, end);
         }
+        self.calls.note(token.index)?;
         writer.enter(Name::GfmFootnoteCall, start)?;
         writer.enter(Name::Label, start)?;
         writer.leaf(
@@ -136,6 +156,21 @@ impl<'e> LeafContext<'e> {
             }
             None => Ok(()),
         }
+    }
+}
+
+/// Writes the text of a URL, with the character references in it if `has_references`.
+fn write_url_text(
+    writer: &mut Writer,
+    bytes: &[u8],
+    start: usize,
+    end: usize,
+    has_references: bool,
+) -> Result<(), AllocError> {
+    if has_references {
+        write_url(writer, bytes, start, end)
+    } else {
+        writer.data(start, end)
     }
 }
 

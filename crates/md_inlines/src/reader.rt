@@ -37,6 +37,8 @@ pub(crate) struct Reader<'a> {
     pub(crate) no_www_before: usize,
     /// Whether texts may contain bare links that aren't tokens.
     pub(crate) has_late_links: bool,
+    /// Whether the leaf is the cell of a table.
+    pub(crate) is_cell: bool,
 }
 
 impl<'a> Reader<'a> {
@@ -62,6 +64,7 @@ impl<'a> Reader<'a> {
             endings: Endings::new(),
             no_www_before: 0,
             has_late_links: false,
+            is_cell: false,
         }
     }
 

@@ -18,7 +18,8 @@ impl<'a> Reader<'a> {
     pub(crate) fn read_dot(&mut self, leaf: &Leaf, here: Place) -> Result<Place, AllocError>
         ensures off { self.old.options.now.bare_links ≡ false → OnOk result (self.new ≡ self.old) }
     {
-        let low = self.from.max(leaf.start(here.line));
+        let line = leaf.start(here.line);
+        let low = self.from.max(line);
         let may_begin = self.options.bare_links && here.at >= self.no_www_before;
         if !may_begin || !is_www(leaf.bytes, low, here.at) {
             return Ok(here);
@@ -28,7 +29,7 @@ impl<'a> Reader<'a> {
             return Ok(here);
         }
         let end = leaf.end(here.line);
-        match www(leaf.bytes, low, here.at, end) {
+        match www(leaf.bytes, line, low, here.at, end) {
             Some(link) => self.put(here.line, Mark::BareWww, link.start, link.end),
             None => {
                 self.no_www_before = domain_end(leaf.until_end(here.line), here.at);
@@ -76,8 +77,15 @@ impl<'a> Reader<'a> {
 
     /// Reads a backslash: an escape, or a break at the end of a line.
     pub(crate) fn read_escape(&mut self, leaf: &Leaf, here: Place) -> Result<Place, AllocError> {
-        let after = here.at.saturating_add(1);
-        if let Some(byte) = leaf.rest(here).get(1) {
+        let rest = leaf.rest(here);
+        // In a cell the backslash before a bar was added to it, and another one escapes it.
+        let length = if self.is_cell && rest.starts_with(b"\\\\|") {
+            2
+        } else {
+            1
+        };
+        let after = here.at.saturating_add(length);
+        if let Some(byte) = rest.get(1) {
             if !is(*byte, Class::Punctuation) {
                 return Ok(here);
             }

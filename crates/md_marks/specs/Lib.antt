@@ -1,2 +1,3 @@
--- The definitions that the contracts of runs of marks cite.
+-- The definitions that the contracts of runs of marks and of bare links cite.
+pub mod BareLinks
 pub mod Emphasis

@@ -39,11 +39,14 @@ fn url_length(text: &[u8], colon: usize) -> Option<usize> {
     if !begins_well || has_wrong_length || !protocol.iter().all(|byte| is_of_protocol(*byte)) {
         return None;
     }
-    let length = text
-        .iter()
-        .take_while(|byte| **byte > b' ' && !matches!(**byte, b'<' | b'>' | 127))
-        .count();
+    let length = text.iter().take_while(|byte| is_of_url(**byte)).count();
     matches!(text.get(length), Some(b'>')).then_some(length)
+}
+
+/// Whether a byte may occur in a URL: no space, angle bracket or control character except NUL,
+/// which is printed as U+FFFD.
+fn is_of_url(byte: u8) -> bool {
+    byte == 0 || (byte > b' ' && !matches!(byte, b'<' | b'>' | 127))
 }
 
 /// Whether a byte may occur in the name of a protocol.

@@ -1,7 +1,9 @@
 //! Finds bare URLs and addresses in text, as GitHub flavored Markdown defines them.
 
-ghost use Rattle.std.specs.Prelude.{◌≤◌, length};
+ghost use Rattle.std.specs.Prelude.{◌≡◌, ◌≤◌, ◌<◌, ◌-◌, ◌^◌, length};
+ghost use Rattle.md_marks.specs.BareLinks.{goes_on, link_length, open_after};
 
+use crate::characters::{CharacterClass, class_after};
 use md_base::Name;
 use md_lines::{Class, is};
 
@@ -28,6 +30,9 @@ pub fn url(bytes: &[u8], low: usize, colon: usize, high: usize) -> Option<BareLi
     if !scheme.eq_ignore_ascii_case(b"http") && !scheme.eq_ignore_ascii_case(b"https") {
         return None;
     }
+    if !matches!(class_after(rest), CharacterClass::Word) {
+        return None;
+    }
     domain_length(rest, false)?;
     let end = link_end(bytes, start, high)?;
     let is_long = end > colon.saturating_add(3);
@@ -38,17 +43,19 @@ pub fn url(bytes: &[u8], low: usize, colon: usize, high: usize) -> Option<BareLi
     })
 }
 
-/// The link that begins with `www.`, whose first full stop is at `dot`. It begins at `low` or later
-/// and ends before `high`.
-pub fn www(bytes: &[u8], low: usize, dot: usize, high: usize) -> Option<BareLink> {
+/// The link that begins with `www.`, whose first full stop is at `dot`. It begins at `low` or later,
+/// in a line from `line` to `high`, and ends before NUL.
+pub fn www(bytes: &[u8], line: usize, low: usize, dot: usize, high: usize) -> Option<BareLink> {
     if !is_www(bytes, low, dot) {
         return None;
     }
     let start = dot.checked_sub(3)?;
-    if !may_begin(bytes, start) {
+    if !may_begin(bytes.get(line..start).unwrap_or(b"")) {
         return None;
     }
-    domain_length(bytes.get(start..high)?, true)?;
+    let text = bytes.get(start..high)?;
+    let high = start.saturating_add(text.iter().take_while(|byte| **byte != 0).count());
+    domain_length(text, true)?;
     let end = link_end(bytes, start, high)?;
     let is_long = end > dot.saturating_add(1);
     is_long.then_some(BareLink {
@@ -70,14 +77,13 @@ pub fn is_www(bytes: &[u8], low: usize, dot: usize) -> bool {
     }
 }
 
-/// Whether a link that begins with `www.` may begin at `start`, by the byte before it.
-fn may_begin(bytes: &[u8], start: usize) -> bool {
-    let before = bytes.get(..start).unwrap_or(b"");
+/// Whether a link that begins with `www.` may begin after a text of its line.
+fn may_begin(before: &[u8]) -> bool {
     match before.last() {
         None => true,
         Some(byte) => matches!(
             *byte,
-            b' ' | b'\t' | b'\n' | b'\r' | b'*' | b'_' | b'~' | b'(' | b'|' | b'[' | b'>'
+            b' ' | b'\t' | b'\n' | b'\r' | b'*' | b'_' | b'~' | b'(' | b'['
         ),
     }
 }
@@ -98,16 +104,19 @@ pub fn address(bytes: &[u8], low: usize, at: usize, high: usize) -> Option<BareL
     let start = at.checked_sub(name_length)?;
     let rest = bytes.get(at..high)?.get(1..)?;
     let host_length = host_length(rest)?;
+    if matches!(rest.get(host_length), Some(b'@')) {
+        return None;
+    }
     let head = bytes.get(low..start)?;
     let end = at.saturating_add(1).saturating_add(host_length);
-    if ends_in(head, b"mailto:") {
+    if ends_in_protocol(head, b"mailto:") {
         return Some(BareLink {
             name: Name::GfmAutolinkLiteralMailto,
             start: start.saturating_sub(7),
             end,
         });
     }
-    if ends_in(head, b"xmpp:") {
+    if ends_in_protocol(head, b"xmpp:") {
         return Some(BareLink {
             name: Name::GfmAutolinkLiteralXmpp,
             start: start.saturating_sub(5),
@@ -121,11 +130,10 @@ pub fn address(bytes: &[u8], low: usize, at: usize, high: usize) -> Option<BareL
     })
 }
 
-/// Whether a text ends in a word, in any case.
-fn ends_in(text: &[u8], word: &[u8]) -> bool {
-    let start = text.len().saturating_sub(word.len());
-    match text.get(start..) {
-        Some(end) => end.eq_ignore_ascii_case(word),
+/// Whether a text ends in a protocol, with no letter or digit before it.
+fn ends_in_protocol(text: &[u8], protocol: &[u8]) -> bool {
+    match text.strip_suffix(protocol) {
+        Some(before) => !matches!(before.last(), Some(byte) if byte.is_ascii_alphanumeric()),
         None => false,
     }
 }
@@ -167,7 +175,7 @@ fn resource_length(text: &[u8], from: usize) -> usize {
     };
     let length = resource
         .iter()
-        .take_while(|byte| byte.is_ascii_alphanumeric() || matches!(**byte, b'@' | b'.'))
+        .take_while(|byte| byte.is_ascii_alphanumeric() || matches!(**byte, b'@' | b'.' | b'/'))
         .count();
     match resource.get(..length) {
         Some(text) if !text.is_empty() => trimmed_length(text).saturating_add(1),
@@ -202,16 +210,52 @@ fn domain_length(text: &[u8], needs_dot: bool) -> Option<usize> {
     (is_domain && length > 0).then_some(length)
 }
 
-/// The end of a link from `start`: before white space, `<` or `high`, and before marks that belong
-/// to the surrounding text.
+/// The end of a link from `start`: before white space, `<`, a closing bracket that it doesn't open,
+/// or `high`, and before marks that belong to the surrounding text.
 fn link_end(bytes: &[u8], start: usize, high: usize) -> Option<usize> {
     let rest = bytes.get(start..high)?;
-    let length = rest
-        .iter()
-        .take_while(|byte| !matches!(**byte, b' ' | b'\t' | b'\n' | b'\r' | b'<'))
-        .count();
-    let link = rest.get(..length)?;
+    let link = rest.get(..link_length(rest))?;
     Some(start.saturating_add(trimmed_length(link)))
+}
+
+/// The length of the bare link that begins a text, before its end is trimmed.
+fn link_length(text: &[u8]) -> usize
+    ensures within { result ≤ length text.now }
+    ensures value { result ≡ link_length 0 text.now }
+{
+    let mut depth: usize = 0;
+    let mut length = 0;
+    while length < text.len() && goes_on(depth, text[length]) {
+        depth = open_after(depth, text[length]);
+        length += 1;
+    }
+    length
+}
+
+/// Whether a bare link with so many open brackets contains the next byte: no white space, no `<`,
+/// and no bracket that closes none of them.
+#[inline(always)]
+fn goes_on(depth: usize, byte: u8) -> bool
+    ensures { result ≡ goes_on depth byte }
+{
+    match byte {
+        b' ' | b'\t' | b'\n' | b'\r' | b'<' => false,
+        b']' => depth > 0,
+        _ => true,
+    }
+}
+
+/// How many brackets are open after a byte.
+#[inline(always)]
+fn open_after(depth: usize, byte: u8) -> usize
+    requires { depth < 2 ^ 64 - 1 }
+    ensures { result ≡ open_after depth byte }
+{
+    match byte {
+        b'[' => depth + 1,
+        b']' => depth.saturating_sub(1),
+        _ => depth,
+    }
 }
 
 /// The length of a link without the marks at its end that belong to the surrounding text:

@@ -51,7 +51,7 @@ pub struct Token {
     /// Its end, as a byte index.
     pub end: usize,
     /// For code, math, HTML and a line ending the line in which it begins; for the end of a link or
-    /// an image the index of its target.
+    /// an image the index of its target; for the call of a footnote the footnote's number.
     pub index: usize,
 }
 
