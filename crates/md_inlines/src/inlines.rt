@@ -46,7 +46,7 @@ impl<'a> Inlines<'a> {
             },
             definitions,
             options,
-            reader: Reader::new(alloc, definitions, options),
+            reader: Reader::new(alloc, bytes, definitions, options),
             calls: Calls::new(alloc),
         }
     }
@@ -87,7 +87,7 @@ impl<'a> Inlines<'a> {
     pub fn write_leaf(&mut self, writer: &mut Writer, lines: &[Line]) -> Result<(), AllocError> {
         let leaf = Leaf::new(self.source.bytes, lines);
         let (start, end) = (leaf.start(0), leaf.end(0));
-        let first = self.reader.marks.next(leaf.bytes, start, end);
+        let first = self.reader.marks.next(start, end);
         if lines.len() == 1 && first >= end {
             return writer.data(start, end);
         }

@@ -16,7 +16,7 @@ pub(crate) struct Reader<'a> {
     pub(crate) definitions: &'a Definitions,
     pub(crate) options: &'a MarkdownOptions,
     /// The marks of the document near the place that was read last.
-    pub(crate) marks: Marks,
+    pub(crate) marks: Marks<'a>,
     /// The tokens of the leaf so far.
     pub(crate) tokens: Vec<Token>,
     /// The start of the text after the last token.
@@ -44,6 +44,7 @@ pub(crate) struct Reader<'a> {
 impl<'a> Reader<'a> {
     pub(crate) fn new(
         alloc: Global,
+        bytes: &'a [u8],
         definitions: &'a Definitions,
         options: &'a MarkdownOptions,
     ) -> Reader<'a> {
@@ -51,7 +52,7 @@ impl<'a> Reader<'a> {
             alloc,
             definitions,
             options,
-            marks: Marks::new(),
+            marks: Marks::new(bytes),
             tokens: Vec::new(alloc),
             from: 0,
             delimiters: Delimiters::new(alloc),
@@ -105,7 +106,7 @@ impl<'a> Reader<'a> {
         let text = leaf.until_end(place.line);
         let mut from = place.at;
         while from < text.len() {
-            let at = self.marks.next(leaf.bytes, from, text.len());
+            let at = self.marks.next(from, text.len());
             let Some(byte) = text.get(at).copied() else {
                 break;
             };

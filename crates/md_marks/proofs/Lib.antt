@@ -1,0 +1,2 @@
+pub mod MarkBits
+pub mod MarkTables

@@ -2,7 +2,7 @@
 use Rattle.std.specs.Prelude.{ℕ, Bool, true, false, ◌+◌, ◌%◌, ◌==◌, ◌&&◌, ◌||◌, not, nat_lt}
 use Rattle.std.specs.Prelude.{if◌then◌else◌}
 use Rattle.md_marks.specs.declared.characters.CharacterClass.{CharacterClass}
-use Rattle.md_marks.specs.declared.characters.CharacterClass.TheVariants.{Space, Punctuation, Word}
+use Rattle.md_marks.specs.declared.characters.CharacterClass.TheVariants.{Space, Punctuation}
 use Rattle.md_marks.specs.declared.delimiters.Delimiter.{Delimiter}
 
 -- whether a character is white space

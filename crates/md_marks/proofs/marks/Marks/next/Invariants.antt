@@ -1,12 +1,11 @@
--- The index never decreases, and each iteration of the inner loop removes a mark.
-use Rattle.std.proofs.Common.{◌-◌, ◌≤◌}
+-- No mark is passed.
+use Rattle.std.proofs.Common.{◌≡◌, ◌-◌, ◌≤◌}
+use Rattle.md_marks.proofs.MarkBits.{NoneBetween}
 use Rattle.md_marks.proofs.marks.Marks.next.Given as goal
 
 abbrev pub invariant-loop-at : goal.invariant-loop-at
-invariant-loop-at l = l.fn.from ≤ l.at
+invariant-loop-at l =
+    (l.fn.from ≤ l.at) × (l.self ≡ l.fn.self) × NoneBetween l.bytes l.fn.from l.at l.end
 
 abbrev pub decreases-loop-at : goal.decreases-loop-at
 decreases-loop-at l = l.end - l.at
-
-abbrev pub decreases-loop-bits : goal.decreases-loop-bits
-decreases-loop-bits l = l.bits
