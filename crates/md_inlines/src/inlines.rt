@@ -75,7 +75,12 @@ impl<'a> Inlines<'a> {
         if !self.calls.drop_uncalled()? {
             return Ok(false);
         }
-        self.reader = Reader::new(self.source.alloc, self.definitions, self.options);
+        self.reader = Reader::new(
+            self.source.alloc,
+            self.source.bytes,
+            self.definitions,
+            self.options,
+        );
         Ok(true)
     }
 
