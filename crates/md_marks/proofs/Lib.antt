@@ -1,2 +1,3 @@
+pub mod CharacterLemmas
 pub mod MarkBits
 pub mod MarkTables
