@@ -23,7 +23,7 @@ SHAPES = [
     "dropped-links",
     "footnote-links", "table", "footnote-table", "centred-table", "footnote-centred", "calls",
     "short-calls", "folded-calls", "dropped-folded-calls", "dropped-prefixes", "labels",
-    "folded-labels", "images",
+    "folded-labels", "images", "names",
 ]
 SIZES = [1_000, 10_000, 100_000, 1_000_000]
 LIMITS = [10_000, 1_000_000]

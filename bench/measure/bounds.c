@@ -4,7 +4,8 @@
    usage: bounds SHAPE DOCUMENT COUNT TEXT WORK
 
    DOCUMENT bytes, some COUNT nodes, the limits TEXT and WORK. The bytes are `"`, in shapes whose
-   labels are folded U+0390, which becomes three letters. Prints the status, the text's length,
+   labels are folded U+0390, which becomes three letters, and in that of names of references numbers
+   of eight digits, each of them a name. Prints the status, the text's length,
    the seconds of a processor, the most memory of the process in kB, before the call and after it,
    and how many events there were. */
 #include "bivdrazo.h"
@@ -140,6 +141,27 @@ static void calls(size_t nodes, size_t length) {
     }
 }
 
+/* References to names of eight bytes each. */
+static void named(size_t nodes, size_t length) {
+    for (size_t i = 0; i < nodes && 8 * i + 8 <= length; i++) {
+        leaf(NAME(CHARACTER_REFERENCE_MARKER), 0, 0);
+        leaf(NAME(CHARACTER_REFERENCE_VALUE), 8 * i, 8 * i + 8);
+    }
+}
+
+/* Writes numbers of eight digits, out of order, over a document, and lists each as a name. */
+static size_t list_names(bivdrazo_reference *names, uint8_t *document, size_t length) {
+    size_t names_count = length / 8;
+    for (size_t i = 0; i < names_count; i++) {
+        char digits[9];
+        snprintf(digits, sizeof digits, "%08zu", i * 7919 % names_count % 100000000);
+        memcpy(document + 8 * i, digits, 8);
+        bivdrazo_reference name = {document + 8 * i, 8, document + 8 * i, 1};
+        names[i] = name;
+    }
+    return names_count;
+}
+
 /* Whether a shape has labels that grow when they are folded. */
 static int folded(const char *shape) { return strstr(shape, "folded") != NULL; }
 
@@ -226,6 +248,8 @@ static int make(const char *shape, size_t length, size_t nodes) {
             put(2, NAME(REFERENCE_STRING), 1);
             out(NAME(IMAGE));
         }
+    } else if (!strcmp(shape, "names")) {
+        named(nodes / 2, length);
     } else if (!strcmp(shape, "code")) {
         in(NAME(CODE_FENCED));
         in(NAME(CODE_FENCED_FENCE));
@@ -264,14 +288,23 @@ int main(int given, char **words) {
         bivdrazo_text prefix = {document, length, 1};
         options.gfm_footnote_clobber_prefix = prefix;
     }
+    bivdrazo_reference *names = NULL;
+    size_t names_count = 0;
+    if (!strcmp(words[1], "names")) {
+        names = malloc((length / 8 + 1) * sizeof *names);
+        if (names == NULL) return 2;
+        names_count = list_names(names, document, length);
+    }
     bivdrazo_limits limits = {strtoull(words[4], NULL, 10), strtoull(words[5], NULL, 10), 0};
     long before = peak();
     clock_t began = clock();
     bivdrazo_answer answer = bivdrazo_compile_within_alloc(events, count, document, length,
-                                                           &options, NULL, 0, &limits, &text);
+                                                           &options, names, names_count,
+                                                           &limits, &text);
     double seconds = (double)(clock() - began) / CLOCKS_PER_SEC;
     printf("%u %zu %.6f %ld %ld %zu\n", answer.status, answer.length, seconds, before, peak(),
            count);
     free(text);
+    free(names);
     return 0;
 }

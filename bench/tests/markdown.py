@@ -21,6 +21,7 @@ missing, the part is left out, which is reported. The status is 1 if something i
 """
 
 import glob
+import html.entities
 import pathlib
 import re
 import resource
@@ -54,6 +55,7 @@ MEMORY = 400
 MEGABYTES = 64
 OFFSETS = 40
 OPTIONS = ("--math", "--base=http://a/b/c", "--html=without-comments")
+NAMES = sorted(name for name in html.entities.html5 if name.endswith(";"))
 MOST_DEPTH = 96
 MOST_NESTED = 32
 
@@ -242,6 +244,7 @@ SHAPES = {
     "addresses": lambda n: times(n, "a.b@"),
     "hosts of addresses": lambda n: times(n, "a@b."),
     "character references": lambda n: times(n, "&amp;&#1;&x;"),
+    "all names of references": lambda n: "".join(map("&{}".format, NAMES)) + times(n, "&lt;&gt;"),
     "spaces in lines": lambda n: times(n, " " * 1000 + "\n"),
     "spaces in a line": lambda n: "a" + " " * n + "b",
     "tabs": lambda n: times(n, "\t- "),

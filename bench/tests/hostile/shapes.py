@@ -138,6 +138,18 @@ def definitions(size):
     return document, f"<p>{text}</p>"
 
 
+def references(size):
+    """A table of names out of order, each with a text of its own, and a reference to each."""
+    document = Document()
+    document.lines.append("".join(f"=n{number} t{number}\n" for number in shuffled(size)))
+    document.add("+Paragraph")
+    for number in range(size):
+        document.add("+CharacterReferenceMarker", "&", "-CharacterReferenceMarker",
+                     "+CharacterReferenceValue", f"n{number}", "-CharacterReferenceValue", ";")
+    document.add("-Paragraph")
+    return document, "<p>" + "".join(f"t{number}" for number in range(size)) + "</p>"
+
+
 def footnote(label, text):
     """A footnote on a line of its own."""
     return [*LINE, "+GfmFootnoteDefinition", "+GfmFootnoteDefinitionPrefix", "[^",
@@ -208,7 +220,7 @@ def scaled(shape, size):
 
 
 OWN = {shape.__name__: partial(written, shape)
-       for shape in (quotes, lists, emphasis, links, images, definitions, footnotes,
+       for shape in (quotes, lists, emphasis, links, images, definitions, references, footnotes,
                      calls_of_one_footnote)}
 # The longest come first.
 SHAPES = dict(reversed(OWN.items())) | {f"{way} of {shape.name}": partial(scaled, shape)
