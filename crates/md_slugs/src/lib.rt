@@ -5,14 +5,16 @@ mod chosen;
 mod free;
 mod slugging;
 
-ghost use Rattle.std.specs.Prelude.{◌≡◌, ℕ, List, IsTrue, IfOk, map, length, string_bytes};
+ghost use Rattle.std.specs.Prelude.{◌≡◌, ℕ, List, IsTrue, IfOk, true, false, map, length};
+ghost use Rattle.std.specs.Prelude.{string_bytes};
+ghost use Rattle.md_text.specs.Encode.{encoded};
 ghost use Rattle.md_text.specs.Ids.{are_distinct};
 ghost use Rattle.md_safe.specs.Token.{Token};
 ghost use Rattle.md_safe.specs.Tokenizer.{IsTokenized};
 ghost use Rattle.md_page.specs.Added.{headings_of};
 ghost use Rattle.md_page.specs.Attributed.{IsAttributed};
 ghost use Rattle.md_page.specs.Built.{IsBuiltAsWritten};
-ghost use Rattle.md_page.specs.GivenIds.{with_given_ids};
+ghost use Rattle.md_page.specs.GivenIds.{is_among, with_given_ids, written_id};
 ghost use Rattle.md_page.specs.Headings.{listed};
 ghost use Rattle.md_page.specs.Ids.{ids_among};
 
@@ -40,8 +42,9 @@ pub struct WithHeadingSlugs {
 /// whatever the HTML Standard's tokenizer emits for the input, it emits for the output the same
 /// tokens with these attributes added.
 ///
-/// If the `id`s of the input all differ, those of the output do, whatever the headings and the
-/// prefix are. If tree construction builds the input as it is written, it builds the output so.
+/// The ids that headings get differ from one another and from all `id`s of the input, whatever these
+/// are. So if the `id`s of the input all differ, those of the output do, whatever the headings and
+/// the prefix are. If tree construction builds the input as it is written, it builds the output so.
 ///
 /// # Errors
 ///
@@ -67,6 +70,11 @@ pub fn with_heading_slugs<H: Html>(
         → map listed after.headings.items ≡ headings_of x) }
     ensures ids { IfOk result
         (λ after. length after.ids.items ≡ length after.headings.items) }
+    ensures differ { IfOk result
+        (λ after. IsTrue (are_distinct (map written_id (map string_bytes after.ids.items)))) }
+    ensures free { IfOk result (λ after. (x : List Token) → IsTokenized (H.text html.now) x
+        → (id : List ℕ) → IsTrue (is_among id (ids_among x))
+        → is_among (encoded true id) (map written_id (map string_bytes after.ids.items)) ≡ false) }
     ensures distinct { IfOk result (λ after. (x : List Token) → IsTokenized (H.text html.now) x
         → IsTrue (are_distinct (ids_among x)) → IsTrue (are_distinct (ids_among
         (with_given_ids (map string_bytes after.ids.items) x)))) }
