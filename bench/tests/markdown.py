@@ -46,8 +46,9 @@ KNOWN_IN_COMMONMARK = {
 COMMONMARK = "/usr/share/cargo/registry/pulldown-cmark-*/tests/suite/spec.rs"
 EXAMPLE = re.compile(r'let original = r##"(.*?)"##;\s*let expected = r##"(.*?)"##;', re.DOTALL)
 WITHOUT = ("--no-bare-links", "--no-tables", "--no-footnotes")
-CASE = re.compile(r"`([^`]+)`\s+gives\s+`([^`]+)`,(?:\s+and\s+cmark-gfm\s+`([^`]+)`"
+CASE = re.compile(r"(`` .+? ``|`[^`]+`)\s+gives\s+`([^`]+)`,(?:\s+and\s+cmark-gfm\s+`([^`]+)`"
                   r"|\s+as\s+cmark-gfm)")
+CHARACTERS = (("\\n", "\n"), ("\\t", "\t"), ("\\0", "\0"))
 EXTENSIONS = ("footnotes", "table", "strikethrough", "autolink", "tasklist")
 SIZE = 100_000
 GROWTH = 12
@@ -169,7 +170,7 @@ def by_gfm(text):
 
 def is_like(pattern, text):
     """Whether a text matches a case: `\\n` means a line feed, `..` any text."""
-    parts = pattern.replace("\\n", "\n").split("..")
+    parts = pattern.replace("\\n", "\n").replace("\\t", "\t").split("..")
     return re.fullmatch(".*".join(map(re.escape, parts)), text.rstrip("\n"), re.DOTALL) is not None
 
 
@@ -179,9 +180,12 @@ def choices(program):
     faults, count = [], 0
     for section in re.split(r"^## ", page, flags=re.MULTILINE):
         options = re.search(r"Options of these cases: `([^`]+)`", section)
-        for given, own, other in CASE.findall(section):
+        for code, own, other in CASE.findall(section):
             count += 1
-            text = given.replace("\\n", "\n").replace("\\t", "\t").encode("utf-8") + b"\n"
+            given = code[3:-3] if code.startswith("``") else code[1:-1]
+            for name, character in CHARACTERS:
+                given = given.replace(name, character)
+            text = given.encode("utf-8") + b"\n"
             html = framed(program, [text], *(options[1].split() if options else ()))[0]
             ways = [("mdhtml", own, "" if html is None else html.decode("utf-8"))]
             if shutil.which("cmark-gfm"):
@@ -226,6 +230,10 @@ SHAPES = {
     "one definition again": lambda n: times(n, "[a]: b\n"),
     "definitions without an end": lambda n: times(n, "[a]: b 'c\n"),
     "labels without an end": lambda n: times(n, "[a\n"),
+    "footnotes that nothing shows": lambda n:
+    "".join(f"[^{i}]: [^{i + 1}]\n\n" for i in range(n // 16)),
+    "footnotes that nothing shows, the last first": lambda n:
+    "".join(f"[^{i + 1}]: [^{i}]\n\n" for i in range(n // 16)),
     "calls of a footnote": lambda n: times(n, "[^a]") + "\n\n[^a]: b\n",
     "tags without an end": lambda n: times(n, "<a b='"),
     "comments without an end": lambda n: times(n, "x <!-- "),
@@ -240,6 +248,7 @@ SHAPES = {
     "www in a bracket": lambda n: "[" + times(n, "_www.a_b."),
     "bare links": lambda n: times(n, "http://a_b.c_d "),
     "a bare link with parentheses": lambda n: "http://a.b/" + "(" * (n // 2) + ")" * (n // 2 + 9),
+    "a bare link with brackets": lambda n: "[http://a.b/" + "[" * (n // 2) + "]" * (n // 2 + 9),
     "a bare link with references": lambda n: "http://a.b/" + times(n, "&a;"),
     "addresses": lambda n: times(n, "a.b@"),
     "hosts of addresses": lambda n: times(n, "a@b."),

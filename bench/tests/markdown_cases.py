@@ -19,13 +19,15 @@ AS_GFM = [
     "- a\n- b\n\n  [r]: /u\n- d\n", "- # a\n- b\n", "- a\n  # b\n  c\n", "3. a\n\n   b\n-\n",
     "- a\n-\nb\n", "- > - a\n", "-\ta\n\n\tb\n", "- ***\n- a\n",
     # Leaves.
-    "~~~ r\n x\n\n~~~\ny", "```\na\n", "```r s\na\n```\n", "`````\n```\n`````\n", "``` a`b\n",
+    "~~~ r\n x\n\n~~~\ny", "- ```\n  a\n ", "- ```\n\n ", " ```\n ", " ```\n\n\n ", "- ~~~\n\n\t",
+    "> - ```\n>   a\n> ", "```\na\n", "```r s\na\n```\n", "`````\n```\n`````\n", "``` a`b\n",
     "  ```\n   a\n b\n  ```\n", "~~~ a`b ~ c\nd\n~~~~\ne\n", "\ta\n\n\t b\n\nc\n",
     "    a\n\n\n    b\n\n", "a\n    b\n", "# a #\n####### b\n", "#\n## \n###\ta\t##\t\n",
     "# a \\#\n# b#\n#c\n", "a\nb\n=\nc\n---\n***\n", "a\n=b\n=\n", "=\n\na\n\n---\n",
     "* * *\n_ _ _\n-- -\n--\n", "|\n|-\n", "|\n|-|\n", "|a|\n|-\n", "a | b\n:-|-\n1 | 2\n|\n> d\n",
     "|a|b|\n|:-|-:|\n|c\n", "|a|\n|:-:|\n|b|c|\n\nd\n", "|a|b|\n|-|\n", "| a \\| b |\n| - |\n",
     "a\n|b|\n|-|\n|c|\n", "- |a|\n  |-|\n  |b|\n", "|a|\n|-|\n```\nb\n```\n",
+    "|a\\\\|b|\n|-|\n|\\|c\\\\\\|\\\\\\\\|d|\n", "\\\\|a\n",
     "<div>\n*a*\n\n<!-- b\n\nc -->\nd\n", "<b>\n*c*\n</b>\n\nd\n", "a\n<b>\nc\n", "a\n<div>\nb\n",
     "<script>\n\na\n</script> b\nc\n", "<?a\n\nb?>\nc\n", "<!A\n\nb>\nc\n",
     "<![CDATA[\n\na]]>\nb\n", "<b c='d'\n", "</b>\na\n", "<DIV\na\n", "> <div>\na\n",
@@ -34,15 +36,37 @@ AS_GFM = [
     "[A\nb]: /x\n[a B]: /y\n\n[a b] [c][A B]\n", "[a]: <>\n\n[a]\n", "[a]:\n/b\n'c'\n\n[a]\n",
     "[a]: b 'c' d\n\n[a]\n", "a\n[b]: c\n\n[b]\n", "[a]\n\n[a]: <b\\>c> (d)\n",
     "# [a]\n[a]: b\n> c\n", "[\u1e9e]\n\n[SS]: /a\n", "[ ]: a\n", "[a]: \n\n[a]\n",
+    # Definitions at an end of a list make no list loose.
+    "- a\n- b\n\n  [x]: /y\n", "- a\n\n  [x]: /y\n\nc [x]\n", "- a\n- b\n\n  [x]: /y\n- c\n",
+    "- a\n  - b\n\n    [x]: /y\n", "- a\n  - b\n\n  [x]: /y\n", "> - a\n>\n>   [x]: /y\n",
+    "- a\n\n  [x]: /y\n\n  b\n", "- a\n\n  [x]: /y\n  # b\n", "- a\n  # b\n\n  [x]: /y\n",
+    "- a\n  - b\n\n    [x]: /y\n- c\n", "- a\n\n  b\n  ===\n", "- a\n\n  |b|\n  |-|\n",
+    # NUL is U+FFFD in labels and URLs too.
+    "[a\ufffdb] [c\0]\n\n[a\0b]: /d\n[c\ufffd]: /e\n", "[a\0\nb]\n\n[a\ufffd b]: /c\n",
+    "<http://a\0b>\n", "http://a\0b.c/\0&amp;\n", "[a](b\0c) ![d](<e\0>)\n\n[f\0]: g\0 'h\0'\n",
     # Footnotes.
+    "x[^1]\n\n[^1]:    text\n", "x[^1]\n\n[^1]:\t\ttext\n\n    more\n",
+    "x[^1]\n\n[^1]:      - a\n      b\n",
+    "x[^1]\n\n> [^1]:     # a\n", "x[^1][^2]\n\n[^1]:     [^2]:     a\n",
+    "x[^1]\n\n[^1]:     \n      a\n",
+    # What is dropped calls nothing.
+    "a\n\n[^1]: b[^2]\n\n[^2]: c\n", "a[^3]\n\n[^1]: b[^2]\n\n[^2]: c\n\n[^3]: d\n",
+    "[^1]: b[^3]\n\n[^3]: d\n\na[^3]\n", "a[^1]\n\n[^1]: b\n\n    [^2]: c[^1]\n", "[^1]: b[^1]\n",
+    "[^1]: b[^2]\n\n[^2]: c[^1]\n", "[^1]: b\n\n    [^2]: c\n\na[^2]\n",
     "[^a]: b\n\n    c\n\nd[^a]\n", "[^A] [^a]\n\n[^a]: b\n", "> [^a]: b\n\n[^a]\n", "[^a]\n",
     "a[^b]\n\n[^b]: - c\n", "[^a]: b\n", "a[^a][^a]\n\n[^a]: b\n",
     # Tasks.
+    "- [ ] \n", "- [ ] \n- [x] \n- c\n", "- [ ] \n  a\n", "- [ ] \n  - a\n", "1. [x]  \n\na\n",
     "- [x] a\n- [ ] b\n- [X] c\n", "- [y] a\n- [x]b\n", "1. [x] a\n", "[x] a\n",
     # Links in angle brackets.
     "<a+b:c>d\n", "<a:b>\n", "<ab:c d>\n", "<a!b@c-d.e>\n", "<a@-b>\n", "<a@b.>\n", "<@b>\n",
     "<http://a.b?c&amp;d>\n", "<http://a\\b>\n", "<irc://a>\n",
     # Bare links.
+    "x>www.a.b x|www.c.d <e>www.f.g\n", "a |www.b.c\n", ">www.a.b\n>www.c.d\n",
+    "|a|www.b.c|\n|-|-|\n",
+    "nmailto:a@b.c 1xmpp:d@e.f (mailto:g@h.i)\n", "MAILTO:a@b.c Xmpp:d@e.f\n",
+    "a@b.c@d a@b.c@d.e\n",
+    "http://-a.b http://.c http://\u2014d.e http://\u00e9.f\n", "https://a.b/[c] https://a.b/[c\n",
     "x https://a.b/(c)). d\n", "irc://a\n", "http://a_b.c\n", "(www.a.b&amp;)\n", "xwww.a.b\n",
     "a.b+c@d.e-\n", "a.b+c@d.e.\n", "www.a.bc.\n", "www.a.bc/d_e_f*\n", "mailto:a@b.c\n",
     "http://a.b<c\n", "*www.a.bc*\n", "~www.a.bc~\n", "www.a_b.cd\n", "www.a.b_c\n",
@@ -55,7 +79,12 @@ AS_GFM = [
     "**a *b***\n", "*a_b*c `` ` `` \\*\n", "***a** b*\n", "***a* b**\n", "*a **b*\n", "**a*b**c*\n",
     "a**b\n", "__a__b__\n", "_a*b_c*\n", "****a****\n", "*a\nb*\n", "~~a~~b~\n", "~~~a~~~\n",
     "~a~~b~\n", "[a](<b c> 'd') ![e*f*][g]\n\n[g]: /h\n", "[a [b](c) d](e)\n", "![a [b](c) d](e)\n",
-    "[a](b\n'c\nd')\n", "[a] (b)\n", "[a](b c)\n", '[a](b"c")\n', '[a](\\(b\\) "\\"")\n',
+    "[a](b \")\n", "[a](b \"this text stays\n) more\n", "[a](b ')\n", "![a](b \")\n",
+    "# [a](<b> ')\n",
+    "|[a](b \")|\n|-|\n", "- [a](b \")\n", "x[^1]\n\n[^1]: [a](b \")\n", "[a](b (c)\n",
+    "[a](b (c(d) e\n",
+    "[a](b \"c\nd)\n", "[a](b\n')\n", "[a](b 'c) [d](e 'f')\n", "[a](b\n'c\nd')\n", "[a] (b)\n",
+    "[a](b c)\n", '[a](b"c")\n', '[a](\\(b\\) "\\"")\n',
     "[a](b(c)d)\n", "[a](b(c)\n", "[*a](b)*\n", "<https://a?b&amp;c> &copy;\n", "a  \nb\\\nc\nd\n",
     "a   \n\nb\\\n", "`a\nb`\n", "`` a ``` b ``\n", "` `` `\n", "`  `\n", "\\a\\!\\\\\n",
     "\u00e9  \nb\u00e9\n",
@@ -87,8 +116,48 @@ BY_OPTIONS = [
         ("&#1234567; &#12345678; &#xabcdef; &#xabcdef0;\n",
          "<p>\ufffd &amp;#12345678; \ufffd &amp;#xabcdef0;</p>\n"),
     ]),
+    # A bare link ends before a closing bracket that it doesn't open.
+    ((), [
+        ("[https://a.b]\n", '<p>[<a href="https://a.b">https://a.b</a>]</p>\n'),
+        ("[see https://a.b/[c], and www.d.e.]f\n",
+         '<p>[see <a href="https://a.b/%5Bc%5D">https://a.b/[c]</a>, and <a '
+         'href="http://www.d.e">www.d.e</a>.]f</p>\n'),
+        ("[https://a.b](c d) [https://a.b][c]\n",
+         '<p>[<a href="https://a.b">https://a.b</a>](c d) [<a '
+         'href="https://a.b">https://a.b</a>][c]</p>\n'),
+        ("https://a.b/c]d [e [f](g) https://h.i]\n",
+         '<p><a href="https://a.b/c">https://a.b/c</a>]d [e <a href="g">f</a> <a '
+         'href="https://h.i">https://h.i</a>]</p>\n'),
+    ]),
+    # A bare link begins with its protocol.
+    ((), [
+        (".mailto:a@b.c\n", '<p>.<a href="mailto:a@b.c">mailto:a@b.c</a></p>\n'),
+        ("www.! www.)\n", "<p>www.! www.)</p>\n"),
+    ]),
+    # NUL ends a bare link that begins with `www.`, and a label of a footnote has none.
+    ((), [
+        ("www.a.b\0c\n", '<p><a href="http://www.a.b">www.a.b</a>\ufffdc</p>\n'),
+        ("[^a\0]\n\n[^a\0]: b\n", '<p><a href="b">^a\ufffd</a></p>\n'),
+    ]),
+    # No footnote is shown that only footnotes call which aren't shown.
+    ((), [
+        ("[^a]: [^b]\n\n[^b]: [^c]\n\n[^c]: [^d]\n\n[^d]: e\n\nwww.f.gh\n",
+         '<p><a href="http://www.f.gh">www.f.gh</a></p>\n'),
+        ("[^a]: b[^c]\n\n[^a]: d[^e]\n\n[^c]: f\n\n[^e]: g\n\nh\n", "<p>h</p>\n"),
+    ]),
+    # A tab before HTML stays.
+    ((), [
+        (">\t<div>\n>\ta\n", "<blockquote>\n\t&lt;div&gt;\n\ta\n</blockquote>\n"),
+        ("- <div>\n\ta\n", "<ul>\n<li>\n&lt;div&gt;\n\ta\n</li>\n</ul>\n"),
+    ]),
+    (("--html=without-comments",), [
+        (">\t<!-- a -->b\n", "<blockquote>\n\tb\n</blockquote>\n"),
+    ]),
     # Math.
     (("--math",), [
+        ("- $$\n  a\n ",
+         '<ul>\n<li>\n<pre><code class="language-math math-display">a\n\n</code></pre>\n</li>\n'
+         '</ul>\n'),
         ("$a$ $$b$$ $ c$ $d $ $e$f\n",
          '<p><code class="language-math math-inline">a</code> <code class="language-math '
          'math-inline">b</code> $ c$ $d $ $e$f</p>\n'),

@@ -1,5 +1,6 @@
 //! Code and math blocks.
 
+use crate::endings::ending_before;
 use md_base::Name;
 use md_inlines::Writer;
 use md_lines::Line;
@@ -44,6 +45,7 @@ impl Run {
 /// Writes lines with their endings, one node for each run of adjacent lines.
 pub(crate) fn write_chunks(
     writer: &mut Writer,
+    bytes: &[u8],
     lines: &[Line],
     name: Name,
 ) -> Result<(), AllocError> {
@@ -57,6 +59,12 @@ pub(crate) fn write_chunks(
         } else {
             writer.leaf_in_tab(name, run.start, run.columns, run.next)?;
             run = Run::new(line);
+        }
+    }
+    if run.start == run.next {
+        // The document ends in a line of indentation alone, which has the ending of the one before.
+        if let Some((from, to)) = ending_before(bytes, run.start) {
+            return writer.leaf(name, from, to);
         }
     }
     writer.leaf_in_tab(name, run.start, run.columns, run.next)

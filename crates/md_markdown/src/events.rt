@@ -67,13 +67,18 @@ pub(crate) fn write_events(
         is_after_bare: false,
     };
     emission.write_blocks(writer)?;
+    if emission.inlines.drop_uncalled()? {
+        *writer = Writer::new(alloc, bytes.len());
+        emission.write_blocks(writer)?;
+    }
     emission.inlines.write_definitions(writer)?;
     write_last_ending(writer, bytes)
 }
 
 impl<'a> Emission<'a> {
     fn write_blocks(&mut self, writer: &mut Writer) -> Result<(), AllocError> {
-        for block in self.blocks.tape.iter() {
+        self.is_after_bare = false;
+        for (index, block) in self.blocks.tape.iter().enumerate() {
             match block {
                 Block::EnterQuote { start } => self.enter_quote(writer, *start)?,
                 Block::EnterList { is_ordered, start } => {
@@ -82,7 +87,10 @@ impl<'a> Emission<'a> {
                 Block::EnterItem { digits, start } => self.enter_item(writer, *digits, *start)?,
                 Block::EnterFootnote { label } => self.enter_footnote(writer, *label)?,
                 Block::Exit { kind, is_empty, at } => self.exit(writer, *kind, *is_empty, *at)?,
-                Block::Task { is_checked, start } => write_task(writer, *is_checked, *start)?,
+                Block::Task { is_checked, start } => {
+                    let is_alone = self.ends_after(index);
+                    write_task(writer, *is_checked, *start, is_alone)?
+                }
                 Block::Paragraph(range) => self.write_paragraph(writer, *range)?,
                 Block::AtxHeading { level, span } => self.write_atx(writer, *level, *span)?,
                 Block::SetextHeading(range) => self.write_setext(writer, *range)?,
@@ -98,6 +106,15 @@ impl<'a> Emission<'a> {
             }
         }
         Ok(())
+    }
+
+    /// Whether a container ends after the block with an index, or after definitions that follow it.
+    fn ends_after(&self, index: usize) -> bool {
+        let following = self.blocks.tape.get(index.saturating_add(1)..);
+        matches!(
+            following.unwrap_or(&[]),
+            [Block::Exit { .. }, ..] | [Block::Definitions { .. }, Block::Exit { .. }, ..]
+        )
     }
 
     /// Begins a container.
@@ -145,6 +162,7 @@ impl<'a> Emission<'a> {
 
     fn enter_footnote(&mut self, writer: &mut Writer, label: Span) -> Result<(), AllocError> {
         self.begin_container(writer, false)?;
+        self.inlines.enter_footnote()?;
         write_footnote_start(writer, label)
     }
 
@@ -163,7 +181,10 @@ impl<'a> Emission<'a> {
             ContainerKind::Quote => Name::BlockQuote,
             ContainerKind::OrderedList => Name::ListOrdered,
             ContainerKind::UnorderedList => Name::ListUnordered,
-            ContainerKind::FootnoteDefinition => Name::GfmFootnoteDefinition,
+            ContainerKind::FootnoteDefinition => {
+                self.inlines.exit_footnote();
+                Name::GfmFootnoteDefinition
+            }
             ContainerKind::Item => Name::ListItem,
         };
         writer.exit(name, at)

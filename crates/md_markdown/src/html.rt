@@ -29,10 +29,11 @@ pub(crate) fn write_html(writer: &mut Writer, lines: &[Line]) -> Result<(), Allo
     writer.exit(Name::HtmlFlow, run.end)
 }
 
-/// Writes lines of HTML, if they aren't empty.
+/// Writes lines of HTML, if they aren't empty. A tab of which only some columns belong to them is
+/// written whole.
 fn write_html_run(writer: &mut Writer, run: Run) -> Result<(), AllocError> {
-    if run.start < run.end || run.columns > 0 {
-        writer.leaf_in_tab(Name::HtmlFlowData, run.start, run.columns, run.end)?;
+    if run.start < run.end {
+        writer.leaf(Name::HtmlFlowData, run.start, run.end)?;
     }
     Ok(())
 }
@@ -40,17 +41,10 @@ fn write_html_run(writer: &mut Writer, run: Run) -> Result<(), AllocError> {
 /// A part of a block of HTML.
 #[derive(Clone, Copy, Debug, PartialEq, Eq)]
 pub(crate) enum Piece {
-    /// A part of a line, which begins so many columns after the beginning of a tab.
-    Text {
-        start: usize,
-        columns: u8,
-        end: usize,
-    },
+    /// A part of a line.
+    Text { start: usize, end: usize },
     /// A line ending.
-    Ending {
-        start: usize,
-        end: usize,
-    },
+    Ending { start: usize, end: usize },
 }
 
 /// The parts of a block outside its comments. A comment extends from `<!--` to `-->`, or to the
@@ -99,7 +93,7 @@ fn push_line(
             is_inside = false;
         } else {
             let start = find(bytes, at, line.end, b"<!--");
-            push_text(pieces, line, at, start.unwrap_or(line.end))?;
+            push_text(pieces, at, start.unwrap_or(line.end))?;
             let Some(start) = start else {
                 return Ok(false);
             };
@@ -111,19 +105,9 @@ fn push_line(
 }
 
 /// Adds a part of a line, if it isn't empty.
-fn push_text(
-    pieces: &mut Vec<Piece>,
-    line: &Line,
-    start: usize,
-    end: usize,
-) -> Result<(), AllocError> {
+fn push_text(pieces: &mut Vec<Piece>, start: usize, end: usize) -> Result<(), AllocError> {
     if start < end {
-        let columns = if start == line.start { line.columns } else { 0 };
-        pieces.push(Piece::Text {
-            start,
-            columns,
-            end,
-        })?;
+        pieces.push(Piece::Text { start, end })?;
     }
     Ok(())
 }
@@ -144,7 +128,7 @@ fn find(bytes: &[u8], from: usize, end: usize, mark: &[u8]) -> Option<usize>
 /// Whether pieces contain anything except white space.
 pub(crate) fn has_text(bytes: &[u8], pieces: &[Piece]) -> bool {
     pieces.iter().any(|piece| match piece {
-        Piece::Text { start, end, .. } => !is_white(bytes.get(*start..*end).unwrap_or(b"")),
+        Piece::Text { start, end } => !is_white(bytes.get(*start..*end).unwrap_or(b"")),
         Piece::Ending { .. } => false,
     })
 }
@@ -166,11 +150,7 @@ pub(crate) fn write_pieces(
     writer.enter(Name::HtmlFlow, at)?;
     for piece in pieces {
         match piece {
-            Piece::Text {
-                start,
-                columns,
-                end,
-            } => writer.leaf_in_tab(Name::HtmlFlowData, *start, *columns, *end)?,
+            Piece::Text { start, end } => writer.leaf(Name::HtmlFlowData, *start, *end)?,
             Piece::Ending { start, end } => writer.leaf(Name::LineEnding, *start, *end)?,
         }
     }

@@ -70,7 +70,7 @@ impl<'a> Emission<'a> {
             writer.exit(Name::CodeFencedFenceInfo, info.end)?;
         }
         writer.exit(Name::CodeFencedFence, info.end)?;
-        write_chunks(writer, lines, Name::CodeFlowChunk)?;
+        write_chunks(writer, self.bytes, lines, Name::CodeFlowChunk)?;
         writer.leaf(Name::CodeFencedFence, info.end, info.end)?;
         writer.exit(Name::CodeFenced, info.end)
     }
@@ -84,7 +84,7 @@ impl<'a> Emission<'a> {
         let lines = self.blocks.lines_of(range);
         let (start, end) = ends_of(lines);
         writer.enter(Name::CodeIndented, start)?;
-        write_chunks(writer, lines, Name::CodeFlowChunk)?;
+        write_chunks(writer, self.bytes, lines, Name::CodeFlowChunk)?;
         writer.exit(Name::CodeIndented, end)
     }
 
@@ -119,7 +119,7 @@ impl<'a> Emission<'a> {
         let start = fence.start;
         writer.enter(Name::MathFlow, start)?;
         writer.leaf(Name::MathFlowFence, start, start)?;
-        write_chunks(writer, lines, Name::MathFlowChunk)?;
+        write_chunks(writer, self.bytes, lines, Name::MathFlowChunk)?;
         writer.leaf(Name::MathFlowFence, start, start)?;
         writer.exit(Name::MathFlow, start)
     }

@@ -24,12 +24,24 @@ pub(crate) fn write_item_start(
     writer.exit(Name::ListItemPrefix, after)
 }
 
-/// Writes a box, `[ ]` or `[x]`, and the space after it.
+/// Writes a box, `[ ]` or `[x]`, and the space after it. If the item has nothing else, they are a
+/// paragraph, so that no line ending follows in a tight list.
 pub(crate) fn write_task(
     writer: &mut Writer,
     is_checked: bool,
     start: usize,
+    is_alone: bool,
 ) -> Result<(), AllocError> {
+    if !is_alone {
+        return write_box(writer, is_checked, start);
+    }
+    writer.enter(Name::Paragraph, start)?;
+    write_box(writer, is_checked, start)?;
+    writer.exit(Name::Paragraph, start.saturating_add(4))
+}
+
+/// Writes a box and the space after it.
+fn write_box(writer: &mut Writer, is_checked: bool, start: usize) -> Result<(), AllocError> {
     let after = start.saturating_add(3);
     writer.enter(Name::GfmTaskListItemCheck, start)?;
     if is_checked {

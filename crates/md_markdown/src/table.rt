@@ -85,7 +85,7 @@ fn write_cell(
     let end = trim_end(bytes, start, bar).max(start);
     writer.enter(Name::GfmTableCell, start)?;
     if start < end {
-        inlines.write_leaf(writer, &[Line::part(start, end)])?;
+        inlines.write_cell(writer, Line::part(start, end))?;
     }
     writer.exit(Name::GfmTableCell, end)
 }
