@@ -7,7 +7,7 @@ import os
 from collections import Counter
 from functools import partial
 
-from asking import answers, told
+from asking import answers, common_answer, questions, told
 from scaled_shapes import SHAPES as SCALED
 
 # The number of levels or items of a shape: for nested nodes each power of two below the greatest,
@@ -139,15 +139,19 @@ def definitions(size):
 
 
 def references(size):
-    """A table of names out of order, each with a text of its own, and a reference to each."""
+    """A table of names out of order, half of which stand in it again with another text, and a
+    reference to each name: the question, the number of events, and the text.
+    """
+    names = [(f"n{number}", f"t{number}") for number in shuffled(size)]
     document = Document()
-    document.lines.append("".join(f"=n{number} t{number}\n" for number in shuffled(size)))
     document.add("+Paragraph")
     for number in range(size):
         document.add("+CharacterReferenceMarker", "&", "-CharacterReferenceMarker",
                      "+CharacterReferenceValue", f"n{number}", "-CharacterReferenceValue", ";")
     document.add("-Paragraph")
-    return document, "<p>" + "".join(f"t{number}" for number in range(size)) + "</p>"
+    text = "<p>" + "".join(f"t{number}" for number in range(size)) + "</p>"
+    again = [(name, "again") for name, _ in names[:size // 2]]
+    return questions([*names, *again], document.script()), 2 + 4 * size, text.encode()
 
 
 def footnote(label, text):
@@ -220,11 +224,11 @@ def scaled(shape, size):
 
 
 OWN = {shape.__name__: partial(written, shape)
-       for shape in (quotes, lists, emphasis, links, images, definitions, references, footnotes,
+       for shape in (quotes, lists, emphasis, links, images, definitions, footnotes,
                      calls_of_one_footnote)}
 # The longest come first.
-SHAPES = dict(reversed(OWN.items())) | {f"{way} of {shape.name}": partial(scaled, shape)
-                                        for way, shape in SCALED}
+SHAPES = {"names of references": references} | dict(reversed(OWN.items())) | {
+    f"{way} of {shape.name}": partial(scaled, shape) for way, shape in SCALED}
 
 
 def fault(answer, text):
@@ -236,10 +240,24 @@ def fault(answer, text):
     return f"another text, from byte {at} on: wanted {wanted!r}, answered {stands!r}"
 
 
+def ask_references(programs):
+    """The same as `ask` for names of references, which `mdevents` doesn't take."""
+    sizes = [*SMALL, GREATEST]
+    made = [references(size) for size in sizes]
+    said = answers(programs.cases, [(f"names, {size}", given)
+                                    for size, (given, _, _) in zip(sizes, made)])
+    found = [(size, fault(common_answer(answer, events) or answer, text))
+             for size, answer, (_, events, text) in zip(sizes, said, made)]
+    return Counter(shapes=len(sizes)), [f"names of references, {size}: {wrong}"
+                                        for size, wrong in found if wrong]
+
+
 def ask(programs, name):
     """How many texts of a shape were tested, and the faults; for the greatest size of the shapes
     above, `mdevents` is tested too.
     """
+    if SHAPES[name] is references:
+        return ask_references(programs)
     sizes = SIZES.get(name.split()[0], [*SMALL, GREATEST])
     made = [SHAPES[name](size) for size in sizes]
     titles = [f"{name}, {size}" for size in sizes]
