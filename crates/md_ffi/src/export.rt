@@ -369,8 +369,8 @@ pub extern "C" fn bivdrazo_markdown_into(
     options: &CMarkdownOptions,
     buffer: &mut [u8],
 ) -> Answer
-    // The text is that of the document, and safe, with these attributes; the list of headings
-    // follows.
+    // The text is made of the document, under the given options and with HTML's names of character
+    // references, and it is safe, with these attributes; the list of headings follows.
     ensures text { HandsOver (IsMarkdownText text.now options.now result.index)
         buffer.old buffer.new result }
     ensures told { TellsOfMarkdown text.now options.now result }

@@ -9,7 +9,6 @@ use crate::targets::write_definition;
 use md_blocks::{Definitions, MarkdownOptions};
 use md_lines::{Line, Span};
 use md_marks::Leaf;
-use md_urls::Base;
 use md_writer::Writer;
 use std::alloc::{AllocError, Global};
 
@@ -33,16 +32,12 @@ impl<'a> Inlines<'a> {
         definitions: &'a Definitions,
         options: &'a MarkdownOptions,
     ) -> Inlines<'a> {
-        let base = match &options.base {
-            Some(base) => Some(Base::new(base.as_str())),
-            None => None,
-        };
         Inlines {
             source: Source {
                 alloc,
                 bytes,
                 lines,
-                base,
+                has_base: options.base.is_some(),
             },
             definitions,
             options,

@@ -72,7 +72,7 @@ pub(crate) fn write_destination(
     }
     writer.enter(name, place.start)?;
     // Without a base no URL is resolved, and no call is made.
-    let url = if source.base.is_some() {
+    let url = if source.has_base {
         url_of(writer, source, destination)?
     } else {
         Url::Own

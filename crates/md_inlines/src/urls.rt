@@ -5,26 +5,21 @@ use crate::strings::code_length;
 use crate::targets::Destination;
 use md_lines::Span;
 use md_references::text_of_reference;
-use md_urls::Base;
 use md_writer::{Url, Writer};
 use std::alloc::{AllocError, Global};
 
-/// The resolution of a destination's URL, if there is a base. That of a definition is computed
-/// once.
+/// The resolution of a destination's URL. That of a definition is computed once.
 pub(crate) fn url_of(
     writer: &mut Writer,
     source: &Source,
     destination: Destination,
 ) -> Result<Url, AllocError> {
-    let Some(base) = source.base else {
-        return Ok(Url::Own);
-    };
     let Some(index) = destination.definition else {
-        return resolve(writer, source, &base, destination);
+        return resolve(writer, source, destination);
     };
     match writer.url_of(index) {
         Url::Unread => {
-            let url = resolve(writer, source, &base, destination)?;
+            let url = resolve(writer, source, destination)?;
             writer.note_url(index, url)?;
             Ok(url)
         }
@@ -36,17 +31,16 @@ pub(crate) fn url_of(
 fn resolve(
     writer: &mut Writer,
     source: &Source,
-    base: &Base,
     destination: Destination,
 ) -> Result<Url, AllocError> {
     let place = destination.place;
     let text = source.bytes.get(place.start..place.end).unwrap_or(b"");
     let start = writer.end();
     let is_other = if destination.is_plain {
-        base.push_resolved(source.alloc, text, &mut writer.added)?
+        writer.added.push_resolved(source.alloc, text)?
     } else {
         let url = decoded(source.alloc, text)?;
-        base.push_resolved(source.alloc, url.as_slice(), &mut writer.added)?
+        writer.added.push_resolved(source.alloc, url.as_slice())?
     };
     if is_other {
         Ok(Url::Added(Span::new(start, writer.end())))

@@ -44,6 +44,8 @@ use Rattle.md_html.specs.declared.safe_html.SafeError.{SafeError}
 use Rattle.md_html.specs.declared.safe_html.SafeError.TheVariants as safe
 use Rattle.md_html.specs.declared.within.WithinError.{WithinError}
 use Rattle.md_html.specs.declared.within.WithinError.TheVariants as within
+use Rattle.md_blocks.specs.declared.options.MarkdownOptions.{MarkdownOptions}
+use Rattle.md_markdown.specs.Chosen.{AreChosenFor}
 use Rattle.md_markdown.specs.Made.{IsMadeOver}
 use Rattle.md_markdown.specs.Depth.{most_depth}
 use Rattle.md_markdown.specs.Parsed.{IsShown, is_memory, of_limits}
@@ -202,14 +204,16 @@ module _ (events : List Event) (bytes text : List ℕ)
       meant (plain (length text)) (sym same)
       ∙ ap (λ b. meaning options [] b (plain (length text))) value ∙ means options text utf8
 
-  pub made : (options : CompileOptions) (html : List ℕ) → KeepsImages options →
+  pub made : (options : CompileOptions) (html : List ℕ) →
       ((document : Forest) → flatten document ≡ events →
-      html ≡ meaning options [] bytes document) → IsMadeOver text html
-  made options html safe meant = record {
+      html ≡ meaning options [] bytes document) → (markdown : MarkdownOptions) →
+      AreChosenFor markdown options → IsMadeOver markdown text html
+  made options html meant markdown chosen = record {
     document = plain (length text);
     names = [];
     options = options;
-    safe = safe;
+    chosen = chosen;
+    html = refl;
     grammatical = grammatical text [] utf8;
     means = meant (plain (length text)) (sym same)
         ∙ ap (λ b. meaning options [] b (plain (length text))) value;

@@ -9,6 +9,7 @@ use Rattle.md_html.specs.declared.safe_html.SafeError.{SafeError}
 use Rattle.md_html.specs.declared.safe_html.SafeError.TheVariants as safe
 use Rattle.md_html.specs.declared.within.WithinError.{WithinError}
 use Rattle.md_html.specs.declared.within.WithinError.TheVariants as within
+use Rattle.md_blocks.specs.declared.options.MarkdownOptions.{MarkdownOptions}
 use Rattle.md_markdown.specs.Made.{IsMadeOver}
 use Rattle.md_markdown.specs.declared.error.MarkdownWithinError.{MarkdownWithinError}
 use Rattle.md_markdown.specs.declared.error.MarkdownWithinError.TheVariants as error
@@ -21,8 +22,9 @@ pub record IsShown (given : Handed) (most : ℕ) (document : Forest) : Type 0 wh
   pub nested : height document ≤ most
 
 -- the text is that of a document over the bytes of events, or over the document's own
-abbrev pub IsMadeOfEither : List ℕ → List ℕ → List ℕ → Type 0
-IsMadeOfEither bytes document text = IsMadeOver bytes text ⊎ IsMadeOver document text
+abbrev pub IsMadeOfEither : MarkdownOptions → List ℕ → List ℕ → List ℕ → Type 0
+IsMadeOfEither markdown bytes document text =
+    IsMadeOver markdown bytes text ⊎ IsMadeOver markdown document text
 
 -- memory ran out
 abbrev pub is_memory : SafeError → Bool

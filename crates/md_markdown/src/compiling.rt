@@ -1,6 +1,8 @@
 //! Compiles Markdown to HTML.
 
-ghost use Rattle.std.specs.Prelude.{◌≡◌, ◌≤◌, ◌+◌, ◌*◌, ◌++◌, IfOk, true, is_some, length};
+ghost use Rattle.std.specs.Prelude.{◌≡◌, ◌≤◌, ◌+◌, ◌*◌, ◌++◌, IfOk, IsTrue, true, length};
+ghost use Rattle.std.specs.Prelude.{option_map, string_bytes};
+ghost use Rattle.md_base.specs.Reference.{name_table};
 ghost use Rattle.md_base.specs.Tree.{Forest};
 ghost use Rattle.md_depth.specs.Levels.{NestsWithin};
 ghost use Rattle.md_meaning.specs.Meaning.{meaning};
@@ -10,7 +12,11 @@ ghost use Rattle.md_safe.specs.Options.{KeepsImages};
 ghost use Rattle.md_safe.specs.Tokenized.{IsSafelyTokenized};
 ghost use Rattle.md_text.specs.Ids.{HasDistinctIds};
 ghost use Rattle.md_html.specs.MeasuredEvents.{handed_by};
-ghost use Rattle.md_markdown.specs.Made.{IsMadeOf, MayBeAdded};
+ghost use Rattle.md_references.specs.Names.{are_html};
+ghost use Rattle.md_writer.specs.Added.{AreAdded};
+ghost use Rattle.md_blocks.specs.declared.options.MarkdownOptions.{MarkdownOptions};
+ghost use Rattle.md_markdown.specs.Chosen.{AreChosenFor};
+ghost use Rattle.md_markdown.specs.Made.{IsEnding, IsMadeOf};
 ghost use Rattle.md_markdown.specs.Plain.{plain_text};
 ghost use Rattle.md_markdown.specs.Depth.{most_depth};
 ghost use Rattle.md_markdown.specs.Parsed.{IsShown, IsMadeOfEither};
@@ -55,7 +61,7 @@ pub fn markdown(
     text: &str,
     options: &MarkdownOptions,
 ) -> Result<SafeHtml, AllocError>
-    ensures made { IfOk result (IsMadeOf (is_some options.now.base) text.now) }
+    ensures made { IfOk result (IsMadeOf options.now text.now) }
     ensures tokens { IfOk result IsSafelyTokenized }
     ensures contained { IfOk result IsContained }
     ensures tree { IfOk result IsBuiltAsRead }
@@ -66,10 +72,10 @@ pub fn markdown(
     let bytes = text.as_bytes();
     let writer = events_of(alloc, bytes, options)?;
     let compile_options = for_compiler(alloc, options)?;
-    if writer.added.is_empty() {
+    if writer.added.is_empty() && !writer.has_ending {
         return compile_or_plain(alloc, &measured_of(&writer, bytes), text, &compile_options);
     }
-    let whole = joined(alloc, bytes, added(&writer, options))?;
+    let whole = joined(alloc, bytes, resolved(&writer, options), ending(&writer))?;
     compile_or_plain(
         alloc,
         &measured_of(&writer, whole.as_slice()),
@@ -101,7 +107,7 @@ pub fn markdown_within(
     limits: Limits,
 ) -> Result<SafeHtml, MarkdownWithinError>
     ensures within { IfOk result (λ html. length html ≤ limits.text) }
-    ensures made { IfOk result (IsMadeOf (is_some options.now.base) text.now) }
+    ensures made { IfOk result (IsMadeOf options.now text.now) }
     ensures tokens { IfOk result IsSafelyTokenized }
     ensures contained { IfOk result IsContained }
     ensures tree { IfOk result IsBuiltAsRead }
@@ -119,10 +125,10 @@ pub fn markdown_within(
             ..limits
         },
     };
-    if writer.added.is_empty() {
+    if writer.added.is_empty() && !writer.has_ending {
         return compile_or_plain_within(alloc, &measured_of(&writer, bytes), text, &within);
     }
-    let whole = joined(alloc, bytes, added(&writer, options))?;
+    let whole = joined(alloc, bytes, resolved(&writer, options), ending(&writer))?;
     compile_or_plain_within(
         alloc,
         &measured_of(&writer, whole.as_slice()),
@@ -134,6 +140,7 @@ pub fn markdown_within(
 /// The events of a writer, over bytes.
 fn measured_of<'a>(writer: &'a Writer, bytes: &'a [u8]) -> MeasuredEvents<'a>
     ensures bytes { result.bytes.now ≡ bytes.now }
+    ensures html { IsTrue (are_html (name_table result.names.now)) }
     ensures events { result.events.now ≡ writer.now.events.items }
 {
     MeasuredEvents {
@@ -154,13 +161,16 @@ fn compile_or_plain(
     options: &CompileOptions,
 ) -> Result<SafeHtml, AllocError>
     requires safe { KeepsImages options.now }
+    requires html { IsTrue (are_html (name_table parsed.now.names.now)) }
     ensures kept { IfOk result (λ html. (document : Forest)
         → IsShown (handed_by parsed.now) most_depth document
         → html ≡ meaning options.now (handed_by parsed.now).names parsed.now.bytes.now document) }
     ensures plain { IfOk result (λ html. ((document : Forest)
         → IsShown (handed_by parsed.now) most_depth document → ⊥)
         → html ≡ plain_text text.now) }
-    ensures made { IfOk result (IsMadeOfEither parsed.now.bytes.now text.now) }
+    ensures made { IfOk result (λ html. (markdown : MarkdownOptions)
+        → AreChosenFor markdown options.now
+        → IsMadeOfEither markdown parsed.now.bytes.now text.now html) }
     ensures tokens { IfOk result IsSafelyTokenized }
     ensures contained { IfOk result IsContained }
     ensures tree { IfOk result IsBuiltAsRead }
@@ -186,6 +196,7 @@ fn compile_or_plain_within(
     within: &Within,
 ) -> Result<SafeHtml, MarkdownWithinError>
     requires safe { KeepsImages within.now.options.now }
+    requires html { IsTrue (are_html (name_table parsed.now.names.now)) }
     requires depth { within.now.limits.depth ≤ most_depth }
     ensures within { IfOk result (λ html. length html ≤ within.now.limits.text) }
     ensures kept { IfOk result (λ html. (document : Forest)
@@ -195,7 +206,9 @@ fn compile_or_plain_within(
     ensures plain { IfOk result (λ html. ((document : Forest)
         → IsShown (handed_by parsed.now) within.now.limits.depth document → ⊥)
         → html ≡ plain_text text.now) }
-    ensures made { IfOk result (IsMadeOfEither parsed.now.bytes.now text.now) }
+    ensures made { IfOk result (λ html. (markdown : MarkdownOptions)
+        → AreChosenFor markdown within.now.options.now
+        → IsMadeOfEither markdown parsed.now.bytes.now text.now html) }
     ensures tokens { IfOk result IsSafelyTokenized }
     ensures contained { IfOk result IsContained }
     ensures tree { IfOk result IsBuiltAsRead }
@@ -215,23 +228,33 @@ fn compile_or_plain_within(
     }
 }
 
-/// The bytes to append to a document: a line feed, and with a base URLs.
-fn added<'a>(writer: &'a Writer, options: &MarkdownOptions) -> &'a [u8]
-    ensures { MayBeAdded (is_some options.now.base) result.now }
+/// The resolved URLs to append to a document, which has the base against which they were resolved.
+fn resolved<'a>(writer: &'a Writer, options: &MarkdownOptions) -> &'a [u8]
+    ensures { AreAdded (option_map string_bytes options.now.base) result.now }
 {
-    match options.base {
-        Some(_) => writer.added.as_slice(),
-        None => b"\n",
+    match (writer.added.base(), &options.base) {
+        (Some(base), Some(own)) if base == own.as_str() => writer.added.as_slice(),
+        _ => b"",
     }
 }
 
-/// The bytes of a document and those appended to it.
-fn joined(alloc: Global, document: &[u8], added: &[u8]) -> Result<Vec<u8>, AllocError>
-    ensures { IfOk result (λ whole. whole.items ≡ document.now ++ added.now) }
+/// The line ending to append to a document, if it needs one.
+fn ending(writer: &Writer) -> &'static [u8]
+    ensures { IsEnding result.now }
 {
-    let mut whole = Vec::with_capacity(alloc, document.len().saturating_add(added.len()))?;
+    if writer.has_ending { b"\n" } else { b"" }
+}
+
+/// The bytes of a document, and those appended to it.
+fn joined(alloc: Global, document: &[u8], urls: &[u8], ending: &[u8]) -> Result<Vec<u8>, AllocError>
+    ensures { IfOk result
+        (λ whole. whole.items ≡ document.now ++ (urls.now ++ ending.now)) }
+{
+    let added = urls.len().saturating_add(ending.len());
+    let mut whole = Vec::with_capacity(alloc, document.len().saturating_add(added))?;
     whole.extend_from_slice(document)?;
-    whole.extend_from_slice(added)?;
+    whole.extend_from_slice(urls)?;
+    whole.extend_from_slice(ending)?;
     Ok(whole)
 }
 
@@ -241,13 +264,17 @@ fn joined(alloc: Global, document: &[u8], added: &[u8]) -> Result<Vec<u8>, Alloc
 /// # Errors
 ///
 /// Returns an error only if memory runs out.
-pub fn events_of(
+pub fn events_of<'a>(
     alloc: Global,
     bytes: &[u8],
-    options: &MarkdownOptions,
-) -> Result<Writer, AllocError> {
+    options: &'a MarkdownOptions,
+) -> Result<Writer<'a>, AllocError> {
     let blocks = parse_blocks(alloc, bytes, options)?;
-    let mut writer = Writer::new(alloc, bytes.len());
+    let base = match &options.base {
+        Some(base) => Some(base.as_str()),
+        None => None,
+    };
+    let mut writer = Writer::new(alloc, bytes.len(), base);
     // Documents that people write have an event for about every six bytes.
     writer.reserve((bytes.len() / 4).saturating_add(64))?;
     write_events(alloc, bytes, &blocks, options, &mut writer)?;

@@ -15,18 +15,18 @@ pub(crate) fn write_last_ending(writer: &mut Writer, bytes: &[u8]) -> Result<(),
     ensures { OnOk result
         (IsLeafBehind BlankLineEnding writer.old.events.items writer.new.events.items) }
 {
-    let ending = last_ending(writer, bytes)?;
+    let ending = last_ending(writer, bytes);
     writer.leaf(Name::BlankLineEnding, ending.start, ending.end)
 }
 
 /// The range of a line ending: that at the document's end, or else its first, or else one that is
 /// appended to it.
-fn last_ending(writer: &mut Writer, bytes: &[u8]) -> Result<Span, AllocError>
+fn last_ending(writer: &mut Writer, bytes: &[u8]) -> Span
     ensures { writer.new.events.items ≡ writer.old.events.items }
 {
     match last_or_first(bytes) {
-        Some(ending) => Ok(ending),
-        None => writer.add(b"\n"),
+        Some(ending) => ending,
+        None => writer.add_ending(),
     }
 }
 

@@ -8,6 +8,7 @@ mod error;
 mod events;
 mod front;
 mod html;
+pub mod laws;
 mod leaves;
 mod options;
 mod plain;

@@ -1,7 +1,7 @@
 //! The options of the compiler for a Markdown document.
 
-ghost use Rattle.std.specs.Prelude.{◌≡◌, IfOk};
-ghost use Rattle.md_safe.specs.Options.{KeepsImages};
+ghost use Rattle.std.specs.Prelude.{◌≡◌, IfOk, option_map, string_bytes};
+ghost use Rattle.md_markdown.specs.Chosen.{AreChosenFor};
 
 use md_blocks::MarkdownOptions;
 use md_text::{CompileOptions, LineEnding};
@@ -12,9 +12,7 @@ pub(crate) fn for_compiler(
     alloc: Global,
     options: &MarkdownOptions,
 ) -> Result<CompileOptions, AllocError>
-    ensures safe { IfOk result KeepsImages }
-    ensures ids { IfOk result
-        (λ compiler. compiler.gfm_footnote_number_ids ≡ options.now.number_ids) }
+    ensures chosen { IfOk result (AreChosenFor options.now) }
 {
     let prefix = copy_text(alloc, &options.footnote_prefix)?;
     let label = copy_text(alloc, &options.footnote_label)?;
@@ -36,7 +34,10 @@ pub(crate) fn for_compiler(
 }
 
 /// A copy of a text, if there is one.
-fn copy_text(alloc: Global, text: &Option<String>) -> Result<Option<String>, AllocError> {
+fn copy_text(alloc: Global, text: &Option<String>) -> Result<Option<String>, AllocError>
+    ensures { IfOk result
+        (λ copy. option_map string_bytes copy ≡ option_map string_bytes text.now) }
+{
     match text {
         Some(text) => Ok(Some(String::from_str(alloc, text.as_str())?)),
         None => Ok(None),

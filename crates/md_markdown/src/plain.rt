@@ -8,6 +8,8 @@ ghost use Rattle.md_safe.specs.Options.{KeepsImages};
 ghost use Rattle.md_safe.specs.Tokenized.{IsSafelyTokenized};
 ghost use Rattle.md_text.specs.Ids.{HasDistinctIds};
 ghost use Rattle.md_depth.specs.Levels.{NestsWithin};
+ghost use Rattle.md_blocks.specs.declared.options.MarkdownOptions.{MarkdownOptions};
+ghost use Rattle.md_markdown.specs.Chosen.{AreChosenFor};
 ghost use Rattle.md_markdown.specs.Depth.{most_depth};
 ghost use Rattle.md_markdown.specs.Made.{IsMadeOver};
 ghost use Rattle.md_markdown.specs.Plain.{at, plain, plain_text};
@@ -38,7 +40,8 @@ pub(crate) fn compile_plain(
 ) -> Result<SafeHtml, AllocError>
     requires safe { KeepsImages options.now }
     ensures text { IfOk result (λ html. html ≡ plain_text text.now) }
-    ensures made { IfOk result (IsMadeOver text.now) }
+    ensures made { IfOk result (λ html. (markdown : MarkdownOptions)
+        → AreChosenFor markdown options.now → IsMadeOver markdown text.now html) }
     ensures tokens { IfOk result IsSafelyTokenized }
     ensures contained { IfOk result IsContained }
     ensures tree { IfOk result IsBuiltAsRead }
@@ -68,7 +71,8 @@ pub(crate) fn compile_plain_within(
     requires safe { KeepsImages within.now.options.now }
     ensures within { IfOk result (λ html. length html ≤ within.now.limits.text) }
     ensures text { IfOk result (λ html. html ≡ plain_text text.now) }
-    ensures made { IfOk result (IsMadeOver text.now) }
+    ensures made { IfOk result (λ html. (markdown : MarkdownOptions)
+        → AreChosenFor markdown within.now.options.now → IsMadeOver markdown text.now html) }
     ensures tokens { IfOk result IsSafelyTokenized }
     ensures contained { IfOk result IsContained }
     ensures tree { IfOk result IsBuiltAsRead }

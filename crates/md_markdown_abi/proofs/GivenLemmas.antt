@@ -42,27 +42,16 @@ pub is_on : (value : Option Bool) (flag : Bool) → value ≡ Some flag → valu
     flag ≡ true
 is_on value flag is on = cc
 
--- C requests a base if there is one
-pub base_is : (given : CMarkdownOptions) (options : MarkdownOptions) →
-    HasMarkdownOptions given options → is_some (asked given.base) ≡ is_some options.base
-base_is given options has =
-    ap is_some (asked_is given.base (option_map string_bytes options.base) has.base)
-    ∙ by options.base string_bytes
-  where
-    by : {T : Type 0} (base : Option T) (f : T → List ℕ) →
-        is_some (option_map f base) ≡ is_some base
-    by None f = refl
-    by (Some text) f = refl
-
 pub plain_of : (bytes text : List ℕ) (given : CMarkdownOptions) (options : MarkdownOptions)
     (plain : List ℕ) → text ≡ bytes → HasMarkdownOptions given options →
-    IsMadeOf (is_some options.base) text plain → IsSafelyTokenized plain → IsContained plain →
+    IsMadeOf options text plain → IsSafelyTokenized plain → IsContained plain →
     IsBuiltAsRead plain → NestsWithin (2 * most_depth + 5) plain →
     (options.number_ids ≡ true → HasDistinctIds plain) → IsPlainOf bytes given plain
 plain_of bytes text given options plain same has made safe contained tree nesting distinct =
     record {
-      made = subst (λ b. IsMadeOf b bytes plain) (sym (base_is given options has))
-          (subst (λ b. IsMadeOf (is_some options.base) b plain) same made);
+      markdown = options;
+      encoded = has;
+      made = subst (λ b. IsMadeOf options b plain) same made;
       safe = safe;
       contained = contained;
       tree = tree;

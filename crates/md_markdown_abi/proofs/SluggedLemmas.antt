@@ -1,7 +1,8 @@
 -- From the promises about a text with ids to those about C's result.
 use Rattle.std.proofs.Common.{◌≡◌, ℕ, ◌≤◌, List, [], ◌∷◌, ◌++◌, length, take}
-use Rattle.std.proofs.Common.{Option, Some, sym, subst}
+use Rattle.std.proofs.Common.{Option, Some, sym, subst, map, true, false}
 use Rattle.std.specs.Prelude.{IsTrue}
+use Rattle.md_text.specs.Encode.{encoded}
 use Rattle.md_text.specs.Ids.{are_distinct}
 use Rattle.md_safe.specs.Token.{Token, EndOfFile}
 use Rattle.md_safe.specs.Tokens.{tokens}
@@ -9,7 +10,7 @@ use Rattle.md_safe.specs.Tokenizer.{IsTokenized}
 use Rattle.md_page.specs.Added.{headings_of}
 use Rattle.md_page.specs.Attributed.{IsAttributed}
 use Rattle.md_page.specs.Built.{IsBuiltAsWritten}
-use Rattle.md_page.specs.GivenIds.{with_given_ids}
+use Rattle.md_page.specs.GivenIds.{is_among, with_given_ids, written_id}
 use Rattle.md_page.specs.Ids.{ids_among}
 use Rattle.md_page.specs.Pieces.{IsWritten}
 use Rattle.md_page.proofs.Forests.{read-built}
@@ -25,10 +26,13 @@ use Rattle.md_markdown_abi.specs.declared.option.CMarkdownOptions.{CMarkdownOpti
 pub listed-slugs : (text whole : List ℕ) (start : ℕ) (ids : List (List ℕ)) (x : List Token) →
     whole ≡ text ++ (listing (headings_of x) ++ id_listing ids) → start ≡ length text →
     length ids ≡ length (headings_of x) → IsTokenized text (with_given_ids ids x) →
+    IsTrue (are_distinct (map written_id ids)) →
+    ((id : List ℕ) → IsTrue (is_among id (ids_among x)) →
+    is_among (encoded true id) (map written_id ids) ≡ false) →
     (IsTrue (are_distinct (ids_among x)) →
     IsTrue (are_distinct (ids_among (with_given_ids ids x)))) →
     IsWritten text → IsSluggedAfter x start whole
-listed-slugs text whole start ids x is at count tokenized distinct written =
+listed-slugs text whole start ids x is at count tokenized differ free distinct written =
     let parts = after text (listing (headings_of x) ++ id_listing ids) whole start is at in
     record {
       ids = ids;
@@ -38,6 +42,8 @@ listed-slugs text whole start ids x is at count tokenized distinct written =
       attributed = subst IsAttributed (sym parts.0) (attributed text written);
       written = subst IsWritten (sym parts.0) written;
       headings = parts.1;
+      differ = differ;
+      free = free;
       distinct = distinct;
     }
 

@@ -1,6 +1,7 @@
 -- The promises about a text whose headings have ids derived from their texts, in terms of C's
 -- input.
-use Rattle.std.specs.Prelude.{◌≡◌, ℕ, ◌≤◌, true, IsTrue, List, ◌∷◌, ◌++◌, length, take, drop}
+use Rattle.std.specs.Prelude.{◌≡◌, ℕ, ◌≤◌, true, false, IsTrue, List, ◌∷◌, ◌++◌, length, take}
+use Rattle.std.specs.Prelude.{drop, map}
 use Rattle.std.specs.List.{flat_map}
 use Rattle.md_text.specs.Encode.{encoded}
 use Rattle.md_text.specs.Ids.{are_distinct}
@@ -9,7 +10,7 @@ use Rattle.md_safe.specs.Tokenizer.{IsTokenized}
 use Rattle.md_page.specs.Added.{headings_of}
 use Rattle.md_page.specs.Attributed.{IsAttributed}
 use Rattle.md_page.specs.Built.{IsBuiltAsWritten}
-use Rattle.md_page.specs.GivenIds.{with_given_ids}
+use Rattle.md_page.specs.GivenIds.{is_among, with_given_ids, written_id}
 use Rattle.md_page.specs.Ids.{ids_among}
 use Rattle.md_page.specs.Pieces.{IsWritten}
 use Rattle.md_abi.specs.Attributes.{asked, with_rel, listing}
@@ -22,8 +23,8 @@ id_listing ids = flat_map (λ id. 0 ∷ 35 ∷ encoded true id) ids
 
 -- the bytes before the index are tokenized as these tokens with an id on each heading that had
 -- none, and fulfil the promises about such a text; they are written as whole tags and texts; the
--- bytes after it are the list of these headings, and then of their ids; if no two ids among the
--- tokens are equal, no two of the text are
+-- bytes after it are the list of these headings, and then of their ids; no two of these ids are
+-- equal, and none is one among the tokens; if no two of those are equal, no two of the text are
 pub record IsSluggedAfter (tokens : List Token) (start : ℕ) (whole : List ℕ) : Type 0 where
   pub ids : List (List ℕ)
   pub within : start ≤ length whole
@@ -32,6 +33,9 @@ pub record IsSluggedAfter (tokens : List Token) (start : ℕ) (whole : List ℕ)
   pub attributed : IsAttributed (take start whole)
   pub written : IsWritten (take start whole)
   pub headings : drop start whole ≡ listing (headings_of tokens) ++ id_listing ids
+  pub differ : IsTrue (are_distinct (map written_id ids))
+  pub free : (id : List ℕ) → IsTrue (is_among id (ids_among tokens)) →
+      is_among (encoded true id) (map written_id ids) ≡ false
   pub distinct : IsTrue (are_distinct (ids_among tokens)) →
       IsTrue (are_distinct (ids_among (with_given_ids ids tokens)))
 

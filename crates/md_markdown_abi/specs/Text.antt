@@ -1,5 +1,5 @@
 -- The promises about a text in terms of C's input of Markdown, and how the input is read.
-use Rattle.std.specs.Prelude.{◌≡◌, ℕ, ◌+◌, ◌*◌, ◌≤◌, List, length, take, is_some}
+use Rattle.std.specs.Prelude.{◌≡◌, ℕ, ◌+◌, ◌*◌, ◌≤◌, List, length, take}
 use Rattle.std.specs.Str.{IsUtf8}
 use Rattle.md_text.specs.Ids.{HasDistinctIds}
 use Rattle.md_depth.specs.Levels.{NestsWithin}
@@ -11,18 +11,22 @@ use Rattle.md_safe.specs.Built.{IsBuiltAsRead}
 use Rattle.md_page.specs.Built.{IsBuiltAsWritten}
 use Rattle.md_abi.specs.Attributes.{asked, with_rel}
 use Rattle.md_abi.specs.Attributed.{IsListedAfter}
+use Rattle.md_blocks.specs.declared.options.MarkdownOptions.{MarkdownOptions}
 use Rattle.md_markdown.specs.Depth.{most_depth}
 use Rattle.md_markdown.specs.Made.{IsMadeOf}
 use Rattle.md_markdown_abi.specs.Numbers.{markdown_version}
-use Rattle.md_markdown_abi.specs.Options.{AreReadable}
+use Rattle.md_markdown_abi.specs.Options.{AreReadable, HasMarkdownOptions}
 use Rattle.md_markdown_abi.specs.declared.option.CMarkdownOptions.{CMarkdownOptions}
 
--- a text is that of the document and safe: it is tokenized as it is read, the content model allows
--- each element at its place, tree construction builds it, the nesting of its elements doesn't
--- exceed its limit, and if ids are by number, no two are equal
+-- a text is that of the document under the options that the fields encode, and safe: it is
+-- tokenized as it is read, the content model allows each element at its place, tree construction
+-- builds it, the nesting of its elements doesn't exceed its limit, and if ids are by number, no two
+-- are equal
 pub record IsPlainOf (bytes : List ℕ) (options : CMarkdownOptions) (plain : List ℕ)
     : Type 0 where
-  pub made : IsMadeOf (is_some (asked options.base)) bytes plain
+  pub markdown : MarkdownOptions
+  pub encoded : HasMarkdownOptions options markdown
+  pub made : IsMadeOf markdown bytes plain
   pub safe : IsSafelyTokenized plain
   pub contained : IsContained plain
   pub tree : IsBuiltAsRead plain

@@ -1,7 +1,10 @@
 -- The structure of a URL, and of one that is resolved against a base.
-use Rattle.std.specs.Prelude.{◌≡◌, ◌++◌, ◌||◌, ℕ, List, [], Option, Some, None, codes}
-use Rattle.std.specs.Prelude.{Bool, IsTrue, bytes_eq}
+use Rattle.std.specs.Prelude.{◌≡◌, ◌++◌, ◌||◌, ◌&&◌, ◌==◌, ◌+◌, ◌∷◌, ℕ, List, [], Option, Some}
+use Rattle.std.specs.Prelude.{None, codes, Bool, false, IsTrue, bytes_eq, if◌then◌else◌}
+use Rattle.std.specs.Prelude.{drop, is_some, option_map}
 use Rattle.std.specs.Borrow.{Bor}
+use Rattle.std.specs.Char.{is_ascii_alphabetic, is_ascii_alphanumeric}
+use Rattle.std.specs.List.{before_first, list_all, position}
 use Rattle.md_urls.specs.declared.parts.Parts.{Parts}
 
 -- a mark and a part, if the part exists
@@ -29,6 +32,35 @@ abbrev pub IsBehind : Parts → List ℕ → List ℕ → Type 0
 IsBehind parts old new = (guard : List ℕ) × IsTrue (is_guard guard)
     × (new ≡ old ++ url_of guard parts)
 
--- a URL with a base's scheme was appended to a text
-abbrev pub IsOfScheme : Parts → List ℕ → List ℕ → Type 0
-IsOfScheme base old new = (parts : Parts) × (parts.scheme ≡ base.scheme) × IsBehind parts old new
+-- what is after the first such mark, if there is one
+abbrev pub after : ℕ → List ℕ → Option (List ℕ)
+after mark text = option_map (λ at. drop (at + 1) text) (position (λ byte. byte == mark) text)
+
+-- a letter, a digit, `+`, `-` or `.`
+abbrev pub is_in_scheme : ℕ → Bool
+is_in_scheme byte = is_ascii_alphanumeric byte || byte == 43 || byte == 45 || byte == 46
+
+-- a letter, and letters, digits, `+`, `-` and `.` after it (3.1)
+abbrev pub is_scheme : List ℕ → Bool
+is_scheme [] = false
+is_scheme (first ∷ rest) = is_ascii_alphabetic first && list_all is_in_scheme (first ∷ rest)
+
+-- what is before the first colon of a text, if that is a scheme
+abbrev pub scheme_in : List ℕ → Option (List ℕ)
+scheme_in text =
+    let front = before_first (λ byte. byte == 58) text in
+    if is_some (after 58 text) && is_scheme front then Some front else None
+
+-- the scheme of a URL, which has no `#` and no `?` before its colon
+abbrev pub scheme_of : List ℕ → Option (List ℕ)
+scheme_of url =
+    scheme_in (before_first (λ byte. byte == 63) (before_first (λ byte. byte == 35) url))
+
+-- the bytes of a part, if it exists
+abbrev pub bytes_of : Option (Bor (List ℕ)) → Option (List ℕ)
+bytes_of = option_map (λ part. part.now)
+
+-- the URL of some parts with a base's scheme was appended to a text
+abbrev pub IsOfScheme : List ℕ → List ℕ → List ℕ → Type 0
+IsOfScheme base old new = (parts : Parts)
+    × (bytes_of parts.scheme ≡ scheme_of base) × IsBehind parts old new

@@ -1,23 +1,29 @@
 //! A base, and URLs resolved against it.
 
 ghost use Rattle.std.specs.Prelude.{◌≡◌, IfOk, IsTrue, false};
-ghost use Rattle.md_urls.specs.Urls.{IsOfScheme};
+ghost use Rattle.md_urls.specs.Urls.{IsOfScheme, bytes_of, scheme_of};
 
 use crate::parts::Parts;
 use crate::path::{merged, without_dots};
 use std::alloc::{AllocError, Global};
 
 /// The URL against which others are resolved. If it is relative, the results are relative.
-#[derive(Clone, Copy, Debug, PartialEq, Eq)]
+#[derive(Clone, Copy, Debug)]
 pub struct Base<'a> {
+    /// The URL.
+    pub url: &'a str,
     /// Its parts.
-    pub parts: Parts<'a>,
+    parts: Parts<'a>,
+    pub ghost scheme: { bytes_of parts.scheme ≡ scheme_of url.now },
 }
 
 impl<'a> Base<'a> {
     /// Parses a URL as a base.
-    pub fn new(url: &'a str) -> Base<'a> {
+    pub fn new(url: &'a str) -> Base<'a>
+        ensures { result.url.now ≡ url.now }
+    {
         Base {
+            url,
             parts: Parts::new(url.as_bytes()),
         }
     }
@@ -44,7 +50,7 @@ impl<'a> Base<'a> {
         text: &mut Vec<u8>,
     ) -> Result<bool, AllocError>
         ensures other { IfOk result (λ is_other. IsTrue is_other
-            → IsOfScheme self.now.parts text.old.items text.new.items) }
+            → IsOfScheme self.now.url.now text.old.items text.new.items) }
         ensures own { IfOk result (λ is_other. is_other ≡ false
             → text.new.items ≡ text.old.items) }
     {

@@ -1,7 +1,9 @@
 //! The parts of a URL.
 
-ghost use Rattle.std.specs.Prelude.{◌≡◌, ◌++◌, OnOk, IsTrue};
-ghost use Rattle.md_urls.specs.Urls.{IsBehind, before, behind, is_guard};
+ghost use Rattle.std.specs.Prelude.{◌≡◌, ◌++◌, ◌==◌, OnOk, IsTrue};
+ghost use Rattle.std.specs.List.{before_first, list_all, position};
+ghost use Rattle.md_urls.specs.Urls.{IsBehind, after, before, behind, bytes_of, is_guard};
+ghost use Rattle.md_urls.specs.Urls.{is_in_scheme, is_scheme, scheme_in, scheme_of};
 
 use std::alloc::AllocError;
 
@@ -21,7 +23,9 @@ pub struct Parts<'a> {
 
 impl<'a> Parts<'a> {
     /// Splits a URL into its parts.
-    pub fn new(url: &'a [u8]) -> Parts<'a> {
+    pub fn new(url: &'a [u8]) -> Parts<'a>
+        ensures scheme { bytes_of result.scheme ≡ scheme_of url.now }
+    {
         let (rest, fragment) = cut(url, b'#');
         let (rest, query) = cut(rest, b'?');
         let (scheme, rest) = cut_scheme(rest);
@@ -97,15 +101,27 @@ fn push_behind(url: &mut Vec<u8>, mark: &[u8], part: Option<&[u8]>) -> Result<()
 }
 
 /// The text before the first such mark, and the text after it.
-fn cut(text: &[u8], mark: u8) -> (&[u8], Option<&[u8]>) {
-    match text.iter().position(|byte| *byte == mark) {
+fn cut(text: &[u8], mark: u8) -> (&[u8], Option<&[u8]>)
+    ensures front { result.0.now ≡ before_first (λ byte. byte == mark) text.now }
+    ensures back { bytes_of result.1 ≡ after mark text.now }
+{
+    match place_of(text, mark) {
         Some(at) => (&text[..at], Some(&text[at + 1..])),
         None => (text, None),
     }
 }
 
+/// The index of the first such mark.
+fn place_of(text: &[u8], mark: u8) -> Option<usize>
+    ensures { result ≡ position (λ byte. byte == mark) text.now }
+{
+    text.iter().position(|byte| *byte == mark)
+}
+
 /// The scheme at the beginning of a text, and the text after its colon.
-fn cut_scheme(text: &[u8]) -> (Option<&[u8]>, &[u8]) {
+fn cut_scheme(text: &[u8]) -> (Option<&[u8]>, &[u8])
+    ensures { bytes_of result.0 ≡ scheme_in text.now }
+{
     match cut(text, b':') {
         (scheme, Some(rest)) if is_scheme(scheme) => (Some(scheme), rest),
         _ => (None, text),
@@ -127,14 +143,25 @@ fn cut_authority(text: &[u8]) -> (Option<&[u8]>, &[u8]) {
 }
 
 /// Whether a text is a scheme: a letter, followed by letters, digits, `+`, `-` and `.`.
-fn is_scheme(text: &[u8]) -> bool {
+fn is_scheme(text: &[u8]) -> bool
+    ensures { result ≡ is_scheme text.now }
+{
     match text.first() {
-        Some(first) => first.is_ascii_alphabetic() && text.iter().all(|byte| is_in_scheme(*byte)),
+        Some(first) => first.is_ascii_alphabetic() && are_in_scheme(text),
         None => false,
     }
 }
 
+/// Whether each byte of a text may occur in a scheme.
+fn are_in_scheme(text: &[u8]) -> bool
+    ensures { result ≡ list_all is_in_scheme text.now }
+{
+    text.iter().all(|byte| is_in_scheme(*byte))
+}
+
 /// Whether a byte may occur in a scheme.
-fn is_in_scheme(byte: u8) -> bool {
+fn is_in_scheme(byte: u8) -> bool
+    ensures { result ≡ is_in_scheme byte }
+{
     byte.is_ascii_alphanumeric() || matches!(byte, b'+' | b'-' | b'.')
 }

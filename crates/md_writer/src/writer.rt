@@ -1,12 +1,16 @@
 //! Events in order.
 
-ghost use Rattle.std.specs.Prelude.{◌≡◌, ◌≤◌, ◌<◌, ◌++◌, ◌∷◌, [], OnOk, vec_len};
+ghost use Rattle.std.specs.Prelude.{◌≡◌, ◌≤◌, ◌<◌, ◌++◌, ◌∷◌, [], OnOk, IsTrue, true, false};
+ghost use Rattle.std.specs.Prelude.{option_map, vec_len};
 ghost use Rattle.std.specs.Vec.{vec_capacity};
 ghost use Rattle.md_base.specs.declared.event.Name.TheVariants.{Data};
+ghost use Rattle.md_base.specs.Reference.{name_table};
 ghost use Rattle.md_base.specs.Tree.{entering, exiting};
 ghost use Rattle.md_measure.specs.Measured.{IsMeasured};
+ghost use Rattle.md_references.specs.Names.{are_html};
 ghost use Rattle.md_writer.specs.Written.{point_at};
 
+use crate::added::Added;
 use md_base::{Event, Kind, Name, Point};
 use md_lines::Span;
 use md_measure::Measure;
@@ -28,13 +32,15 @@ pub enum Url {
 /// indices into the document followed by the appended bytes. Only the index and the columns of a
 /// tab are set in each point.
 #[derive(Drop)]
-pub struct Writer {
+pub struct Writer<'a> {
     /// The events so far.
     pub events: Vec<Event>,
     /// Their measure.
     pub measure: Measure,
-    /// The bytes that were appended to the document.
-    pub added: Vec<u8>,
+    /// What was appended to the document.
+    pub added: Added<'a>,
+    /// Whether a line feed follows it.
+    pub has_ending: bool,
     /// The length of the document in bytes.
     length: usize,
     names: UsedNames,
@@ -45,16 +51,19 @@ pub struct Writer {
     pub ghost measured: { IsMeasured measure events.items },
 }
 
-impl Writer {
-    /// A writer without events, for a document of `length` bytes.
-    pub fn new(alloc: Global, length: usize) -> Writer
+impl<'a> Writer<'a> {
+    /// A writer without events, for a document of `length` bytes with this base.
+    pub fn new(alloc: Global, length: usize, base: Option<&'a str>) -> Writer<'a>
         ensures events { result.events.items ≡ [] }
-        ensures added { result.added.items ≡ [] }
+        ensures base { result.added.base ≡ option_map (λ base. base.now) base.entry }
+        ensures added { result.added.bytes ≡ [] }
+        ensures ending { result.has_ending ≡ false }
     {
         Writer {
             events: Vec::new(alloc),
             measure: Measure::new(),
-            added: Vec::new(alloc),
+            added: Added::new(alloc, base),
+            has_ending: false,
             length,
             names: UsedNames::new(alloc),
             are_referred: Vec::new(alloc),
@@ -67,18 +76,14 @@ impl Writer {
         self.length.saturating_add(self.added.len())
     }
 
-    /// Appends bytes to the document; returns their range.
-    ///
-    /// # Errors
-    ///
-    /// Returns an error only if memory runs out.
-    pub fn add(&mut self, bytes: &[u8]) -> Result<Span, AllocError>
+    /// Appends a line feed after all other bytes; returns its range.
+    pub fn add_ending(&mut self) -> Span
         ensures events { self.new.events.items ≡ self.old.events.items }
-        ensures added { OnOk result (self.new.added.items ≡ self.old.added.items ++ bytes.now) }
+        ensures ending { self.new.has_ending ≡ true }
     {
+        self.has_ending = true;
         let start = self.end();
-        self.added.extend_from_slice(bytes)?;
-        Ok(Span::new(start, self.end()))
+        Span::new(start, start.saturating_add(1))
     }
 
     /// The resolution of the URL of the definition with an index.
@@ -113,7 +118,9 @@ impl Writer {
     }
 
     /// The names of the character references so far, each once, with its text.
-    pub fn names(&self) -> &[(&'static str, &'static str)] {
+    pub fn names(&self) -> &[(&'static str, &'static str)]
+        ensures html { IsTrue (are_html (name_table result.now)) }
+    {
         self.names.as_slice()
     }
 

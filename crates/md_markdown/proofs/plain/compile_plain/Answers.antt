@@ -21,7 +21,7 @@ pub returns-in-Ok-clause-made : goal.returns-in-Ok-clause-made
 returns-in-Ok-clause-made c =
     made c.plain_events-events.result c.as_bytes.result.now c.args.text.now
     c.plain_events-events.ensures c.as_bytes.ensures.value c.utf8.text c.args.options.now
-    c.in-Ok.html c.requires.safe c.in-Ok.ensures.promises.meaning
+    c.in-Ok.html c.in-Ok.ensures.promises.meaning
 
 pub returns-in-Ok-clause-nesting : goal.returns-in-Ok-clause-nesting
 returns-in-Ok-clause-nesting c =

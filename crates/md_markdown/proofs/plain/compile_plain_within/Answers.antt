@@ -40,7 +40,7 @@ pub returns-in-Ok-clause-made : goal.returns-in-Ok-clause-made
 returns-in-Ok-clause-made c =
     made c.plain_events-events.result c.as_bytes.result.now c.args.text.now
     c.plain_events-events.ensures c.as_bytes.ensures.value c.utf8.text
-    c.args.within.now.options.now c.in-Ok.html c.requires.safe
+    c.args.within.now.options.now c.in-Ok.html
     (compiled (handed_by c.new-measured.result) c.plain_events-events.result
     c.as_bytes.result.now c.args.text.now c.in-Ok.html c.args.within.now.options.now
     c.new-measured.ensures c.in-Ok.ensures.promises.meaning)

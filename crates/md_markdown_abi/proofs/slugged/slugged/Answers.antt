@@ -33,7 +33,7 @@ returns-clause-slugged g c = λ x h.
     ∙ sym (length-map c.in_ok-after.after.headings.items listed) ∙ ap length same)
     (subst (λ t. IsTokenized t (with_given_ids ids x)) (sym c.as_str.ensures.text)
     (after.tokens x h))
-    (λ d. after.distinct x h d)
+    after.differ (after.free x h) (λ d. after.distinct x h d)
     (subst IsWritten (sym c.as_str.ensures.text) c.as_str.ensures.written))
 
 pub returns-clause-tree : goal.returns-clause-tree
