@@ -7,13 +7,15 @@ use Rattle.md_marks.specs.declared.characters.CharacterClass.TheVariants.{Space}
 use Rattle.std.specs.Char.{IsScalar}
 use Rattle.std.specs.Str.{IsUtf8, chars}
 use Rattle.std.specs.Char.{is_ascii_punctuation}
-use Rattle.std.proofs.lemmas.Str.{IsUtf8-encode, chars_past_char, chars-encodes, chars-nil, encodes-append}
+use Rattle.std.proofs.lemmas.Str.{IsUtf8-encode, chars_past_char, chars-encodes, chars-nil}
+use Rattle.std.proofs.lemmas.Str.{encodes-append}
 use Rattle.std.proofs.lemmas.List.{reverse-append}
 use mathlib.Core.Bool.{false≢true}
 use Rattle.ucd_category.proofs.Computing.{ucd_category}
 use Rattle.md_marks.specs.Characters.{class_of, class_of_first, class_of_last}
 use Rattle.md_marks.specs.Characters.{is_punctuation_character, is_white_space, is_ascii_space}
-use Rattle.std.proofs.lemmas.List.{append-nil, length-append, get_or-append-add, get_or_append_left, take-append-le, take_all}
+use Rattle.std.proofs.lemmas.List.{append-nil, length-append, get_or-append-add}
+use Rattle.std.proofs.lemmas.List.{get_or_append_left, take-append-le, take_all}
 use Rattle.std.proofs.lemmas.Bool.{cases_lt, lt-ltb, le-ltb, agree_below_at}
 use lib.Utf8.{encode, encodes, scalar, scalars}
 
@@ -40,8 +42,8 @@ encode-four : (c : ℕ) → 65536 ≤ c →
     encode c ≡ (240 + c / 262144) ∷ continuing (c / 4096) ∷ continuing (c / 64) ∷ continuing c ∷ []
 unfolding encode
 encode-four c large =
-    rw (le-ltb c 128 (omega (arith, large)), le-ltb c 2048 (omega (arith, large)), le-ltb c 65536 large)
-    refl
+    rw (le-ltb c 128 (omega (arith, large)), le-ltb c 2048 (omega (arith, large)),
+    le-ltb c 65536 large) refl
 
 abbrev length_first : ℕ → ℕ
 length_first byte = if nat_lt byte 224 then 2 else if nat_lt byte 240 then 3 else 4
@@ -75,7 +77,8 @@ the-character c d rest one same =
 some-bytes : (c : ℕ) → length (encode c) ≡ 0 → ⊥
 some-bytes c none = ⊎_elim
     (λ (small : c < 128). absurd (omega (arith, none, ap length (encode-one c small))))
-    (λ (large : 128 ≤ c). absurd (is-long (λ bs. length bs ≡ 0 → ⊥) (λ a b x y z v e. omega (arith, e))
+    (λ (large : 128 ≤ c). absurd (is-long (λ bs. length bs ≡ 0 → ⊥)
+    (λ a b x y z v e. omega (arith, e))
     (λ a b d x y z w v e. omega (arith, e)) (λ a b d f x y z w v e. omega (arith, e)) c large none))
     (cases_lt c 128)
 
@@ -115,11 +118,13 @@ length-last before c large = is-long (λ bs. length bs ≡ length_last (before +
     (λ a b x y z v. rw (byte-at before (a ∷ b ∷ []) 0 2 refl, lt-ltb 191 a (omega (arith, x))) refl)
     (λ a b d x y z w v. rw (byte-at before (a ∷ b ∷ d ∷ []) 1 2 refl, le-ltb 191 b (omega (arith, z)),
     byte-at before (a ∷ b ∷ d ∷ []) 0 3 refl, lt-ltb 191 a (omega (arith, x))) refl)
-    (λ a b d f x y z w v. rw (byte-at before (a ∷ b ∷ d ∷ f ∷ []) 2 2 refl, le-ltb 191 d (omega (arith, z)),
+    (λ a b d f x y z w v. rw (byte-at before (a ∷ b ∷ d ∷ f ∷ []) 2 2 refl, le-ltb 191 d
+    (omega (arith, z)),
     byte-at before (a ∷ b ∷ d ∷ f ∷ []) 1 3 refl, le-ltb 191 b (omega (arith, y))) refl) c large
 
 pub first-byte : (c : ℕ) (after : List ℕ) → get_or (encode c ++ after) 0 0 ≡ get_or (encode c) 0 0
-first-byte c after = get_or_append_left (encode c) after 0 0 (positive (length (encode c)) (some-bytes c))
+first-byte c after =
+    get_or_append_left (encode c) after 0 0 (positive (length (encode c)) (some-bytes c))
   where
     positive : (n : ℕ) → (n ≡ 0 → ⊥) → 0 < n
     positive n some = omega (arith, some)
@@ -170,7 +175,8 @@ first-short text utf8 some small = go utf8.0 utf8.1.0 utf8.1.1
         let all = ap class_of_first (ap chars (sym is) ∙ chars-encodes (c ∷ cs) are) in
         let byte = ap (λ bs. get_or bs 0 0) (sym is) ∙ first-byte c (encodes cs) in
         ⊎_elim
-        (λ (short : c < 128). all ∙ ap class_of (sym (byte ∙ ap (λ bs. get_or bs 0 0) (encode-one c short))))
+        (λ (short : c < 128). all
+        ∙ ap class_of (sym (byte ∙ ap (λ bs. get_or bs 0 0) (encode-one c short))))
         (λ (large : 128 ≤ c). absurd (omega (arith, small, byte, first-large c large)))
         (cases_lt c 128)
 
@@ -183,7 +189,8 @@ first-long text utf8 some large = go utf8.0 utf8.1.0 utf8.1.1
     go (c ∷ cs) are is =
         let byte = ap (λ bs. get_or bs 0 0) (sym is) ∙ first-byte c (encodes cs) in
         ⊎_elim
-        (λ (short : c < 128). absurd (omega (arith, large, byte, ap (λ bs. get_or bs 0 0) (encode-one c short), short)))
+        (λ (short : c < 128). absurd (omega (arith, large, byte, short,
+        ap (λ bs. get_or bs 0 0) (encode-one c short))))
         (λ (long : 128 ≤ c). record {
           code = c;
           after = encodes cs;
@@ -277,7 +284,8 @@ last-long text utf8 some large =
 
 pub ascii-punctuation : (c : ℕ) → c < 128 → is_punctuation_character c ≡ is_ascii_punctuation c
 unfolding ucd_category
-ascii-punctuation c small = agree_below_at is_punctuation_character is_ascii_punctuation 128 c refl small
+ascii-punctuation c small =
+    agree_below_at is_punctuation_character is_ascii_punctuation 128 c refl small
 
 pub ascii-space : (c : ℕ) → c < 128 → is_white_space c ≡ is_ascii_space c
 unfolding ucd_category

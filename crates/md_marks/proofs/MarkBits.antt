@@ -6,7 +6,8 @@ use Rattle.std.specs.Prelude.{◌⊎◌, if◌then◌else◌}
 use Rattle.std.specs.Int.{bit_at, trailing_zeros}
 use Rattle.std.proofs.lemmas.Nat.{pow-add, pow_below, div_below, div-add-mod', pow_pos}
 use Rattle.std.proofs.Math.Nat.{mod-lt}
-use Rattle.std.proofs.lemmas.Nat.Bits.{bit_at-trailing_zeros, bit_at_above, bit_at_cat_high, bit_at-zero}
+use Rattle.std.proofs.lemmas.Nat.Bits.{bit_at-trailing_zeros, bit_at_above, bit_at-zero}
+use Rattle.std.proofs.lemmas.Nat.Bits.{bit_at_cat_high}
 use Rattle.std.proofs.lemmas.List.{get_or-drop}
 use Rattle.std.proofs.lemmas.Bool.{cases_lt}
 use Rattle.md_lines.specs.Classes.{is_mark}
@@ -44,7 +45,8 @@ pub shifted-known : (bytes : List ℕ) (block at bits passed : ℕ) →
     ((block + 32 ≤ length bytes) × AreMarks (drop block bytes) 32 bits)) →
     AreMarks (drop at bytes) (32 - passed) (bits / 2 ^ passed)
 shifted-known bytes block at bits passed is small within short known = ⊎_elim
-    (λ (unread : block ≡ 9223372036854775807). absurd (omega (arith, is, small, within, short, unread)))
+    (λ (unread : block ≡ 9223372036854775807).
+    absurd (omega (arith, is, small, within, short, unread)))
     (λ (read : (block + 32 ≤ length bytes) × AreMarks (drop block bytes) 32 bits). shifted bytes block
     at bits passed (omega (arith, is, small, within, short, read.0)) small read.1) known
 
@@ -125,7 +127,8 @@ module _ (bytes : List ℕ) (at count bits : ℕ) (are : AreMarks (drop at bytes
 
   zeros-fewer : zeros < count
   zeros-fewer = ⊎_elim (λ (lt : zeros < count). lt)
-      (λ (le : count ≤ zeros). absurd (omega (arith, lowest.1, bit_at_above bits count zeros are.0 le)))
+      (λ (le : count ≤ zeros).
+      absurd (omega (arith, lowest.1, bit_at_above bits count zeros are.0 le)))
       (cases_lt zeros count)
 
   pub passed-to-lowest : (from end : ℕ) → NoneBetween bytes from at end →

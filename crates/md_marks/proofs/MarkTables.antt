@@ -5,7 +5,8 @@ use Rattle.std.proofs.Common.{refl, sym, ap, ap₂, lit≤, ◌∙◌, arith, su
 use Rattle.std.proofs.lemmas.Bool.{agree_below, agree_below_at, eqb-true, cases_lt}
 use Rattle.std.proofs.lemmas.Nat.{and_mask, and_le_r}
 use Rattle.std.proofs.lemmas.List.{length-map, get_or-map}
-use Rattle.std.proofs.lemmas.Simd.{swz_l, get_or-swz_l_below, Each1-all, Each1-weaker, Each1-zip2, Each2-splat, below_from_Fits}
+use Rattle.std.proofs.lemmas.Simd.{swz_l, get_or-swz_l_below, Each1-all, Each1-weaker}
+use Rattle.std.proofs.lemmas.Simd.{Each1-zip2, Each2-splat, below_from_Fits}
 use Rattle.std.proofs.lemmas.Simd.{zip2_splat, zip2_of_maps, map-map, length-zip2, bitmask_splat}
 use Rattle.std.proofs.lemmas.Simd.{mask_l-lt, bit_mask_l, Each1-get_or}
 use lib.Lanes.{Each1, zip2, mask_l, top}
@@ -23,7 +24,8 @@ stands-at : (twice once : List ℕ) (from place : ℕ) → stands twice once fro
     get_or twice (from + place) 0 ≡ get_or once place 0
 stands-at twice once from place all lt =
     eqb-true (get_or twice (from + place) 0) (get_or once place 0)
-    (agree_below_at (λ p. eqb (get_or twice (from + p) 0) (get_or once p 0)) (λ _. true) 16 place all lt)
+    (agree_below_at (λ p. eqb (get_or twice (from + p) 0) (get_or once p 0)) (λ _. true) 16 place
+    all lt)
 
 pub looked-up : (twice once : List ℕ) → stands twice once 0 ≡ true → stands twice once 16 ≡ true →
     (lane : ℕ) (places : List ℕ) → Each1 (λ place. place < 16) places → lane + length places ≤ 32 →
@@ -62,7 +64,8 @@ pub upper-small : (v : List ℕ) → Each1 (Fits w8) v →
     Each1 (λ place. place < 16) (zip2 down v (replicate 32 4))
 upper-small v fits = Each1-zip2 down (λ place. place < 16) v (replicate 32 4)
     (Each2-splat (λ a b. down a b < 16) v 32 4
-    (Each1-weaker (λ a. a < 256) (λ a. a / 16 < 16) (λ a h. omega arith) v (below_from_Fits w8 v fits)))
+    (Each1-weaker (λ a. a < 256) (λ a. a / 16 < 16) (λ a h. omega arith) v
+    (below_from_Fits w8 v fits)))
 
 pub by-lower : (v : List ℕ) → length v ≡ 32 →
     swz_l w8 16 (lower_table ++ lower_table) 0 (zip2 bit_and v (replicate 32 15)) ≡ map lower_entry v
@@ -98,7 +101,8 @@ pub block-marks : (block upper lower : List ℕ) → length block ≡ 32 → Eac
 block-marks block upper lower long fits up low =
     let commons : zip2 bit_and upper lower ≡ map common block =
     zip2_of_maps bit_and upper_entry lower_entry block up low in
-    let mask = ap (λ xs. mask_l (map (top 7) (zip2 (λ a b. cond (not (eqb a b)) 255 0) xs (replicate 32 0)))
+    let mask = ap (λ xs. mask_l (map (top 7) (zip2 (λ a b. cond (not (eqb a b)) 255 0) xs
+        (replicate 32 0)))
     % 2 ^ 64) commons
     ∙ bitmask_splat w8 (λ a b. not (eqb a b)) (map common block) 32 0
     (omega (arith, length-map block common, long)) (lit≤ tt)

@@ -1,5 +1,6 @@
 -- The bits from an index on are those of the block, shifted.
-use Rattle.std.proofs.Common.{◌+◌, ◌-◌, ◌/◌, ◌%◌, ◌^◌, ◌<◌, ◌≤◌, ◌≡◌, length, take, drop, arith, refl, subst}
+use Rattle.std.proofs.Common.{◌+◌, ◌-◌, ◌/◌, ◌%◌, ◌^◌, ◌<◌, ◌≤◌, ◌≡◌, length, take, drop}
+use Rattle.std.proofs.Common.{arith, refl, subst}
 use Rattle.std.proofs.lemmas.List.{take_all, length-drop}
 use Rattle.md_marks.specs.NextMark.{AreMarks}
 use Rattle.md_marks.proofs.MarkBits.{shifted-known, shifted-read}
@@ -19,11 +20,14 @@ returns-clause-marks c =
     let inside = c.self.inside in
     let block = c.min-block.result in
     let bits = c.marks_of-self-inside.result in
-    let rest : take (length inside.bytes.now - block) (drop block inside.bytes.now) ≡ drop block inside.bytes.now =
-    take_all (length inside.bytes.now - block) (drop block inside.bytes.now) (omega (arith, length-drop block inside.bytes.now)) in
+    let bytes = inside.bytes.now in
+    let rest : take (length bytes - block) (drop block bytes) ≡ drop block bytes =
+    take_all (length bytes - block) (drop block bytes)
+        (omega (arith, length-drop block bytes)) in
     let long : 32 ≤ length inside.bytes.now = rw c.self.view_is c.requires.long in
     let within : c.args.at < length inside.bytes.now = rw c.self.view_is c.requires.within in
-    subst (λ bytes. AreMarks (drop c.args.at bytes) (32 - (c.args.at - block)) (bits / 2 ^ (c.args.at - block)))
+    subst (λ all. AreMarks (drop c.args.at all) (32 - (c.args.at - block))
+    (bits / 2 ^ (c.args.at - block)))
     c.self.view_is (shifted-read inside.bytes.now block c.args.at bits
     (omega (arith, c.min-block.ensures)) (omega (arith, c.min-block.ensures, long, within))
     (subst (λ text. AreMarks text 32 bits) rest c.marks_of-self-inside.ensures))
