@@ -9,6 +9,7 @@ mod events;
 mod front;
 mod html;
 mod leaves;
+mod looseness;
 mod options;
 mod plain;
 mod prefixes;
