@@ -216,6 +216,7 @@ SHAPES = {
     "dollars": lambda n: times(n, "$a "),
     "deep quotes": lambda n: times(n, ">") + "a",
     "deep quotes in each line": lambda n: times(n, ">" * 90 + "a\n"),
+    "tasks without text in lists": lambda n: times(n, "- [ ] \n  - [ ] \n") + "\n- a\n",
     "deep lists": lambda n: times(n, "- ") + "a",
     "blank lines in deep lists": lambda n: "- " * 90 + "a\n" + "\n" * n,
     "lazy lines in deep lists": lambda n: "- " * 90 + "a\n" + "b\n" * (n // 2),

@@ -43,9 +43,19 @@ impl Calls {
         }
     }
 
-    /// Enters the next footnote.
-    pub(crate) fn enter(&mut self) -> Result<(), AllocError> {
-        self.open.push(self.begun)?;
+    /// Whether the text that is read belongs to a footnote.
+    pub(crate) fn is_in_footnote(&self) -> bool {
+        !self.open.is_empty()
+    }
+
+    /// Enters the next footnote. In a footnote with the same label, which is `first`, it stands for
+    /// that one, since it ends before it.
+    pub(crate) fn enter(&mut self, first: Option<usize>) -> Result<(), AllocError> {
+        let footnote = match first {
+            Some(first) if self.open.contains(&first) => first,
+            _ => self.begun,
+        };
+        self.open.push(footnote)?;
         self.begun = self.begun.saturating_add(1);
         Ok(())
     }

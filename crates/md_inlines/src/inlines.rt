@@ -46,13 +46,20 @@ impl<'a> Inlines<'a> {
         }
     }
 
-    /// Enters the next definition of a footnote: the next leaves belong to it.
+    /// Enters the next definition of a footnote, with a label: the next leaves belong to it.
     ///
     /// # Errors
     ///
     /// Returns an error only if memory runs out.
-    pub fn enter_footnote(&mut self) -> Result<(), AllocError> {
-        self.calls.enter()
+    pub fn enter_footnote(&mut self, label: Span) -> Result<(), AllocError> {
+        let source = &self.source;
+        let first = if self.calls.is_in_footnote() {
+            self.definitions
+                .find_footnote(source.alloc, source.bytes, label)?
+        } else {
+            None
+        };
+        self.calls.enter(first)
     }
 
     /// Exits the innermost definition of a footnote.

@@ -5,6 +5,7 @@ ghost use Rattle.std.specs.Prelude.{◌≡◌, OnOk};
 use crate::endings::{ending_before, write_last_ending};
 use crate::html::{has_text, without_comments, write_html, write_pieces};
 use crate::leaves::{ends_of, write_front_matter};
+use crate::looseness::OpenList;
 use crate::prefixes::{write_footnote_start, write_item_start, write_task};
 use md_base::Name;
 use md_blocks::{Block, Blocks, ContainerKind, DocumentHtml, LineRange, MarkdownOptions};
@@ -37,6 +38,8 @@ pub(crate) struct Emission<'a> {
     pub(crate) inlines: Inlines<'a>,
     html: DocumentHtml,
     open: Vec<Open>,
+    /// The open lists, the innermost last.
+    lists: Vec<OpenList>,
     /// Whether the next item is its list's first.
     is_first_item: bool,
     /// Whether nothing was written for the previous block, or for its content.
@@ -63,6 +66,7 @@ pub(crate) fn write_events(
         inlines: Inlines::new(alloc, bytes, lines, &blocks.definitions, options),
         html: options.html,
         open: Vec::new(alloc),
+        lists: Vec::new(alloc),
         is_first_item: false,
         is_after_bare: false,
     };
@@ -82,13 +86,14 @@ impl<'a> Emission<'a> {
             match block {
                 Block::EnterQuote { start } => self.enter_quote(writer, *start)?,
                 Block::EnterList { is_ordered, start } => {
+                    self.lists.push(OpenList::new(index))?;
                     self.enter_list(writer, *is_ordered, *start)?
                 }
                 Block::EnterItem { digits, start } => self.enter_item(writer, *digits, *start)?,
                 Block::EnterFootnote { label } => self.enter_footnote(writer, *label)?,
                 Block::Exit { kind, is_empty, at } => self.exit(writer, *kind, *is_empty, *at)?,
                 Block::Task { is_checked, start } => {
-                    let is_alone = self.ends_after(index);
+                    let is_alone = self.ends_after(index) && !self.is_in_loose_list();
                     write_task(writer, *is_checked, *start, is_alone)?
                 }
                 Block::Paragraph(range) => self.write_paragraph(writer, *range)?,
@@ -115,6 +120,14 @@ impl<'a> Emission<'a> {
             following.unwrap_or(&[]),
             [Block::Exit { .. }, ..] | [Block::Definitions { .. }, Block::Exit { .. }, ..]
         )
+    }
+
+    /// Whether the innermost list is loose.
+    fn is_in_loose_list(&mut self) -> bool {
+        match self.lists.last_mut() {
+            Some(list) => list.is_loose(self.blocks.tape.as_slice()),
+            None => false,
+        }
     }
 
     /// Begins a container.
@@ -162,7 +175,7 @@ impl<'a> Emission<'a> {
 
     fn enter_footnote(&mut self, writer: &mut Writer, label: Span) -> Result<(), AllocError> {
         self.begin_container(writer, false)?;
-        self.inlines.enter_footnote()?;
+        self.inlines.enter_footnote(label)?;
         write_footnote_start(writer, label)
     }
 
@@ -179,8 +192,14 @@ impl<'a> Emission<'a> {
         self.is_after_bare = self.is_after_bare || is_empty;
         let name = match kind {
             ContainerKind::Quote => Name::BlockQuote,
-            ContainerKind::OrderedList => Name::ListOrdered,
-            ContainerKind::UnorderedList => Name::ListUnordered,
+            ContainerKind::OrderedList => {
+                let _ = self.lists.pop();
+                Name::ListOrdered
+            }
+            ContainerKind::UnorderedList => {
+                let _ = self.lists.pop();
+                Name::ListUnordered
+            }
             ContainerKind::FootnoteDefinition => {
                 self.inlines.exit_footnote();
                 Name::GfmFootnoteDefinition

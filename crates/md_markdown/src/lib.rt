@@ -10,6 +10,7 @@ mod front;
 mod html;
 pub mod laws;
 mod leaves;
+mod looseness;
 mod options;
 mod plain;
 mod prefixes;

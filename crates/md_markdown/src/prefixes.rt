@@ -24,8 +24,8 @@ pub(crate) fn write_item_start(
     writer.exit(Name::ListItemPrefix, after)
 }
 
-/// Writes a box, `[ ]` or `[x]`, and the space after it. If the item has nothing else, they are a
-/// paragraph, so that no line ending follows in a tight list.
+/// Writes a box, `[ ]` or `[x]`, and the space after it. If an item of a tight list has nothing
+/// else, they are a paragraph, so that no line ending follows.
 pub(crate) fn write_task(
     writer: &mut Writer,
     is_checked: bool,
