@@ -51,12 +51,12 @@ pub(crate) struct Emission<'a> {
 /// # Errors
 ///
 /// Returns an error only if memory runs out.
-pub(crate) fn write_events(
+pub(crate) fn write_events<'a>(
     alloc: Global,
     bytes: &[u8],
     blocks: &Blocks,
     options: &MarkdownOptions,
-    writer: &mut Writer,
+    writer: &mut Writer<'a>,
 ) -> Result<(), AllocError> {
     let lines = blocks.lines.as_slice();
     let mut emission = Emission {
@@ -72,7 +72,7 @@ pub(crate) fn write_events(
     };
     emission.write_blocks(writer)?;
     if emission.inlines.drop_uncalled()? {
-        *writer = Writer::new(alloc, bytes.len());
+        *writer = Writer::new(alloc, bytes.len(), writer.added.base());
         emission.write_blocks(writer)?;
     }
     emission.inlines.write_definitions(writer)?;
