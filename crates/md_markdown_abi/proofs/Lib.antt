@@ -2,3 +2,4 @@
 pub mod AnswerLemmas
 pub mod GivenLemmas
 pub mod SluggedLemmas
+pub mod FrontLemmas
