@@ -25,17 +25,15 @@ use Rattle.md_depth.specs.Levels.{NestsWithin}
 use Rattle.md_markdown.specs.Depth.{most_depth}
 use Rattle.md_markdown.specs.Made.{IsMadeOf}
 use Rattle.md_blocks.specs.declared.options.MarkdownOptions.{MarkdownOptions}
-use Rattle.md_markdown.specs.declared.error.MarkdownWithinError.{MarkdownWithinError}
-use Rattle.md_markdown.specs.declared.error.MarkdownWithinError.TheVariants as within
 use Rattle.md_markdown_abi.specs.Numbers.{markdown_version}
 use Rattle.md_markdown_abi.specs.Options.{HasMarkdownOptions, readable_fields}
-use Rattle.md_markdown_abi.specs.Text.{IsPlainOf, IsMarkdownText, AreRead, IsRead}
-use Rattle.md_markdown_abi.specs.Failures.{failure_within, IsOptionFault}
-use Rattle.md_markdown_abi.specs.Failures.{IsDocumentFault, ExplainsMarkdown}
+use Rattle.md_markdown_abi.specs.Text.{IsPlainOf, IsMarkdownText}
+use Rattle.md_markdown_abi.specs.Failures.{IsOptionFault}
+use Rattle.md_markdown_abi.specs.Failures.{ExplainsMarkdown}
 use Rattle.md_markdown_abi.specs.declared.option.CMarkdownOptions.{CMarkdownOptions}
 use Rattle.md_markdown_abi.specs.declared.failure.MarkdownFailure.{MarkdownFailure}
 use Rattle.md_markdown_abi.specs.declared.failure.MarkdownFailure.TheVariants as variant
-use variant.{NoVersion, InputTooLong, NotUtf8, OutputTooLong, TooMuchWork, Failed}
+use variant.{Failed}
 
 -- ---- a text
 
@@ -125,19 +123,3 @@ module _ (bytes : List ℕ) (given : CMarkdownOptions) where
   option_fault version (failure.Name index) fault = absurd fault
   option_fault version (failure.Line number) fault = absurd fault
   option_fault version (failure.Refused index rule) fault = absurd fault
-
-  pub document_fault : AreRead given → (why : MarkdownFailure) →
-      IsDocumentFault bytes given.max_input why → ExplainsMarkdown bytes given why
-  document_fault read NoVersion fault = absurd fault
-  document_fault read (InputTooLong size) fault = (read, fault)
-  document_fault read (NotUtf8 index) fault =
-      (record { options_read = read; fits = fault.0 }, fault.1)
-  document_fault read OutputTooLong fault = absurd fault
-  document_fault read TooMuchWork fault = absurd fault
-  document_fault read (Failed cause) fault = absurd fault
-
-  pub within_reported : IsRead bytes given → (why : MarkdownWithinError) →
-      ExplainsMarkdown bytes given (failure_within why)
-  within_reported read within.TooLong = read
-  within_reported read within.TooMuch = read
-  within_reported read within.Memory = read.readable.options_read.version

@@ -2,4 +2,3 @@
 pub mod AnswerLemmas
 pub mod GivenLemmas
 pub mod SluggedLemmas
-pub mod FrontLemmas
