@@ -42,8 +42,11 @@ encode-four : (c : ℕ) → 65536 ≤ c →
     encode c ≡ (240 + c / 262144) ∷ continuing (c / 4096) ∷ continuing (c / 64) ∷ continuing c ∷ []
 unfolding encode
 encode-four c large =
-    rw (le-ltb c 128 (omega (arith, large)), le-ltb c 2048 (omega (arith, large)),
-    le-ltb c 65536 large) refl
+    rw (
+      le-ltb c 128 (omega (arith, large)),
+      le-ltb c 2048 (omega (arith, large)),
+      le-ltb c 65536 large,
+    ) refl
 
 abbrev length_first : ℕ → ℕ
 length_first byte = if nat_lt byte 224 then 2 else if nat_lt byte 240 then 3 else 4
@@ -116,11 +119,19 @@ pub length-last : (before : List ℕ) (c : ℕ) → 128 ≤ c →
     length (encode c) ≡ length_last (before ++ encode c)
 length-last before c large = is-long (λ bs. length bs ≡ length_last (before ++ bs))
     (λ a b x y z v. rw (byte-at before (a ∷ b ∷ []) 0 2 refl, lt-ltb 191 a (omega (arith, x))) refl)
-    (λ a b d x y z w v. rw (byte-at before (a ∷ b ∷ d ∷ []) 1 2 refl, le-ltb 191 b (omega (arith, z)),
-    byte-at before (a ∷ b ∷ d ∷ []) 0 3 refl, lt-ltb 191 a (omega (arith, x))) refl)
-    (λ a b d f x y z w v. rw (byte-at before (a ∷ b ∷ d ∷ f ∷ []) 2 2 refl, le-ltb 191 d
-    (omega (arith, z)),
-    byte-at before (a ∷ b ∷ d ∷ f ∷ []) 1 3 refl, le-ltb 191 b (omega (arith, y))) refl) c large
+    (λ a b d x y z w v. rw (
+      byte-at before (a ∷ b ∷ d ∷ []) 1 2 refl,
+      le-ltb 191 b (omega (arith, z)),
+      byte-at before (a ∷ b ∷ d ∷ []) 0 3 refl,
+      lt-ltb 191 a (omega (arith, x)),
+    ) refl)
+    (λ a b d f x y z w v. rw (
+      byte-at before (a ∷ b ∷ d ∷ f ∷ []) 2 2 refl,
+      le-ltb 191 d
+          (omega (arith, z)),
+      byte-at before (a ∷ b ∷ d ∷ f ∷ []) 1 3 refl,
+      le-ltb 191 b (omega (arith, y)),
+    ) refl) c large
 
 pub first-byte : (c : ℕ) (after : List ℕ) → get_or (encode c ++ after) 0 0 ≡ get_or (encode c) 0 0
 first-byte c after =
@@ -189,8 +200,13 @@ first-long text utf8 some large = go utf8.0 utf8.1.0 utf8.1.1
     go (c ∷ cs) are is =
         let byte = ap (λ bs. get_or bs 0 0) (sym is) ∙ first-byte c (encodes cs) in
         ⊎_elim
-        (λ (short : c < 128). absurd (omega (arith, large, byte, short,
-        ap (λ bs. get_or bs 0 0) (encode-one c short))))
+        (λ (short : c < 128). absurd (omega (
+          arith,
+          large,
+          byte,
+          short,
+          ap (λ bs. get_or bs 0 0) (encode-one c short),
+        )))
         (λ (long : 128 ≤ c). record {
           code = c;
           after = encodes cs;
@@ -268,8 +284,13 @@ last-long text utf8 some large =
     let c = LastOf.code one in
     let byte = last-byte text one in
     ⊎_elim
-    (λ (short : c < 128). absurd (omega (arith, large, byte, short,
-    ap (λ bs. get_or bs (length bs - 1) 0) (encode-one c short))))
+    (λ (short : c < 128). absurd (omega (
+      arith,
+      large,
+      byte,
+      short,
+      ap (λ bs. get_or bs (length bs - 1) 0) (encode-one c short),
+    )))
     (λ (long : 128 ≤ c). record {
       before = LastOf.before one;
       code = c;

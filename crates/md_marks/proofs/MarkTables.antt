@@ -102,7 +102,7 @@ block-marks block upper lower long fits up low =
     let commons : zip2 bit_and upper lower ≡ map common block =
     zip2_of_maps bit_and upper_entry lower_entry block up low in
     let mask = ap (λ xs. mask_l (map (top 7) (zip2 (λ a b. cond (not (eqb a b)) 255 0) xs
-        (replicate 32 0)))
+    (replicate 32 0)))
     % 2 ^ 64) commons
     ∙ bitmask_splat w8 (λ a b. not (eqb a b)) (map common block) 32 0
     (omega (arith, length-map block common, long)) (lit≤ tt)

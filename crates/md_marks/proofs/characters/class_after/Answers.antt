@@ -15,7 +15,7 @@ returns-in-Some c = λ utf8.
     let value = c.in-Some.ensures.value in
     let some : 0 < length text = grind (arith, common_steps, value) in
     let byte : get_or text 0 0 ≡ c.in-Some.byte.now =
-        grind (arith, common_steps, value) in
+    grind (arith, common_steps, value) in
     let small : get_or text 0 0 < 128 = grind (arith, byte, c.if-byte-lt128.true) in
     c.class_of_byte.ensures c.if-byte-lt128.true ∙ ap class_of (sym byte)
     ∙ sym (first-short text utf8 some small)
@@ -30,6 +30,6 @@ returns-in-Some-2 c = λ utf8.
     let code = BeginsLong.code long in
     let large = BeginsLong.large long in
     let found = c.first_character.ensures code (BeginsLong.after long) (BeginsLong.scalar long) large
-        (BeginsLong.text_is long) byte in
+    (BeginsLong.text_is long) byte in
     subst (λ one. IfSome one (λ c'. 128 ≤ c' → c.class_of.result ≡ class_of c')) found
     c.class_of.ensures large ∙ sym (BeginsLong.class long)

@@ -17,7 +17,7 @@ returns-in-Some c = λ utf8.
     let value = c.in-Some.ensures.value in
     let some : 0 < length text = grind (arith, common_steps, value) in
     let byte : get_or text (length text - 1) 0 ≡ c.in-Some.byte.now =
-        grind (arith, common_steps, value) in
+    grind (arith, common_steps, value) in
     let small : get_or text (length text - 1) 0 < 128 = grind (arith, byte, c.if-byte-lt128.true) in
     c.class_of_byte.ensures c.if-byte-lt128.true ∙ ap class_of (sym byte)
     ∙ sym (last-short text utf8 some small)
@@ -28,11 +28,11 @@ returns-in-Some-2 c = λ utf8.
     let value = c.in-Some.ensures.value in
     let some : 0 < length text = grind (arith, common_steps, value) in
     let byte : get_or text (length text - 1) 0 ≡ c.in-Some.byte.now =
-        grind (arith, common_steps, value) in
+    grind (arith, common_steps, value) in
     let long = last-long text utf8 some (grind (arith, byte, c.if-byte-lt128.false)) in
     let code = EndsLong.code long in
     let large = EndsLong.large long in
     let found = c.last_character.ensures (EndsLong.before long) code (EndsLong.scalar long) large
-        (EndsLong.text_is long) in
+    (EndsLong.text_is long) in
     subst (λ one. IfSome one (λ c'. 128 ≤ c' → c.class_of.result ≡ class_of c')) found
     c.class_of.ensures large ∙ sym (EndsLong.class long)

@@ -8,13 +8,19 @@ use Rattle.md_marks.proofs.characters.first_character.Goals as goal
 pub returns-in_err-get : goal.returns-in_err-get
 returns-in_err-get c = λ code after scalar large same first.
     let count = c.length_by.ensures code scalar large (sym (first-byte code after)
-        ∙ ap (λ bs. get_or bs 0 0) (sym same) ∙ first) in
+    ∙ ap (λ bs. get_or bs 0 0) (sym same) ∙ first) in
     let long = length-append (encode_utf8 code) after in
     grind (arith, common_steps, count, long, same, c.in_err-get.ensures.lookup)
 
 pub returns : goal.returns
 returns c = λ code after scalar large same first.
     let count = c.length_by.ensures code scalar large (sym (first-byte code after)
-        ∙ ap (λ bs. get_or bs 0 0) (sym same) ∙ first) in
-    c.only_character.ensures code scalar (grind (arith, common_steps, count, same,
-    taken code after, c.in_ok-get.ensures.lookup))
+    ∙ ap (λ bs. get_or bs 0 0) (sym same) ∙ first) in
+    c.only_character.ensures code scalar (grind (
+      arith,
+      common_steps,
+      count,
+      same,
+      taken code after,
+      c.in_ok-get.ensures.lookup,
+    ))

@@ -9,10 +9,22 @@ returns-then-is_first c = λ before code scalar large same.
 
 pub returns-then-is_first-2 : goal.returns-then-is_first-2
 returns-then-is_first-2 c = λ before code scalar large same.
-    grind (arith, common_steps, length-last before code large, same, c.if-is_first.ensures,
-    c.if-is_first-2.ensures)
+    grind (
+      arith,
+      common_steps,
+      length-last before code large,
+      same,
+      c.if-is_first.ensures,
+      c.if-is_first-2.ensures,
+    )
 
 pub returns-else-is_first-2 : goal.returns-else-is_first-2
 returns-else-is_first-2 c = λ before code scalar large same.
-    grind (arith, common_steps, length-last before code large, same, c.if-is_first.ensures,
-    c.if-is_first-2.ensures)
+    grind (
+      arith,
+      common_steps,
+      length-last before code large,
+      same,
+      c.if-is_first.ensures,
+      c.if-is_first-2.ensures,
+    )

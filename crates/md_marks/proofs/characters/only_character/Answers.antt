@@ -12,5 +12,12 @@ returns-in_err-ok c = λ code scalar same.
 pub returns : goal.returns
 returns c = λ code scalar same. next-is _ c.next.result c.chars.result.rest.now
     c.next.new.self.rest.now code scalar
-    (grind (arith, common_steps, c.chars.ensures.rest, c.in_ok-ok.ensures.value, c.in_ok-ok.was,
-    c.from_utf8.ensures.cases, same)) c.next.ensures.steps.0
+    (grind (
+      arith,
+      common_steps,
+      c.chars.ensures.rest,
+      c.in_ok-ok.ensures.value,
+      c.in_ok-ok.was,
+      c.from_utf8.ensures.cases,
+      same,
+    )) c.next.ensures.steps.0

@@ -23,7 +23,7 @@ returns-clause-marks c =
     let bytes = inside.bytes.now in
     let rest : take (length bytes - block) (drop block bytes) ≡ drop block bytes =
     take_all (length bytes - block) (drop block bytes)
-        (omega (arith, length-drop block bytes)) in
+    (omega (arith, length-drop block bytes)) in
     let long : 32 ≤ length inside.bytes.now = rw c.self.view_is c.requires.long in
     let within : c.args.at < length inside.bytes.now = rw c.self.view_is c.requires.within in
     subst (λ all. AreMarks (drop c.args.at all) (32 - (c.args.at - block))
