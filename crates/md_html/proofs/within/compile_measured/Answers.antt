@@ -100,3 +100,16 @@ returns-clause-refused c = record {
   long_grammatical = search rules;
   refused = search rules;
 }
+
+pub returns-in_err-is_reuse_over-clause-refused :
+    goal.returns-in_err-is_reuse_over-clause-refused
+returns-in_err-is_reuse_over-clause-refused c =
+    err-and (λ why. why ≡ within.Compile refusal.Memory) _
+    c.from_residual-in_err-is_reuse_over.result
+    (λ why is. rw is (record {
+      too_deep = search rules;
+      too_much = search rules;
+      too_long = search rules;
+      long_grammatical = search rules;
+      refused = search rules;
+    })) c.from_residual-in_err-is_reuse_over.ensures.1
