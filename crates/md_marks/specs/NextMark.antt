@@ -1,6 +1,7 @@
 -- Where the next mark of a text is.
-use Rattle.std.specs.Prelude.{◌≡◌, ◌⊎◌, ◌+◌, ◌-◌, ◌/◌, ◌%◌, ◌^◌, ◌<◌, ◌≤◌, ◌==◌, ◌&&◌, ◌||◌, not}
-use Rattle.std.specs.Prelude.{ℕ, Bool, List, [], ◌∷◌, length, get_or, drop, if◌then◌else◌}
+use Rattle.std.specs.Prelude.{◌≡◌, ◌⊎◌, ◌+◌, ◌-◌, ◌/◌, ◌%◌, ◌^◌, ◌<◌, ◌≤◌, ◌==◌}
+use Rattle.std.specs.Prelude.{◌&&◌, ◌||◌, not, ℕ, Bool, List, [], ◌∷◌, length, get_or, drop}
+use Rattle.std.specs.Prelude.{if◌then◌else◌}
 use Rattle.std.specs.Int.{bit_at}
 use Rattle.md_lines.specs.Classes.{is_mark}
 use Rattle.md_marks.specs.declared.marks.Marks.TheInside.{Inside}
@@ -31,7 +32,8 @@ upper_entry byte = get_or (0 ∷ 0 ∷ 1 ∷ 2 ∷ 4 ∷ 8 ∷ 16 ∷ 32 ∷ [])
 
 abbrev pub lower_entry : ℕ → ℕ
 lower_entry byte =
-    get_or (20 ∷ 1 ∷ 0 ∷ 0 ∷ 1 ∷ 0 ∷ 1 ∷ 0 ∷ 0 ∷ 0 ∷ 3 ∷ 8 ∷ 10 ∷ 8 ∷ 33 ∷ 8 ∷ []) (byte % 16) 0
+    get_or (20 ∷ 1 ∷ 0 ∷ 0 ∷ 1 ∷ 0 ∷ 1 ∷ 0
+    ∷ 0 ∷ 0 ∷ 3 ∷ 8 ∷ 10 ∷ 8 ∷ 33 ∷ 8 ∷ []) (byte % 16) 0
 
 -- the document
 abbrev pub bytes_of : Inside → List ℕ
