@@ -1,0 +1,3 @@
+-- Proofs about URLs.
+pub mod Cuts
+pub mod Paths

@@ -1,36 +1,33 @@
--- The structure of a URL, and of one that is resolved against a base.
-use Rattle.std.specs.Prelude.{◌≡◌, ◌++◌, ◌||◌, ◌&&◌, ◌==◌, ◌+◌, ◌∷◌, ℕ, List, [], Option, Some}
-use Rattle.std.specs.Prelude.{None, codes, Bool, false, IsTrue, bytes_eq, if◌then◌else◌}
+-- The structure of a URL (RFC 3986, 3).
+use Rattle.std.specs.Prelude.{◌++◌, ◌||◌, ◌&&◌, ◌==◌, ◌+◌, ◌∷◌, ℕ, List, [], Option, Some}
+use Rattle.std.specs.Prelude.{None, codes, Bool, false, if◌then◌else◌, nat_eq}
 use Rattle.std.specs.Prelude.{drop, is_some, option_map}
 use Rattle.std.specs.Borrow.{Bor}
 use Rattle.std.specs.Char.{is_ascii_alphabetic, is_ascii_alphanumeric}
-use Rattle.std.specs.List.{before_first, list_all, position}
+use Rattle.std.specs.List.{before_first, list_all, list_any, position, position_or_len, starts_with}
 use Rattle.md_urls.specs.declared.parts.Parts.{Parts}
 
--- a mark and a part, if the part exists
-abbrev pub behind : List ℕ → Option (Bor (List ℕ)) → List ℕ
-behind mark None = []
-behind mark (Some part) = mark ++ part.now
+-- the parts of a URL; the path is never missing
+pub record Url : Type 0 where
+  pub scheme : Option (List ℕ)
+  pub authority : Option (List ℕ)
+  pub path : List ℕ
+  pub query : Option (List ℕ)
+  pub fragment : Option (List ℕ)
 
--- a part and a mark, if the part exists
-abbrev pub before : Option (Bor (List ℕ)) → List ℕ → List ℕ
-before None mark = []
-before (Some part) mark = part.now ++ mark
+-- the bytes of a part, if it exists
+abbrev pub bytes_of : Option (Bor (List ℕ)) → Option (List ℕ)
+bytes_of = option_map (λ part. part.now)
 
--- the URL of some parts (RFC 3986, 5.3), with a guard before its path
-abbrev pub url_of : List ℕ → Parts → List ℕ
-url_of guard parts =
-    before parts.scheme (codes ":") ++ (behind (codes "//") parts.authority ++ (guard
-    ++ (parts.path.now ++ (behind (codes "?") parts.query ++ behind (codes "#") parts.fragment))))
-
--- a text that may precede a path, so that it isn't read as an authority (3.3) or a scheme (4.2)
-abbrev pub is_guard : List ℕ → Bool
-is_guard text = bytes_eq text [] || bytes_eq text (codes "/.") || bytes_eq text (codes "./")
-
--- the URL of these parts was appended to a text, with or without a guard
-abbrev pub IsBehind : Parts → List ℕ → List ℕ → Type 0
-IsBehind parts old new = (guard : List ℕ) × IsTrue (is_guard guard)
-    × (new ≡ old ++ url_of guard parts)
+-- the parts that the code holds
+abbrev pub parts_of : Parts → Url
+parts_of parts = record {
+  scheme = bytes_of parts.scheme;
+  authority = bytes_of parts.authority;
+  path = parts.path.now;
+  query = bytes_of parts.query;
+  fragment = bytes_of parts.fragment;
+}
 
 -- what is after the first such mark, if there is one
 abbrev pub after : ℕ → List ℕ → Option (List ℕ)
@@ -51,16 +48,64 @@ scheme_in text =
     let front = before_first (λ byte. byte == 58) text in
     if is_some (after 58 text) && is_scheme front then Some front else None
 
--- the scheme of a URL, which has no `#` and no `?` before its colon
-abbrev pub scheme_of : List ℕ → Option (List ℕ)
-scheme_of url =
-    scheme_in (before_first (λ byte. byte == 63) (before_first (λ byte. byte == 35) url))
+-- a text without the scheme at its beginning and the colon after it
+abbrev pub behind_scheme : List ℕ → List ℕ
+behind_scheme text =
+    if is_some (scheme_in text) then drop (position_or_len (λ byte. byte == 58) text + 1) text else text
 
--- the bytes of a part, if it exists
-abbrev pub bytes_of : Option (Bor (List ℕ)) → Option (List ℕ)
-bytes_of = option_map (λ part. part.now)
+-- whether a text begins with the mark of an authority
+abbrev pub has_authority : List ℕ → Bool
+has_authority text = starts_with nat_eq text (codes "//")
 
--- the URL of some parts with a base's scheme was appended to a text
-abbrev pub IsOfScheme : List ℕ → List ℕ → List ℕ → Type 0
-IsOfScheme base old new = (parts : Parts)
-    × (bytes_of parts.scheme ≡ scheme_of base) × IsBehind parts old new
+-- the authority at the beginning of a text, up to the next slash (3.2)
+abbrev pub authority_in : List ℕ → Option (List ℕ)
+authority_in text =
+    if has_authority text then Some (before_first (λ byte. byte == 47) (drop 2 text)) else None
+
+-- the path, which is what follows the authority (3.3)
+abbrev pub path_in : List ℕ → List ℕ
+path_in text =
+    if has_authority text then drop (position_or_len (λ byte. byte == 47) (drop 2 text)) (drop 2 text)
+    else text
+
+-- what is before the fragment of a URL
+abbrev pub before_fragment : List ℕ → List ℕ
+before_fragment = before_first (λ byte. byte == 35)
+
+-- what is before the fragment and the query
+abbrev pub before_query : List ℕ → List ℕ
+before_query url = before_first (λ byte. byte == 63) (before_fragment url)
+
+-- the parts of a URL: the fragment is after the first `#`, the query after the first `?` before it
+abbrev pub split : List ℕ → Url
+split url = record {
+  scheme = scheme_in (before_query url);
+  authority = authority_in (behind_scheme (before_query url));
+  path = path_in (behind_scheme (before_query url));
+  query = after 63 (before_fragment url);
+  fragment = after 35 url;
+}
+
+-- a part with a mark before it, or after it; nothing if the part is missing
+abbrev pub behind : List ℕ → Option (List ℕ) → List ℕ
+behind mark None = []
+behind mark (Some part) = mark ++ part
+
+abbrev pub before : Option (List ℕ) → List ℕ → List ℕ
+before None mark = []
+before (Some part) mark = part ++ mark
+
+-- what precedes a path so that its beginning isn't read as an authority (3.3) or as a scheme (4.2)
+abbrev pub guard : Url → List ℕ
+guard url =
+    if is_some url.authority then []
+    else if starts_with nat_eq url.path (codes "//") then codes "/."
+    else if is_some url.scheme then []
+    else if list_any (λ byte. byte == 58) (before_first (λ byte. byte == 47) url.path) then codes "./"
+    else []
+
+-- the URL of some parts (5.3)
+abbrev pub joined : Url → List ℕ
+joined url =
+    before url.scheme (codes ":") ++ (behind (codes "//") url.authority ++ (guard url
+    ++ (url.path ++ (behind (codes "?") url.query ++ behind (codes "#") url.fragment))))

@@ -1,7 +1,8 @@
 //! A base, and URLs resolved against it.
 
-ghost use Rattle.std.specs.Prelude.{◌≡◌, IfOk, IsTrue, false};
-ghost use Rattle.md_urls.specs.Urls.{IsOfScheme, bytes_of, scheme_of};
+ghost use Rattle.std.specs.Prelude.{◌≡◌, ◌++◌, [], IfOk, not, if◌then◌else◌};
+ghost use Rattle.md_urls.specs.Resolved.{resolved, stays};
+ghost use Rattle.md_urls.specs.Urls.{parts_of, split};
 
 use crate::parts::Parts;
 use crate::path::{merged, without_dots};
@@ -14,7 +15,7 @@ pub struct Base<'a> {
     pub url: &'a str,
     /// Its parts.
     parts: Parts<'a>,
-    pub ghost scheme: { bytes_of parts.scheme ≡ scheme_of url.now },
+    pub ghost split: { parts_of parts ≡ split url.now },
 }
 
 impl<'a> Base<'a> {
@@ -49,10 +50,9 @@ impl<'a> Base<'a> {
         url: &[u8],
         text: &mut Vec<u8>,
     ) -> Result<bool, AllocError>
-        ensures other { IfOk result (λ is_other. IsTrue is_other
-            → IsOfScheme self.now.url.now text.old.items text.new.items) }
-        ensures own { IfOk result (λ is_other. is_other ≡ false
-            → text.new.items ≡ text.old.items) }
+        ensures changed { IfOk result (λ is_other. is_other ≡ not (stays url.now)) }
+        ensures text { IfOk result (λ is_other. text.new.items ≡ text.old.items
+            ++ (if is_other then resolved self.now.url.now url.now else [])) }
     {
         let parts = Parts::new(url);
         if parts.scheme.is_some() || matches!(url, [] | [b'#', ..]) {
@@ -70,12 +70,11 @@ impl<'a> Base<'a> {
             }
             .push_onto(text)?;
         } else if parts.path.is_empty() {
-            let path = self.parts.path;
+            let query = parts.query.or(self.parts.query);
             Parts {
-                scheme,
-                authority,
-                path,
-                ..parts
+                query,
+                fragment: parts.fragment,
+                ..self.parts
             }
             .push_onto(text)?;
         } else {

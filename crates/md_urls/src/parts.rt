@@ -1,9 +1,10 @@
 //! The parts of a URL.
 
-ghost use Rattle.std.specs.Prelude.{◌≡◌, ◌++◌, ◌==◌, OnOk, IsTrue};
+ghost use Rattle.std.specs.Prelude.{◌≡◌, ◌++◌, ◌==◌, OnOk};
 ghost use Rattle.std.specs.List.{before_first, list_all, position};
-ghost use Rattle.md_urls.specs.Urls.{IsBehind, after, before, behind, bytes_of, is_guard};
-ghost use Rattle.md_urls.specs.Urls.{is_in_scheme, is_scheme, scheme_in, scheme_of};
+ghost use Rattle.md_urls.specs.Urls.{after, authority_in, before, behind, behind_scheme, bytes_of};
+ghost use Rattle.md_urls.specs.Urls.{guard, is_in_scheme, is_scheme, joined, parts_of, path_in};
+ghost use Rattle.md_urls.specs.Urls.{scheme_in, split};
 
 use std::alloc::AllocError;
 
@@ -24,7 +25,7 @@ pub struct Parts<'a> {
 impl<'a> Parts<'a> {
     /// Splits a URL into its parts.
     pub fn new(url: &'a [u8]) -> Parts<'a>
-        ensures scheme { bytes_of result.scheme ≡ scheme_of url.now }
+        ensures { parts_of result ≡ split url.now }
     {
         let (rest, fragment) = cut(url, b'#');
         let (rest, query) = cut(rest, b'?');
@@ -45,7 +46,7 @@ impl<'a> Parts<'a> {
     ///
     /// Returns an error only if memory runs out.
     pub fn push_onto(&self, url: &mut Vec<u8>) -> Result<(), AllocError>
-        ensures { OnOk result (IsBehind self.now url.old.items url.new.items) }
+        ensures { OnOk result (url.new.items ≡ url.old.items ++ joined (parts_of self.now)) }
     {
         push_before(url, self.scheme, b":")?;
         push_behind(url, b"//", self.authority)?;
@@ -58,7 +59,7 @@ impl<'a> Parts<'a> {
     /// The text to write before the path so that it is read as a path: without it, its beginning
     /// would be an authority (3.3), or a scheme (4.2).
     fn before_path(&self) -> &'static [u8]
-        ensures { IsTrue (is_guard result.now) }
+        ensures { result.now ≡ guard (parts_of self.now) }
     {
         if self.authority.is_some() {
             return b"";
@@ -76,7 +77,7 @@ impl<'a> Parts<'a> {
 
 /// Appends a part, if it exists, and a mark after it.
 fn push_before(url: &mut Vec<u8>, part: Option<&[u8]>, mark: &[u8]) -> Result<(), AllocError>
-    ensures { OnOk result (url.new.items ≡ url.old.items ++ before part.entry mark.now) }
+    ensures { OnOk result (url.new.items ≡ url.old.items ++ before (bytes_of part.entry) mark.now) }
 {
     match part {
         Some(part) => {
@@ -89,7 +90,7 @@ fn push_before(url: &mut Vec<u8>, part: Option<&[u8]>, mark: &[u8]) -> Result<()
 
 /// Appends a part, if it exists, with a mark before it.
 fn push_behind(url: &mut Vec<u8>, mark: &[u8], part: Option<&[u8]>) -> Result<(), AllocError>
-    ensures { OnOk result (url.new.items ≡ url.old.items ++ behind mark.now part.entry) }
+    ensures { OnOk result (url.new.items ≡ url.old.items ++ behind mark.now (bytes_of part.entry)) }
 {
     match part {
         Some(part) => {
@@ -120,7 +121,8 @@ fn place_of(text: &[u8], mark: u8) -> Option<usize>
 
 /// The scheme at the beginning of a text, and the text after its colon.
 fn cut_scheme(text: &[u8]) -> (Option<&[u8]>, &[u8])
-    ensures { bytes_of result.0 ≡ scheme_in text.now }
+    ensures scheme { bytes_of result.0 ≡ scheme_in text.now }
+    ensures rest { result.1.now ≡ behind_scheme text.now }
 {
     match cut(text, b':') {
         (scheme, Some(rest)) if is_scheme(scheme) => (Some(scheme), rest),
@@ -129,15 +131,14 @@ fn cut_scheme(text: &[u8]) -> (Option<&[u8]>, &[u8])
 }
 
 /// The authority at the beginning of a text, and the text after it.
-fn cut_authority(text: &[u8]) -> (Option<&[u8]>, &[u8]) {
-    if !text.starts_with(b"//") {
+fn cut_authority(text: &[u8]) -> (Option<&[u8]>, &[u8])
+    ensures authority { bytes_of result.0 ≡ authority_in text.now }
+    ensures path { result.1.now ≡ path_in text.now }
+{
+    let Some(rest) = text.strip_prefix(b"//") else {
         return (None, text);
-    }
-    let rest = text.get(2..).unwrap_or(b"");
-    let end = rest
-        .iter()
-        .position(|byte| *byte == b'/')
-        .unwrap_or(rest.len());
+    };
+    let end = place_of(rest, b'/').unwrap_or(rest.len());
     let (authority, path) = rest.split_at(end);
     (Some(authority), path)
 }

@@ -1,7 +1,7 @@
 //! What is appended to a document.
 
-ghost use Rattle.std.specs.Prelude.{◌≡◌, [], true, option_map};
-ghost use Rattle.md_writer.specs.Added.{AreAdded};
+ghost use Rattle.std.specs.Prelude.{◌≡◌, ◌++◌, [], true, option_map, IfOk};
+ghost use Rattle.md_writer.specs.Added.{AreAdded, is_changed, piece_of};
 
 use md_urls::Base;
 use std::alloc::{AllocError, Global};
@@ -81,7 +81,12 @@ impl<'a> Added<'a> {
     /// # Errors
     ///
     /// Returns an error only if memory runs out; then there are no bytes any more.
-    pub fn push_resolved(&mut self, alloc: Global, url: &[u8]) -> Result<bool, AllocError> {
+    pub fn push_resolved(&mut self, alloc: Global, url: &[u8]) -> Result<bool, AllocError>
+        ensures base { self.new.base ≡ self.old.base }
+        ensures changed { IfOk result (λ is_other. is_other ≡ is_changed self.old.base url.now) }
+        ensures bytes { IfOk result (λ _. self.new.bytes
+            ≡ self.old.bytes ++ piece_of self.old.base url.now) }
+    {
         let Some(base) = &self.base else {
             return Ok(false);
         };

@@ -1,11 +1,9 @@
--- The scheme is looked for before the fragment and the query.
-use Rattle.std.proofs.Common.{◌==◌, ap, ◌∙◌}
-use Rattle.std.specs.List.{before_first}
-use Rattle.md_urls.specs.Urls.{scheme_in}
+-- Each part is that of the text that the cuts before it left.
+use Rattle.md_urls.proofs.Cuts.{split-by-cuts}
 use Rattle.md_urls.proofs.parts.Parts.new.Goals as goal
 
 pub returns : goal.returns
-returns c = record {
-  scheme = c.cut_scheme.ensures ∙ ap scheme_in (c.cut-2.ensures.front
-      ∙ ap (before_first (λ byte. byte == 63)) c.cut.ensures.front);
-}
+returns c =
+    split-by-cuts c.args.url.now _ _ _ _ _ _ _ _ c.cut.ensures.front c.cut.ensures.back
+    c.cut-2.ensures.front c.cut-2.ensures.back c.cut_scheme.ensures.scheme
+    c.cut_scheme.ensures.rest c.cut_authority.ensures.authority c.cut_authority.ensures.path
