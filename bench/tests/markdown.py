@@ -246,6 +246,8 @@ SHAPES = {
     "declarations without an end": lambda n: times(n, "x <!A <? <![CDATA["),
     "less-than signs": lambda n: times(n, "<"),
     "www": lambda n: times(n, "_www.a_b."),
+    "www in a domain": lambda n: times(n, "www.a_"),
+    "www in a word": lambda n: times(n, "xwww."),
     "www in a bracket": lambda n: "[" + times(n, "_www.a_b."),
     "bare links": lambda n: times(n, "http://a_b.c_d "),
     "a bare link with parentheses": lambda n: "http://a.b/" + "(" * (n // 2) + ")" * (n // 2 + 9),

@@ -72,6 +72,8 @@ AS_GFM = [
     "a.b+c@d.e-\n", "a.b+c@d.e.\n", "www.a.bc.\n", "www.a.bc/d_e_f*\n", "mailto:a@b.c\n",
     "http://a.b<c\n", "*www.a.bc*\n", "~www.a.bc~\n", "www.a_b.cd\n", "www.a.b_c\n",
     "HTTPS://a.bc\n", "`www.a.bc`\n", "[www.a.bc](d)\n", "a@b_c.de\n", "a@b\n",
+    "_www.a.b_\n", "www.a_www.c\n", "xwww.a_www.c\n", "xwww._www.a_b.c.d\n", "*www.a_b_*\n",
+    "_www.a_www.c.d_\n", "_http://a.b_\n", "x[^a]\n\n[^a]:www.a.b\n",
     # Characters beside marks.
     "a\u00a0*b*\n", "a*\u00a0b*\n", "\u20ac*b*c\n", "a*\u20acb*c\n", "\u3001*b*c\n",
     "a*\u3001b*c\n", "a*\U00010100b*c\n", "\U00010100_b_\n", "\u00fc_b_c\n", "a_b_\u00fc\n",
@@ -129,6 +131,11 @@ BY_OPTIONS = [
         ("https://a.b/c]d [e [f](g) https://h.i]\n",
          '<p><a href="https://a.b/c">https://a.b/c</a>]d [e <a href="g">f</a> <a '
          'href="https://h.i">https://h.i</a>]</p>\n'),
+    ]),
+    # A bare link ends before a mark that closes emphasis, whatever follows.
+    ((), [
+        ("_www.a.b_ @\n", '<p><em><a href="http://www.a.b">www.a.b</a></em> @</p>\n'),
+        ("_http://a.b_ c\n", '<p><em><a href="http://a.b">http://a.b</a></em> c</p>\n'),
     ]),
     # A bare link begins with its protocol.
     ((), [

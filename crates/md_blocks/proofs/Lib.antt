@@ -2,3 +2,4 @@
 pub mod TapeLemmas
 pub mod Trimming
 pub mod Somewhere
+pub mod Resting

@@ -3,3 +3,6 @@ pub mod Tape
 pub mod Marks
 pub mod Leaves
 pub mod HtmlBlocks
+pub mod Rests
+pub mod Positions
+pub mod Containers

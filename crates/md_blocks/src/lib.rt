@@ -12,6 +12,7 @@ mod definition;
 mod html;
 mod label;
 mod marker;
+mod matching;
 mod nesting;
 mod options;
 mod pass;

@@ -1,14 +1,15 @@
 //! The pass over the lines of a document.
 
-ghost use Rattle.std.specs.Prelude.{◌≡◌, ◌≤◌, false, vec_len, OnOk};
+ghost use Rattle.std.specs.Prelude.{◌≡◌, ◌≤◌, false, length, vec_len, OnOk};
 
-use crate::block::{Block, ContainerKind, LineRange};
+use crate::block::{Block, LineRange};
 use crate::blocks::Blocks;
 use crate::breaks::Breaks;
 use crate::code::Fence;
 use crate::definition::Definitions;
 use crate::html::HtmlKind;
-use crate::nesting::{Nesting, Open};
+use crate::matching::match_containers;
+use crate::nesting::Nesting;
 use crate::options::MarkdownOptions;
 use crate::position::Position;
 use crate::preamble::{front_matter, start_of};
@@ -26,6 +27,10 @@ const BYTES_PER_LINE: usize = 32;
 
 /// The minimum capacity for blocks, and for lines.
 const LEAST_ROOM: usize = 16;
+
+/// The maximum length of a document in bytes. No machine has the memory for a longer one; up to
+/// this length its columns can be counted.
+const MOST_BYTES: usize = 1 << 60;
 
 /// The open leaf.
 #[derive(Clone, Copy, PartialEq, Eq)]
@@ -69,15 +74,20 @@ pub(crate) struct Pass<'a> {
     /// The index up to which the document is read.
     pub(crate) at: usize,
     pub(crate) breaks: Breaks,
+    ghost short: { length bytes.now ≤ 1152921504606846976 },
 }
 
 impl<'a> Pass<'a> {
-    /// The state before a document's first line.
+    /// The state before a document's first line. A document of more than `MOST_BYTES` bytes is
+    /// refused as memory that ran out.
     pub(crate) fn new(
         alloc: Global,
         bytes: &'a [u8],
         options: &'a MarkdownOptions,
     ) -> Result<Self, AllocError> {
+        if bytes.len() > MOST_BYTES {
+            return Err(AllocError);
+        }
         let nesting = Nesting::new(alloc, bytes.len() / BYTES_PER_BLOCK + LEAST_ROOM)?;
         let lines = Vec::with_capacity(alloc, bytes.len() / BYTES_PER_LINE + LEAST_ROOM)?;
         Ok(Pass {
@@ -160,7 +170,7 @@ impl<'a> Pass<'a> {
             }
             self.is_after_blank = false;
         }
-        let matched = self.match_containers(position);
+        let matched = match_containers(self.nesting.stack.as_slice(), position);
         self.at = position.at;
         let is_whole = matched == self.nesting.depth();
         if !(is_whole && self.continue_leaf(position)?) {
@@ -168,20 +178,6 @@ impl<'a> Pass<'a> {
         }
         self.at = position.at;
         Ok(())
-    }
-
-    /// Skips the markers and indentation by which the line continues open blocks. Returns how many
-    /// it continues, from the outermost.
-    #[inline(always)]
-    fn match_containers(&self, position: &mut Position<'_>) -> usize {
-        let mut matched = 0;
-        for open in &self.nesting.stack {
-            if !goes_on_in(*open, position) {
-                break;
-            }
-            matched += 1;
-        }
-        matched
     }
 
     /// Reads a line in a leaf that accepts any line; returns whether the open leaf is one.
@@ -235,41 +231,4 @@ impl<'a> Pass<'a> {
     pub(crate) fn leaf_lines(&self) -> LineRange {
         LineRange::new(self.leaf_start, self.lines.len())
     }
-}
-
-/// Skips the marker or indentation by which the line continues an open block; returns whether it
-/// continues it.
-#[inline(always)]
-fn goes_on_in(open: Open, position: &mut Position<'_>) -> bool {
-    match open.kind {
-        ContainerKind::OrderedList | ContainerKind::UnorderedList => true,
-        ContainerKind::Quote => goes_on_in_quote(position),
-        ContainerKind::Item => {
-            if position.is_blank() && !open.has_child {
-                return false;
-            }
-            goes_on_indented(open.indent, position)
-        }
-        ContainerKind::FootnoteDefinition => goes_on_indented(CODE_INDENT, position),
-    }
-}
-
-/// Skips a quote's mark; returns whether there was one.
-#[inline]
-fn goes_on_in_quote(position: &mut Position<'_>) -> bool {
-    if position.indent > 3 || position.byte() != Some(b'>') {
-        return false;
-    }
-    position.pass_quote_mark();
-    true
-}
-
-/// Skips `columns` columns of indentation; returns whether the line has them, or is blank.
-#[inline]
-fn goes_on_indented(columns: usize, position: &mut Position<'_>) -> bool {
-    if position.indent < columns && !position.is_blank() {
-        return false;
-    }
-    position.advance(columns);
-    true
 }

@@ -1,6 +1,9 @@
 //! A position in a line, by bytes and by columns.
 
-ghost use Rattle.std.specs.Prelude.{◌≡◌, ◌+◌, ◌≤◌, ◌<◌, ◌%◌, length, drop, IsSome, true};
+ghost use Rattle.std.specs.Prelude.{◌≡◌, ◌+◌, ◌*◌, ◌≤◌, ◌<◌, ◌%◌, ◌∷◌, suc, length, drop};
+ghost use Rattle.std.specs.Prelude.{get_or, IsSome, true};
+ghost use Rattle.md_blocks.specs.Rests.{text_of, rest_at, columns_at, blanks, skipped, skipped_at};
+ghost use Rattle.md_blocks.specs.Rests.{passed, width, is_blank_rest, first};
 
 use md_lines::Line;
 
@@ -27,14 +30,23 @@ pub(crate) struct Position<'a> {
     pub(crate) indent: usize,
     ghost before_text: { at ≤ text },
     ghost in_line: { text ≤ length line.now },
+    ghost short: { length line.now ≤ 1152921504606846976 },
+    ghost few: { column + indent ≤ 4 * text + 3 },
+    ghost in_tab: { is_in_tab ≡ true → drop at line.now ≡ 9 ∷ drop (suc at) line.now },
+    ghost indents: { indent ≡ columns_at column (text_of line.now at column is_in_tab) },
+    ghost text_there: { text ≡ at + blanks (drop at line.now) },
 }
 
 impl<'a> Position<'a> {
+    ghost use Rattle.md_blocks.specs.Positions.{rest_of};
+
     /// The position at the beginning of a line, which extends from `at` to the end of `line`.
     #[inline(always)]
     pub(crate) fn new(line: &'a [u8], at: usize, ending: u8) -> Self
-        requires { at ≤ length line.now }
+        requires within { at ≤ length line.now }
+        requires short { length line.now ≤ 1152921504606846976 }
         ensures at { result.at ≡ at }
+        ensures rest { rest_of result ≡ rest_at 0 (drop at line.now) }
     {
         let (text, indent) = text_after(line, at, 0);
         Position {
@@ -51,7 +63,8 @@ impl<'a> Position<'a> {
     /// The first byte of the text; `None` if only spaces and tabs remain.
     #[inline(always)]
     pub(crate) fn byte(&self) -> Option<u8>
-        ensures { IsSome result → self.now.text < length self.now.line.now }
+        ensures there { IsSome result → self.now.text < length self.now.line.now }
+        ensures value { result ≡ first (rest_of self.now) }
     {
         if self.text < self.line.len() {
             Some(self.line[self.text])
@@ -62,7 +75,9 @@ impl<'a> Position<'a> {
 
     /// Whether only spaces and tabs remain.
     #[inline(always)]
-    pub(crate) fn is_blank(&self) -> bool {
+    pub(crate) fn is_blank(&self) -> bool
+        ensures { result ≡ is_blank_rest (rest_of self.now) }
+    {
         self.text >= self.line.len()
     }
 
@@ -78,20 +93,21 @@ impl<'a> Position<'a> {
     pub(crate) fn advance(&mut self, columns: usize)
         ensures at { self.old.at ≤ self.new.at }
         ensures line { self.new.line ≡ self.old.line }
+        ensures rest { rest_of self.new ≡ skipped columns (rest_of self.old) }
     {
-        let mut left = columns.min(self.indent);
+        let left = columns.min(self.indent);
+        let (at, column, is_in_tab) = skip_columns(
+            self.line,
+            self.text,
+            self.at,
+            self.column,
+            self.is_in_tab,
+            left,
+        );
+        self.at = at;
+        self.column = column;
+        self.is_in_tab = is_in_tab;
         self.indent -= left;
-        while left > 0 && self.at < self.text {
-            let width = width_at(self.line, self.at, self.column);
-            self.is_in_tab = width > left;
-            if self.is_in_tab {
-                self.column = self.column.wrapping_add(left);
-                return;
-            }
-            self.column = self.column.wrapping_add(width);
-            self.at += 1;
-            left -= width;
-        }
     }
 
     /// Skips the spaces and tabs, and `width` bytes of the text.
@@ -99,9 +115,10 @@ impl<'a> Position<'a> {
         requires { self.old.text + width ≤ length self.old.line.now }
         ensures at { self.new.at ≡ self.old.text + width }
         ensures line { self.new.line ≡ self.old.line }
+        ensures rest { rest_of self.new ≡ passed width (rest_of self.old) }
     {
         let at = self.text + width;
-        let column = self.column.wrapping_add(self.indent).wrapping_add(width);
+        let column = self.column + self.indent + width;
         let (text, indent) = text_after(self.line, at, column);
         self.at = at;
         self.column = column;
@@ -116,9 +133,10 @@ impl<'a> Position<'a> {
         ensures at { self.new.at ≡ self.old.text }
         ensures indent { self.new.indent ≡ 0 }
         ensures line { self.new.line ≡ self.old.line }
+        ensures rest { rest_of self.new ≡ passed 0 (rest_of self.old) }
     {
         self.at = self.text;
-        self.column = self.column.wrapping_add(self.indent);
+        self.column += self.indent;
         self.is_in_tab = false;
         self.indent = 0;
     }
@@ -129,6 +147,7 @@ impl<'a> Position<'a> {
         requires { self.old.text < length self.old.line.now }
         ensures at { self.old.at < self.new.at }
         ensures line { self.new.line ≡ self.old.line }
+        ensures rest { rest_of self.new ≡ skipped 1 (passed 1 (rest_of self.old)) }
     {
         self.pass(1);
         self.advance(1);
@@ -175,14 +194,61 @@ impl<'a> Position<'a> {
     }
 }
 
+/// Skips `columns` columns of spaces and tabs, of which there are enough before `text`. Returns the
+/// index, the column, and whether that is within the tab at that index.
+#[inline(always)]
+fn skip_columns(
+    line: &[u8],
+    text: usize,
+    from: usize,
+    start: usize,
+    within: bool,
+    columns: usize,
+) -> (usize, usize, bool)
+    requires in_line { text ≤ length line.now }
+    requires short { length line.now ≤ 1152921504606846976 }
+    requires text { text ≡ from + blanks (drop from line.now) }
+    requires tab { within ≡ true → drop from line.now ≡ 9 ∷ drop (suc from) line.now }
+    requires enough { columns ≤ columns_at start (text_of line.now from start within) }
+    requires few { start + columns_at start (text_of line.now from start within) ≤ 4 * text + 3 }
+    ensures after { from ≤ result.0 }
+    ensures text { text ≡ result.0 + blanks (drop result.0 line.now) }
+    ensures tab { result.2 ≡ true → drop result.0 line.now ≡ 9 ∷ drop (suc result.0) line.now }
+    ensures indent { columns_at result.1 (text_of line.now result.0 result.1 result.2) + columns
+        ≡ columns_at start (text_of line.now from start within) }
+    ensures column { result.1 ≡ start + columns }
+    ensures rest { rest_at result.1 (text_of line.now result.0 result.1 result.2)
+        ≡ skipped_at columns start (text_of line.now from start within) }
+{
+    let mut at = from;
+    let mut column = start;
+    let mut is_in_tab = within;
+    let mut left = columns;
+    while left > 0 && at < text {
+        let width = width_at(line, at, column);
+        if width > left {
+            return (at, column + left, true);
+        }
+        is_in_tab = false;
+        column += width;
+        at += 1;
+        left -= width;
+    }
+    (at, column, is_in_tab)
+}
+
 /// The width in columns of the space or tab at an index, if it begins at a column.
 #[inline(always)]
 fn width_at(line: &[u8], at: usize, column: usize) -> usize
-    ensures { 1 ≤ result }
+    requires { at < length line.now }
+    ensures some { 1 ≤ result }
+    ensures few { result ≤ 4 }
+    ensures value { result ≡ width column (get_or line.now at 0) }
 {
-    match line.get(at) {
-        Some(b'\t') => TAB_STOP - column % TAB_STOP,
-        _ => 1,
+    if line[at] == b'\t' {
+        TAB_STOP - column % TAB_STOP
+    } else {
+        1
     }
 }
 
@@ -190,14 +256,19 @@ fn width_at(line: &[u8], at: usize, column: usize) -> usize
 /// columns.
 #[inline(always)]
 fn text_after(line: &[u8], from: usize, column: usize) -> (usize, usize)
-    requires { from ≤ length line.now }
+    requires within { from ≤ length line.now }
+    requires short { length line.now ≤ 1152921504606846976 }
+    requires column { column ≤ 4 * from + 3 }
     ensures after { from ≤ result.0 }
     ensures within { result.0 ≤ length line.now }
+    ensures few { column + result.1 ≤ 4 * result.0 + 3 }
+    ensures text { result.0 ≡ from + blanks (drop from line.now) }
+    ensures indent { result.1 ≡ columns_at column (drop from line.now) }
 {
     let mut at = from;
     let mut indent: usize = 0;
     while at < line.len() && (line[at] == b' ' || line[at] == b'\t') {
-        indent = indent.saturating_add(width_at(line, at, column.wrapping_add(indent)));
+        indent += width_at(line, at, column + indent);
         at += 1;
     }
     (at, indent)

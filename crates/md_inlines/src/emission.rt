@@ -10,7 +10,7 @@ use crate::strings::write_reference;
 use md_base::Name;
 use md_blocks::DocumentHtml;
 use md_lines::{Span, find_any};
-use md_marks::{BareLink, Leaf, Mark, Token, address, domain_end, is_www, run_length, url, www};
+use md_marks::{BareLink, Leaf, Mark, Token, WwwLinks, address, run_length, url};
 use md_writer::Writer;
 use std::alloc::AllocError;
 
@@ -231,30 +231,21 @@ impl<'e> LeafContext<'e> {
         let text = self.leaf.bytes.get(..end).unwrap_or(b"");
         let mut from = start;
         let mut at = start;
-        let mut no_www_before = start;
+        let mut www = WwwLinks::new();
         while at < text.len() {
             // Each bare link has one of these.
             at = find_any(self.leaf.bytes, [b'@', b':', b'.'], at, text.len());
-            let Some(byte) = text.get(at).copied() else {
+            if at >= text.len() {
                 break;
-            };
-            if byte == b'.' && at < no_www_before {
-                at = at.saturating_add(1);
-                continue;
             }
-            match bare_link(text, from, at) {
+            match bare_link(&mut www, text, from, at) {
                 Some(link) => {
                     writer.data(from, link.start)?;
                     self.write_link(writer, link.name, link.start, link.end)?;
                     from = link.end;
                     at = link.end.max(at.saturating_add(1));
                 }
-                None => {
-                    if byte == b'.' && is_www(text, from, at) {
-                        no_www_before = domain_end(text, at);
-                    }
-                    at = at.saturating_add(1);
-                }
+                None => at = at.saturating_add(1),
             }
         }
         writer.data(from, end)
@@ -322,12 +313,12 @@ fn keeps(html: DocumentHtml, is_comment: bool) -> bool
 }
 
 /// The bare link whose mark is at an index. It begins at `low` or later, and ends with the text.
-fn bare_link(text: &[u8], low: usize, at: usize) -> Option<BareLink> {
+fn bare_link(www: &mut WwwLinks, text: &[u8], low: usize, at: usize) -> Option<BareLink> {
     let high = text.len();
     match text.get(at) {
         Some(b'@') => address(text, low, at, high),
         Some(b':') => url(text, low, at, high),
-        Some(_) => www(text, 0, low, at, high),
+        Some(_) => www.find(text, 0, low, at, high),
         None => None,
     }
 }

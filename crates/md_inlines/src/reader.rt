@@ -3,7 +3,9 @@
 use crate::brackets::{Bracket, Target};
 use md_blocks::{Definitions, MarkdownOptions};
 use md_lines::{Place, trim_end};
-use md_marks::{Delimiters, Dollars, Endings, Leaf, Mark, Marks, Ticks, Token, push_token};
+use md_marks::{
+    Delimiters, Dollars, Endings, Leaf, Mark, Marks, Ticks, Token, WwwLinks, push_token,
+};
 use std::alloc::{AllocError, Global};
 
 /// How many tokens most leaves have at most.
@@ -33,8 +35,7 @@ pub(crate) struct Reader<'a> {
     pub(crate) ticks: Ticks,
     pub(crate) dollars: Dollars,
     pub(crate) endings: Endings,
-    /// Before this place no link begins with `www.`.
-    pub(crate) no_www_before: usize,
+    pub(crate) www: WwwLinks,
     /// Whether texts may contain bare links that aren't tokens.
     pub(crate) has_late_links: bool,
     /// Whether the leaf is the cell of a table.
@@ -63,7 +64,7 @@ impl<'a> Reader<'a> {
             ticks: Ticks::new(alloc),
             dollars: Dollars::new(),
             endings: Endings::new(),
-            no_www_before: 0,
+            www: WwwLinks::new(),
             has_late_links: false,
             is_cell: false,
         }
@@ -96,6 +97,7 @@ impl<'a> Reader<'a> {
         self.ticks.clear();
         self.dollars = Dollars::new();
         self.endings = Endings::new();
+        self.www = WwwLinks::new();
         self.has_late_links = false;
     }
 

@@ -6,8 +6,7 @@ use crate::reader::Reader;
 use md_base::Name;
 use md_lines::{Class, Place, find_any, is};
 use md_marks::{
-    Delimiter, Leaf, Mark, autolink_at, class_after, class_before, domain_end, flanks, is_www,
-    run_length, url, www,
+    Delimiter, Leaf, Mark, autolink_at, class_after, class_before, flanks, is_www, run_length, url,
 };
 use md_references::reference_length;
 use std::alloc::AllocError;
@@ -20,8 +19,7 @@ impl<'a> Reader<'a> {
     {
         let line = leaf.start(here.line);
         let low = self.from.max(line);
-        let may_begin = self.options.bare_links && here.at >= self.no_www_before;
-        if !may_begin || !is_www(leaf.bytes, low, here.at) {
+        if !self.options.bare_links || !is_www(leaf.bytes, low, here.at) {
             return Ok(here);
         }
         if self.is_in_link() {
@@ -29,10 +27,10 @@ impl<'a> Reader<'a> {
             return Ok(here);
         }
         let end = leaf.end(here.line);
-        match www(leaf.bytes, line, low, here.at, end) {
+        match self.www.find(leaf.bytes, line, low, here.at, end) {
             Some(link) => self.put(here.line, Mark::BareWww, link.start, link.end),
             None => {
-                self.no_www_before = domain_end(leaf.until_end(here.line), here.at);
+                self.has_late_links = true;
                 Ok(here)
             }
         }
@@ -53,7 +51,10 @@ impl<'a> Reader<'a> {
         let low = self.from.max(leaf.start(here.line));
         match url(leaf.bytes, low, here.at, leaf.end(here.line)) {
             Some(link) => self.put(here.line, Mark::BareUrl, link.start, link.end),
-            None => Ok(here),
+            None => {
+                self.has_late_links = true;
+                Ok(here)
+            }
         }
     }
 

@@ -5,7 +5,6 @@ ghost use Rattle.md_marks.specs.BareLinks.{goes_on, link_length, open_after};
 
 use crate::characters::{CharacterClass, class_after};
 use md_base::Name;
-use md_lines::{Class, is};
 
 /// A bare link: the event's name, and its range.
 #[derive(Clone, Copy, Debug, PartialEq, Eq)]
@@ -33,7 +32,7 @@ pub fn url(bytes: &[u8], low: usize, colon: usize, high: usize) -> Option<BareLi
     if !matches!(class_after(rest), CharacterClass::Word) {
         return None;
     }
-    domain_length(rest, false)?;
+    domain_length(rest, false).ok()?;
     let end = link_end(bytes, start, high)?;
     let is_long = end > colon.saturating_add(3);
     is_long.then_some(BareLink {
@@ -43,26 +42,51 @@ pub fn url(bytes: &[u8], low: usize, colon: usize, high: usize) -> Option<BareLi
     })
 }
 
-/// The link that begins with `www.`, whose first full stop is at `dot`. It begins at `low` or later,
-/// in a line from `line` to `high`, and ends before NUL.
-pub fn www(bytes: &[u8], line: usize, low: usize, dot: usize, high: usize) -> Option<BareLink> {
-    if !is_www(bytes, low, dot) {
-        return None;
+/// The search for links that begin with `www.`, from left to right.
+#[derive(Drop)]
+pub struct WwwLinks {
+    /// No link begins before this index, since the domain around it has a `_` in its last two parts
+    /// there. So no text is read twice as a domain.
+    refused_before: usize,
+}
+
+impl WwwLinks {
+    /// The state before a text.
+    pub fn new() -> WwwLinks {
+        WwwLinks { refused_before: 0 }
     }
-    let start = dot.checked_sub(3)?;
-    if !may_begin(bytes.get(line..start).unwrap_or(b"")) {
-        return None;
+
+    /// The link whose first full stop is at `dot`. It begins at `low` or later, in a line from
+    /// `line` to `high`, and ends before NUL.
+    pub fn find(
+        &mut self,
+        bytes: &[u8],
+        line: usize,
+        low: usize,
+        dot: usize,
+        high: usize,
+    ) -> Option<BareLink> {
+        if !is_www(bytes, low, dot) {
+            return None;
+        }
+        let start = dot.checked_sub(3)?;
+        if start < self.refused_before || !may_begin(bytes.get(line..start).unwrap_or(b"")) {
+            return None;
+        }
+        let text = bytes.get(start..high)?;
+        if let Err(marked) = domain_length(text, true) {
+            self.refused_before = start.saturating_add(marked);
+            return None;
+        }
+        let high = start.saturating_add(text.iter().take_while(|byte| **byte != 0).count());
+        let end = link_end(bytes, start, high)?;
+        let is_long = end > dot.saturating_add(1);
+        is_long.then_some(BareLink {
+            name: Name::GfmAutolinkLiteralWww,
+            start,
+            end,
+        })
     }
-    let text = bytes.get(start..high)?;
-    let high = start.saturating_add(text.iter().take_while(|byte| **byte != 0).count());
-    domain_length(text, true)?;
-    let end = link_end(bytes, start, high)?;
-    let is_long = end > dot.saturating_add(1);
-    is_long.then_some(BareLink {
-        name: Name::GfmAutolinkLiteralWww,
-        start,
-        end,
-    })
 }
 
 /// Whether `www` precedes `dot`, and doesn't begin before `low`.
@@ -184,15 +208,20 @@ fn resource_length(text: &[u8], from: usize) -> usize {
 }
 
 /// The length of the domain at the beginning of a text: letters, digits, `-`, `_` and full stops,
-/// with no `_` in the last two parts.
-fn domain_length(text: &[u8], needs_dot: bool) -> Option<usize> {
+/// with no `_` in the last two parts. If there is none, the index behind the last `_`, before which
+/// no domain begins that ends in the same parts.
+fn domain_length(text: &[u8], needs_dot: bool) -> Result<usize, usize> {
     let mut has_dot = false;
     let mut is_last_marked = false;
     let mut is_one_before_marked = false;
+    let mut marked = 0;
     let mut length = text.len();
     for (index, byte) in text.iter().enumerate() {
         match *byte {
-            b'_' => is_last_marked = true,
+            b'_' => {
+                is_last_marked = true;
+                marked = index.saturating_add(1);
+            }
             b'.' => {
                 is_one_before_marked = is_last_marked;
                 is_last_marked = false;
@@ -207,7 +236,11 @@ fn domain_length(text: &[u8], needs_dot: bool) -> Option<usize> {
         }
     }
     let is_domain = !is_last_marked && !is_one_before_marked && (has_dot || !needs_dot);
-    (is_domain && length > 0).then_some(length)
+    if is_domain && length > 0 {
+        Ok(length)
+    } else {
+        Err(marked)
+    }
 }
 
 /// The end of a link from `start`: before white space, `<`, a closing bracket that it doesn't open,
@@ -301,16 +334,4 @@ fn reference_length(link: &[u8], last: usize) -> usize {
     } else {
         0
     }
-}
-
-/// The end of a domain that continues at an index.
-pub fn domain_end(text: &[u8], at: usize) -> usize {
-    let rest = text.get(at..).unwrap_or(b"");
-    let length = rest
-        .iter()
-        .take_while(|byte| {
-            is(**byte, Class::Alphanumeric) || matches!(**byte, b'.' | b'-' | b'_')
-        })
-        .count();
-    at.saturating_add(length)
 }

@@ -13,7 +13,7 @@ mod marks;
 mod token;
 
 pub use autolinks::{Autolink, autolink_at};
-pub use bare_links::{BareLink, address, domain_end, is_www, url, www};
+pub use bare_links::{BareLink, WwwLinks, address, is_www, url};
 pub use characters::{CharacterClass, class_after, class_before, flanks};
 pub use closings::{Dollars, Ticks};
 pub use delimiters::{Delimiter, Delimiters};
