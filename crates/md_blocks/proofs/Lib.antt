@@ -3,3 +3,4 @@ pub mod TapeLemmas
 pub mod Trimming
 pub mod Somewhere
 pub mod Resting
+pub mod StackLemmas

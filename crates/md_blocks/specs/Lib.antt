@@ -6,3 +6,5 @@ pub mod HtmlBlocks
 pub mod Rests
 pub mod Positions
 pub mod Containers
+pub mod Stack
+pub mod BlankLines

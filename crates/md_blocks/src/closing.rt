@@ -1,6 +1,7 @@
 //! Closes open blocks: the leaf, and the containers that a line doesn't continue.
 
-ghost use Rattle.std.specs.Prelude.{◌≡◌, ◌≤◌, vec_len, OnOk};
+ghost use Rattle.std.specs.Prelude.{◌≡◌, ◌≤◌, ◌++◌, vec_len, OnOk, None};
+ghost use Rattle.md_blocks.specs.BlankLines.{blank_before};
 
 use crate::block::{Block, LineRange};
 use crate::definition::read_definition;
@@ -40,7 +41,11 @@ impl<'a> Pass<'a> {
     /// Writes a blank line that precedes a child of an item, or separates two items.
     #[inline]
     pub(crate) fn put_blank_line(&mut self) -> Result<(), AllocError>
-        ensures { vec_len self.new.nesting.stack ≡ vec_len self.old.nesting.stack }
+        ensures stack { self.new.nesting.stack ≡ self.old.nesting.stack }
+        ensures tape { OnOk result (self.new.nesting.tape.items ≡ self.old.nesting.tape.items
+            ++ blank_before self.old.blank_line self.old.nesting.stack.items) }
+        ensures none { self.new.blank_line ≡ None }
+        ensures leaf { self.new.leaf ≡ self.old.leaf }
     {
         let Some(blank) = self.blank_line else {
             return Ok(());

@@ -1,8 +1,12 @@
 //! The tape, and the open containers.
 
+ghost use Rattle.md_blocks.specs.Stack.{ends_of, innermost, is_footnote, is_list, is_quote};
+ghost use Rattle.md_blocks.specs.Stack.{quotes_depth, with_child, without_list};
+ghost use Rattle.md_blocks.specs.BlankLines.{in_list};
 ghost use Rattle.md_blocks.specs.Tape.{leads, enters, exits};
-ghost use Rattle.std.specs.Prelude.{IsTrue, ◌≡◌, ◌≤◌, ◌<◌, ◌+◌, vec_len, OnOk, IsSome};
-ghost use Rattle.std.specs.Prelude.{true, false};
+ghost use Rattle.std.specs.Prelude.{IsTrue, ◌≡◌, ◌≤◌, ◌<◌, ◌+◌, ◌-◌, ◌++◌, ◌∷◌, ◌||◌, [], vec_len};
+ghost use Rattle.std.specs.Prelude.{drop, length, take, OnOk, IsSome, slice_get, true, false};
+ghost use Rattle.std.specs.List.{list_any};
 
 use crate::block::{Block, ContainerKind};
 use std::alloc::{AllocError, Global};
@@ -24,10 +28,22 @@ pub(crate) struct Open {
 
 impl Open {
     /// Whether it is a list.
-    pub(crate) fn is_list(self) -> bool {
+    pub(crate) fn is_list(self) -> bool
+        ensures { result ≡ is_list self }
+    {
         matches!(
             self.kind,
             ContainerKind::OrderedList | ContainerKind::UnorderedList
+        )
+    }
+
+    /// Whether it is a quote or a footnote.
+    fn is_quote_or_footnote(self) -> bool
+        ensures { result ≡ (is_quote self || is_footnote self) }
+    {
+        matches!(
+            self.kind,
+            ContainerKind::Quote | ContainerKind::FootnoteDefinition
         )
     }
 }
@@ -62,19 +78,22 @@ impl Nesting {
     /// The innermost open block.
     #[inline(always)]
     pub(crate) fn innermost(&self) -> Option<Open>
-        ensures { IsSome result → 0 < vec_len self.now.stack }
+        ensures some { IsSome result → 0 < vec_len self.now.stack }
+        ensures value { result ≡ slice_get self.now.stack.items (length self.now.stack.items - 1) }
     {
         self.stack.last().copied()
     }
 
     /// Enters a container; `block` is its beginning. After an error nothing is entered.
-    pub(crate) fn enter(&mut self, block: Block, open: Open) -> Result<(), AllocError>
+    pub(crate) fn enter(&mut self, block: Block, opened: Open) -> Result<(), AllocError>
         requires shallow { vec_len self.old.stack < 96 }
         requires enters { enters block ≡ true }
-        ensures { vec_len self.new.stack ≤ vec_len self.old.stack + 1 }
+        ensures grows { vec_len self.new.stack ≤ vec_len self.old.stack + 1 }
+        ensures tape { OnOk result (self.new.tape.items ≡ self.old.tape.items ++ block ∷ []) }
+        ensures stack { OnOk result (self.new.stack.items ≡ self.old.stack.items ++ opened ∷ []) }
     {
         let depth = self.stack.len();
-        self.stack.push(open)?;
+        self.stack.push(opened)?;
         match self.tape.push(block) {
             Ok(()) => Ok(()),
             Err(error) => {
@@ -89,7 +108,8 @@ impl Nesting {
     pub(crate) fn put(&mut self, block: Block) -> Result<(), AllocError>
         requires enters_none { enters block ≡ false }
         requires exits_none { exits block ≡ false }
-        ensures { self.new.stack ≡ self.old.stack }
+        ensures stack { self.new.stack ≡ self.old.stack }
+        ensures tape { OnOk result (self.new.tape.items ≡ self.old.tape.items ++ block ∷ []) }
     {
         self.tape.push(block)?;
         Ok(())
@@ -98,7 +118,9 @@ impl Nesting {
     /// Records that the innermost open block has a child.
     #[inline(always)]
     pub(crate) fn note_child(&mut self)
-        ensures { vec_len self.new.stack ≡ vec_len self.old.stack }
+        ensures len { vec_len self.new.stack ≡ vec_len self.old.stack }
+        ensures stack { self.new.stack.items ≡ with_child self.old.stack.items }
+        ensures tape { self.new.tape ≡ self.old.tape }
     {
         if let Some(open) = self.stack.last_mut() {
             open.has_child = true;
@@ -109,6 +131,9 @@ impl Nesting {
     pub(crate) fn close_to(&mut self, depth: usize, at: usize) -> Result<(), AllocError>
         ensures shrinks { vec_len self.new.stack ≤ vec_len self.old.stack }
         ensures closes { OnOk result (vec_len self.new.stack ≤ depth) }
+        ensures stack { OnOk result (self.new.stack.items ≡ take depth self.old.stack.items) }
+        ensures tape { OnOk result (self.new.tape.items
+            ≡ self.old.tape.items ++ ends_of at (drop depth self.old.stack.items)) }
     {
         while self.stack.len() > depth {
             self.exit(at)?;
@@ -120,7 +145,11 @@ impl Nesting {
     fn exit(&mut self, at: usize) -> Result<(), AllocError>
         requires { 0 < vec_len self.old.stack }
         ensures shrinks { vec_len self.new.stack ≤ vec_len self.old.stack }
-        ensures ended { OnOk result (vec_len self.new.stack < vec_len self.old.stack) }
+        ensures ended { OnOk result (vec_len self.new.stack + 1 ≡ vec_len self.old.stack) }
+        ensures stack { OnOk result (self.new.stack.items
+            ≡ take (length self.old.stack.items - 1) self.old.stack.items) }
+        ensures tape { OnOk result (self.new.tape.items ≡ self.old.tape.items
+            ++ ends_of at (drop (length self.old.stack.items - 1) self.old.stack.items)) }
     {
         let depth = self.stack.len() - 1;
         let open = self.stack[depth];
@@ -135,16 +164,35 @@ impl Nesting {
 
     /// Closes the innermost block if it is a list.
     pub(crate) fn close_list(&mut self, at: usize) -> Result<(), AllocError>
-        ensures { vec_len self.new.stack ≤ vec_len self.old.stack }
+        ensures shrinks { vec_len self.new.stack ≤ vec_len self.old.stack }
+        ensures stack { OnOk result (self.new.stack.items
+            ≡ take (without_list self.old.stack.items) self.old.stack.items) }
+        ensures tape { OnOk result (self.new.tape.items ≡ self.old.tape.items
+            ++ ends_of at (drop (without_list self.old.stack.items) self.old.stack.items)) }
+    {
+        if !self.is_at_list() {
+            return Ok(());
+        }
+        let inner = self.stack.len() - 1;
+        self.close_to(inner, at)
+    }
+
+    /// Whether the innermost open block is a list.
+    #[inline(always)]
+    fn is_at_list(&self) -> bool
+        ensures value { result ≡ innermost is_list self.now.stack.items }
+        ensures some { IsTrue result → 0 < vec_len self.now.stack }
     {
         match self.innermost() {
-            Some(open) if open.is_list() => self.close_to(self.depth() - 1, at),
-            _ => Ok(()),
+            Some(open) => open.is_list(),
+            None => false,
         }
     }
 
     /// Whether the innermost open block is an item or a list.
-    pub(crate) fn is_in_list(&self) -> bool {
+    pub(crate) fn is_in_list(&self) -> bool
+        ensures { result ≡ innermost in_list self.now.stack.items }
+    {
         match self.innermost() {
             Some(open) => open.kind == ContainerKind::Item || open.is_list(),
             None => false,
@@ -152,7 +200,9 @@ impl Nesting {
     }
 
     /// Whether a quote is open.
-    pub(crate) fn has_quote(&self) -> bool {
+    pub(crate) fn has_quote(&self) -> bool
+        ensures { result ≡ list_any is_quote self.now.stack.items }
+    {
         for open in &self.stack {
             if open.kind == ContainerKind::Quote {
                 return true;
@@ -163,13 +213,12 @@ impl Nesting {
 
     /// How many blocks are open up to and including the innermost quote or footnote; 0 if there is
     /// none.
-    pub(crate) fn depth_of_quote(&self) -> usize {
+    pub(crate) fn depth_of_quote(&self) -> usize
+        ensures { result ≡ quotes_depth self.now.stack.items }
+    {
         let mut depth = 0;
         for (index, open) in self.stack.iter().enumerate() {
-            if matches!(
-                open.kind,
-                ContainerKind::Quote | ContainerKind::FootnoteDefinition
-            ) {
+            if open.is_quote_or_footnote() {
                 depth = index + 1;
             }
         }
