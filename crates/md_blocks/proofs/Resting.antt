@@ -11,7 +11,8 @@ use Rattle.std.proofs.Common.{add-zero}
 use Rattle.std.proofs.lemmas.List.{get_or-drop}
 use Rattle.std.proofs.lemmas.Grind.{common_steps}
 use Rattle.md_lines.specs.Lines.{is_blank}
-use Rattle.md_blocks.specs.Rests.{rest_at, width, columns_at, skipped_at, text_of, unindented, blanks, is_none}
+use Rattle.md_blocks.specs.Rests.{rest_at, width, columns_at, skipped_at, text_of, unindented, is_none}
+use Rattle.md_blocks.specs.Leaves.{blanks}
 
 -- a column within the columns of a tab
 pub in_tab : (c left : ℕ) → left < 4 - c % 4 → (c + left) % 4 ≡ c % 4 + left
@@ -28,13 +29,6 @@ pub drop_columns : (c : ℕ) (line : List ℕ) (at : ℕ) → at < length line �
     → columns_at c (drop at line)
     ≡ width c (get_or line at 0) + columns_at (c + width c (get_or line at 0)) (drop (at + 1) line)
 drop_columns c line at h is = rw (drop-cons line at 0 h, add-one at) (columns_yes c (get_or line at 0) (drop (suc at) line) is)
-
-pub stop_columns : (c : ℕ) (line : List ℕ) (at : ℕ) → at < length line → is_blank (get_or line at 0) ≡ false
-    → columns_at c (drop at line) ≡ 0
-stop_columns c line at h is = rw (drop-cons line at 0 h) (columns_no c (get_or line at 0) (drop (suc at) line) is)
-
-pub end_columns : (c : ℕ) (line : List ℕ) (at : ℕ) → length line ≤ at → columns_at c (drop at line) ≡ 0
-end_columns c line at h = rw (drop_all at line h) refl
 
 pub columns_spaces : (n c : ℕ) (text : List ℕ)
     → columns_at c (replicate n 32 ++ text) ≡ n + columns_at (c + n) text
@@ -151,12 +145,6 @@ skip_next line at c true within blank tabbed left some enough =
 -- only a tab has more than one column
 wide : (c byte left : ℕ) → 0 < left → left < width c byte → byte ≡ 9
 wide c byte left some few = grind (arith, common_steps, some, few)
-
-pub tab_next : (line : List ℕ) (at c left : ℕ) → at < length line → 0 < left
-    → left < width c (get_or line at 0) → drop at line ≡ 9 ∷ drop (suc at) line
-tab_next line at c left within some few =
-    drop-cons line at 0 within
-    ∙ ap (λ byte. byte ∷ drop (suc at) line) (wide c (get_or line at 0) left some few)
 
 pub skip_within : (line : List ℕ) (at c : ℕ) (tab : Bool) → at < length line
     → is_blank (get_or line at 0) ≡ true

@@ -2,7 +2,8 @@
 
 ghost use Rattle.std.specs.Prelude.{◌≡◌, ◌+◌, ◌*◌, ◌≤◌, ◌<◌, ◌%◌, ◌∷◌, suc, length, drop};
 ghost use Rattle.std.specs.Prelude.{get_or, IsSome, true};
-ghost use Rattle.md_blocks.specs.Rests.{text_of, rest_at, columns_at, blanks, skipped, skipped_at};
+ghost use Rattle.md_blocks.specs.Rests.{text_of, rest_at, columns_at, skipped, skipped_at};
+ghost use Rattle.md_blocks.specs.Leaves.{blanks};
 ghost use Rattle.md_blocks.specs.Rests.{passed, width, is_blank_rest, first};
 
 use md_lines::Line;

@@ -1,7 +1,8 @@
 -- Each step skips the columns of a byte, or the first columns of a tab.
 use Rattle.std.proofs.Common.{arith, ap, sym, ◌∙◌, ◌≡◌, ◌+◌, ◌-◌, ◌<◌, ◌≤◌, drop, get_or, length}
 use Rattle.std.proofs.lemmas.Bool.{false≢true}
-use Rattle.md_blocks.specs.Rests.{skipped_at, text_of, columns_at, blanks, width}
+use Rattle.md_blocks.specs.Rests.{skipped_at, text_of, columns_at, width}
+use Rattle.md_blocks.specs.Leaves.{blanks}
 use Rattle.md_blocks.proofs.Resting.{skip_none, skip_next, skip_within, columns_next, columns_within, blanks_next}
 use Rattle.md_blocks.proofs.Resting.{blank_there, none_left}
 use Rattle.md_blocks.proofs.position.skip_columns.Goals as goal

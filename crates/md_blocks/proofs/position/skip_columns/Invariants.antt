@@ -1,6 +1,7 @@
 -- What is skipped so far are columns of the spaces and tabs before the text.
 use Rattle.std.proofs.Common.{◌≡◌, ◌≤◌, ◌+◌, ◌*◌, ◌∷◌, suc, drop, true}
-use Rattle.md_blocks.specs.Rests.{blanks, columns_at, skipped_at, text_of}
+use Rattle.md_blocks.specs.Rests.{columns_at, skipped_at, text_of}
+use Rattle.md_blocks.specs.Leaves.{blanks}
 use Rattle.md_blocks.proofs.position.skip_columns.Given as goal
 
 abbrev pub invariant-loop-left : goal.invariant-loop-left

@@ -1,6 +1,7 @@
 -- What is passed are the spaces and tabs, and the columns of these.
 use Rattle.std.proofs.Common.{◌≡◌, ◌≤◌, ◌+◌, ◌-◌, ◌*◌, length, drop}
-use Rattle.md_blocks.specs.Rests.{blanks, columns_at}
+use Rattle.md_blocks.specs.Rests.{columns_at}
+use Rattle.md_blocks.specs.Leaves.{blanks}
 use Rattle.md_blocks.proofs.position.text_after.Given as goal
 
 abbrev pub invariant-loop-at : goal.invariant-loop-at
