@@ -1,9 +1,9 @@
 /*
  * The three functions by which the library gets and frees memory, over those of the process.
  *
- * The compiled library calls them and nothing else for memory: it has no C of its own. clients/build
- * compiles this file for the processor of the library, and links both into one object, in which
- * these names are local. What the library requires of them, and what is assumed of them where it is
+ * The compiled library calls them and nothing else for memory: it has no C of its own.
+ * clients/build compiles this file for the processor of the library, and links both into one
+ * object, in which these names are local. What the library requires of them, and what is assumed of them where it is
  * proved:
  *  - The answer is two words in registers: 1 and the block's address, or 0 and the address of a
  *    byte that nobody owns. It is never null.

@@ -24,6 +24,7 @@ HELPERS = {"answer_memory", "is_too_long", "first_size", "grow", "settle", "mark
 CALL = re.compile(r"/\*((?:(?!\*/).)*)\*/\n"
                   r"((?:static inline )?[a-z_0-9 ]+?[ *]+(bivdrazo_\w+)\([^{};]*\))(?:;| \{)\n",
                   re.DOTALL)
+DECLARED = re.compile(r"(?m)^(?:static inline )?(?:const )?[a-z]\w* (?:char )?\*?(bivdrazo_\w+)\(")
 DATE = "November 30, 2026"
 MARKS = {"\\": "\\e", "`": "\\(ga", "'": "\\(aq", "^": "\\(ha", "~": "\\(ti"}
 
@@ -102,7 +103,7 @@ def calls_of(header):
     """The calls of a header: the name, the declaration and the comment's lines of each."""
     text = (HEADERS / header).read_text(encoding="utf-8")
     found = [(name, declared, lines_of(comment)) for comment, declared, name in CALL.findall(text)]
-    declared = set(re.findall(r"(?m)^(?:static inline )?[a-z]\w* (?:char )?\*?(bivdrazo_\w+)\(", text))
+    declared = set(DECLARED.findall(text))
     missing = declared - {name for name, _, _ in found}
     if missing:
         sys.exit(f"{header}: no comment before {', '.join(sorted(missing))}")
@@ -118,7 +119,8 @@ def main(folder):
     for header, brief in TOPS.items():
         text = (HEADERS / header).read_text(encoding="utf-8")
         top = lines_of(re.match(r"/\*(.*?)\*/", text, re.DOTALL)[1])
-        names = [name for below in calls if included(below) == header for name, _, _ in calls[below]]
+        names = [name for below, found in calls.items() if included(below) == header
+                 for name, _, _ in found]
         (folder / f"{header}.3").write_text(page(header, header, brief, [], roff(top), names))
     for header, found in calls.items():
         for name, declared, lines in found:

@@ -2,8 +2,8 @@
 that.
 
 The shared object needs no library by name and no version of a symbol, and its six functions of C
-are in each C library: so its tags are the lowest of the processor that pip knows. For manylinux that
-is version 2.5 of the GNU C Library on x86-64, and 2.17, the first one, on arm64.
+are in each C library: so its tags are the lowest of the processor that pip knows. For manylinux
+that is version 2.5 of the GNU C Library on x86-64, and 2.17, the first one, on arm64.
 """
 
 import pathlib
@@ -30,7 +30,7 @@ class Wheel(bdist_wheel):
         """Python, its ABI, the platforms."""
         machine = int.from_bytes(OBJECT.read_bytes()[MACHINE], "little")
         if machine not in TAGS:
-            raise SystemExit(f"{OBJECT} is for the processor {machine} of ELF: 62 and 183 have tags")
+            raise SystemExit(f"{OBJECT} is for ELF's processor {machine}: 62 and 183 have tags")
         return "py3", "none", TAGS[machine]
 
     def run(self):

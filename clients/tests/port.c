@@ -4,7 +4,7 @@
  *
  * A document is a line with its kind, a space and its length, and then its bytes. Kind M is
  * Markdown, which is rendered with default options; kind S is Markdown whose headings get ids made
- * of their texts; kind E is an event script. Of each it writes a line with the answer's status,
+ * of their texts; kind E is an event script. For each it writes a line with the answer's status,
  * rule, index and length, and then the text, if there is one, and a line feed.
  */
 #include <stdio.h>

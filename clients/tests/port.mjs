@@ -1,5 +1,5 @@
 // Renders documents from standard input by the package for Node, for ports_test.py, as port.c does.
-// Of each it writes the status, which is 0, or 1 for an error, and the length; and then the HTML and
+// For each it writes the status, which is 0, or 1 for an error, and the length; and then the HTML and
 // a line feed.
 import { readFileSync, writeSync } from 'node:fs';
 import { markdownToHtml } from '../node/index.mjs';

@@ -5,12 +5,12 @@
 
 The ways: the C library of this machine; musl (musl-gcc), with the same two libraries; and arm64,
 with the libraries in OUT/aarch64, under qemu-aarch64. With each, and with the static and the shared
-library, the tests in C of Markdown and of memory (c/markdown_test.c, c/memory_test.c) must pass; and
-what tests/port.c writes of all documents below must be the same to the byte. The documents: the
+library, the tests in C of Markdown and of memory must pass (c/markdown_test.c, c/memory_test.c),
+and what tests/port.c writes of all documents below must be the same to the byte. The documents: the
 worked cases (crates/md_cases), whose texts must also be the expected ones; the attacks of
 attacks.py; the examples of the GFM specification, if cmark-gfm is installed; and 500 documents that
-documents.py mutates. Node's package must make the same HTML. The shared libraries must need no other library, no version of a symbol, and
-no other symbols than the six that each C library has.
+documents.py mutates. Node's package must make the same HTML. The shared libraries must need no
+other library, no version of a symbol, and no other symbols than the six that each C library has.
 
 Reports what is left out; the status is 1 for a failure.
 """

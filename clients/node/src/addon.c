@@ -3,8 +3,8 @@
  *
  * render() and renderLater() take the arguments of `enum argument`; the latter returns a promise,
  * and renders in a thread of Node's pool. Both answer an array: two strings, the HTML and the list
- * of its headings; or an error: its code, an index, and the limit that was exceeded. index.js checks
- * the types of all arguments.
+ * of its headings; or an error: its code, an index, and the limit that was exceeded. index.js
+ * checks the types of all arguments.
  *
  * frontMatter(text) answers a string, null, or an error.
  *

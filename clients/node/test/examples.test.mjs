@@ -1,5 +1,5 @@
-// Tests of the examples, the package's README and a missing library. The examples import the package
-// by its name, so they are run beside a node_modules that has it.
+// Tests of the examples, the package's README and a missing library. The examples import the
+// package by its name, so they are run beside a node_modules that has it.
 import assert from 'node:assert/strict';
 import { spawn, spawnSync } from 'node:child_process';
 import { cpSync, mkdirSync, mkdtempSync, readFileSync, rmSync, symlinkSync, writeFileSync }
@@ -71,8 +71,8 @@ describe('examples', () => {
       assert.match(page, /<li><p>a<sup><a href="#comment-1-fn-b"/);
       assert.match(page, /&lt;i onload=c&gt;/);
       assert.match(page, /<a href="e" rel="nofollow ugc">d<\/a>/);
-      for (const text of ['a'.repeat(10_001), '[a]: ' + 'b'.repeat(9000) + '\n\n' + '[a] '.repeat(200),
-        'a'.repeat(100_000)]) {
+      const used = `[a]: ${'b'.repeat(9000)}\n\n${'[a] '.repeat(200)}`;
+      for (const text of ['a'.repeat(10_001), used, 'a'.repeat(100_000)]) {
         const refused = await send(text);
         assert.equal(refused.status, 413, await refused.text());
       }
