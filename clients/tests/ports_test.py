@@ -62,7 +62,8 @@ def ways(out):
     else:
         left_out("the library with musl", "musl-tools")
     arm = out / "aarch64"
-    compiler, runner = "aarch64-linux-gnu-gcc", shutil.which("qemu-aarch64")
+    compiler = "aarch64-linux-gnu-gcc"
+    runner = shutil.which("qemu-aarch64") or shutil.which("qemu-aarch64-static")
     if not (arm / "libbivdrazo.a").exists():
         left_out("the library on arm64 (clients/build --target aarch64 didn't make it)")
     elif not runner or not shutil.which(compiler):
