@@ -6,6 +6,7 @@
  */
 
 const path = require('node:path');
+const { isUint8Array } = require('node:util').types;
 
 const PLACE = `${process.platform}-${process.arch}`;
 const MISSING = 'ERR_BIVDRAZO_NO_LIBRARY';
@@ -103,9 +104,9 @@ const DEFAULTS = [null, ...OPTIONS.map((option) => option[2])];
 const BY_NAME = new Map(OPTIONS.map(([name, read], at) => [name, { at: at + 1, read }]));
 const FIRST_TEXT = OPTIONS.findIndex(([name]) => name === 'footnotePrefix');
 
-/** The text, if it is one. */
+/** The text, if it is one; a Uint8Array may be of another realm, as in Jest. */
 function textOf(text) {
-  if (typeof text !== 'string' && !(text instanceof Uint8Array)) {
+  if (typeof text !== 'string' && !isUint8Array(text)) {
     throw typeError('text', 'a string or a Uint8Array', text);
   }
   return text;

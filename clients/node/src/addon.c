@@ -346,7 +346,10 @@ static int queue_job(napi_env env, struct job *job, napi_value *promise) {
     napi_create_string_utf8(env, "bivdrazo", NAPI_AUTO_LENGTH, &name);
     if (napi_create_async_work(env, NULL, name, execute, complete, job, &job->work) != napi_ok)
         return 0;
-    return napi_queue_async_work(env, job->work) == napi_ok;
+    if (napi_queue_async_work(env, job->work) == napi_ok)
+        return 1;
+    napi_delete_async_work(env, job->work);
+    return 0;
 }
 
 /* renderLater(): a promise, or an array at once if the arguments have an error. */

@@ -2,6 +2,7 @@
 import assert from 'node:assert/strict';
 import { createRequire } from 'node:module';
 import { describe, it } from 'node:test';
+import { runInNewContext } from 'node:vm';
 
 import bivdrazo, {
   BivdrazoError,
@@ -72,6 +73,8 @@ describe('texts', () => {
     assert.equal(markdownToHtml(whole.subarray(1, 4)), '<p><em>a</em></p>\n');
     const shared = new Uint8Array(new SharedArrayBuffer(2)).fill(97);
     assert.equal(markdownToHtml(shared), '<p>aa</p>\n');
+    const other = runInNewContext('new Uint8Array([97])');
+    assert.equal(markdownToHtml(other), '<p>a</p>\n');
   });
 
   it('renders large texts', () => {
@@ -200,10 +203,11 @@ describe('errors', () => {
   });
 
   it('of types', () => {
-    const wrong = [undefined, null, 7, {}, [], new Uint16Array(2), new ArrayBuffer(2), Symbol('a')];
+    const wrong = [undefined, null, 7, {}, [], new Uint16Array(2), new ArrayBuffer(2),
+      Symbol('a'), Object.create(Uint8Array.prototype)];
     for (const text of wrong) {
       const error = thrown(() => markdownToHtml(text));
-      assert.ok(error instanceof TypeError, String(text));
+      assert.ok(error instanceof TypeError);
       assert.match(error.message, /^text: expected a string or a Uint8Array, not /);
       assert.throws(() => frontMatter(text), TypeError);
     }
