@@ -38,8 +38,7 @@ def built(archive, folder):
     """The program, linked with an archive."""
     here = os.path.dirname(os.path.realpath(__file__))
     program = os.path.join(folder, "bounds")
-    page = subprocess.run(["rt", "doc"], capture_output=True, text=True, check=True).stdout.strip()
-    libraries = [archive, f"{os.path.dirname(page)}/c/liblibc_c.a", "-lm"]
+    libraries = [archive, f"{here}/../clients/c/memory.c", "-lm"]
     command = [os.environ.get("CC", "cc"), "-O2", f"-I{here}/../clients/c", "-o", program,
                f"{here}/measure/bounds.c"]
     subprocess.run([*command, *libraries], check=True)

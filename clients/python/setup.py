@@ -1,6 +1,9 @@
-"""Makes a wheel for Linux on x86-64 and any Python 3, since it has the shared object.
+"""Makes a wheel for Linux and any Python 3, since it has the shared object, for the processor of
+that.
 
-Its tag isn't a `manylinux` tag, since auditwheel wasn't run.
+The shared object needs no library by name and no version of a symbol, and its six functions of C
+are in each C library: so its tags are the lowest of the processor that pip knows. For manylinux
+that is version 2.5 of the GNU C Library on x86-64, and 2.17, the first one, on arm64.
 """
 
 import pathlib
@@ -13,14 +16,22 @@ except ImportError:
     from wheel.bdist_wheel import bdist_wheel
 
 OBJECT = pathlib.Path(__file__).resolve().parent / "bivdrazo" / "out" / "libbivdrazo.so"
+MACHINE = slice(18, 20)  # where an ELF file has the number of its processor
+TAGS = {
+    62: "manylinux1_x86_64.manylinux_2_5_x86_64.musllinux_1_1_x86_64",
+    183: "manylinux2014_aarch64.manylinux_2_17_aarch64.musllinux_1_1_aarch64",
+}
 
 
 class Wheel(bdist_wheel):
     """A wheel with the shared object."""
 
     def get_tag(self):
-        """Python, its ABI, the platform."""
-        return "py3", "none", "linux_x86_64"
+        """Python, its ABI, the platforms."""
+        machine = int.from_bytes(OBJECT.read_bytes()[MACHINE], "little")
+        if machine not in TAGS:
+            raise SystemExit(f"{OBJECT} is for ELF's processor {machine}: 62 and 183 have tags")
+        return "py3", "none", TAGS[machine]
 
     def run(self):
         """Makes the wheel; fails without the shared object."""

@@ -8,6 +8,7 @@ isn't permitted. Requires html5lib.
 """
 
 import pathlib
+import shutil
 import subprocess
 import sys
 import tempfile
@@ -15,6 +16,20 @@ import tempfile
 from attacks import ATTACKS, MORE, is_unsafe
 from hostile import environment, ways
 from reading import faults
+
+
+NODE = """
+const { markdownToHtml } = require(process.argv[1]);
+process.stdout.write(markdownToHtml(require('node:fs').readFileSync(0)));
+"""
+
+
+def node_way():
+    """The command of the package for Node, if it was built."""
+    package = pathlib.Path(__file__).resolve().parents[1] / "node"
+    if not shutil.which("node") or not any(package.glob("out/*/bivdrazo.node")):
+        return {}
+    return {"Node": ["node", "-e", NODE, package]}
 
 
 def rendered(command, path):
@@ -28,7 +43,7 @@ def rendered(command, path):
 def main():
     """Tries all attacks; returns the exit status."""
     out = pathlib.Path(sys.argv[1])
-    own = ways(out)
+    own = ways(out) | node_way()
     cmark = out / "bivdrazo-render-cmark"
     others = {cmark.name: [cmark]} if cmark.exists() else {}
     wrong = 0

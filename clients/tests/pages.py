@@ -3,16 +3,16 @@
 
     pages.py FOLDER
 
-Writes each example that is run into FOLDER, as NUMBER.c, NUMBER.rs or NUMBER.py, and its output as
-NUMBER.txt. Prints a line for each: its number, its language, and its place. Ends with status 1 if a
-block of C, Rust or Python has no mark.
+Writes each example that is run into FOLDER, as NUMBER.c, NUMBER.rs, NUMBER.py or NUMBER.mjs, and
+its output as NUMBER.txt. Prints a line for each: its number, its language, and its place. Ends with
+status 1 if a block of C, Rust, Python or JavaScript has no mark.
 
 A mark is the line before a block, a comment of HTML:
 
     <!-- run: LANGUAGE; it prints: TEXT -->
     <!-- not run: WHY -->
 
-LANGUAGE is c, rust or python.
+LANGUAGE is c, rust, python or js.
 """
 
 import pathlib
@@ -21,7 +21,7 @@ import sys
 from typing import NamedTuple
 
 ROOT = pathlib.Path(__file__).resolve().parents[2]
-SUFFIXES = {"c": "c", "rust": "rs", "python": "py"}
+SUFFIXES = {"c": "c", "rust": "rs", "python": "py", "js": "mjs"}
 MARK = re.compile(r"<!-- run: (\w+); it prints: (.*) -->")
 NOT_RUN = re.compile(r"<!-- not run: .+ -->")
 
