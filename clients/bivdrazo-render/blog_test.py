@@ -89,14 +89,17 @@ def main(render, folder):
     folder = pathlib.Path(folder).resolve()
     source, site = folder / "source", folder / "site"
     write(source)
-    command = [render, "--lang", "en", "--number-ids", "--heading-ids", "slug", "--toc", "--out-dir",
-               site, source]
+    command = [render, "--lang", "en", "--number-ids", "--heading-ids", "slug", "--toc",
+               "--out-dir", site, source]
     told = []
-    for more in [], ["--all"]:
-        done = subprocess.run(command + more, capture_output=True, text=True, check=True)
+    for _ in range(2):
+        done = subprocess.run(command, capture_output=True, text=True, check=True)
         told.append(done.stderr)
-    assert told == ["bivdrazo-render: 10 pages written, 15 files copied\n"] * 2, told
+    wanted = ["bivdrazo-render: 12 pages written, 15 files copied\n",
+              "bivdrazo-render: 0 pages written, 12 unchanged\n"]
+    assert told == wanted, told
     wanted = {name.replace(".md", ".html") for name in PAGES} | set(FILES)
+    wanted |= {"posts/index.html", "posts/old/index.html"}
     found = {str(path.relative_to(site)) for path in site.rglob("*") if path.is_file()}
     assert found == wanted, found ^ wanted
     pages = {path: Links(path.read_text(encoding="utf-8")) for path in site.rglob("*.html")}
@@ -108,7 +111,8 @@ def main(render, folder):
     assert {"table", "img", "section", "h1", "h2"} <= tags, tags
     text = (site / "posts/3.html").read_text(encoding="utf-8")
     assert "tags:" not in text and '<h1 id="part-3">Part 3</h1>' in text, text
-    assert '<nav><ul>\n<li><a href="#part-3">Part 3</a></li>\n</ul>\n</nav>' in text, text
+    assert '<li><a href="#part-3">Part 3</a></li>' in text, text
+    assert '<a rel="next" href="4.html">Post 4 &amp; more</a>' in text, text
     print("a blog of ten pages: passed")
 
 

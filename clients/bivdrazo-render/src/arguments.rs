@@ -6,6 +6,7 @@ use bivdrazo::{default_work, Attributes, DocumentHtml, Limits, MarkdownOptions, 
 use clap::error::ErrorKind;
 use clap::{value_parser, CommandFactory, Parser, ValueEnum, ValueHint};
 use clap_complete::Shell;
+use globset::{Glob, GlobBuilder};
 use std::env;
 use std::path::{Path, PathBuf};
 use std::process;
@@ -16,6 +17,9 @@ const SLUG: &str = "slug";
 /// The default limit on the nesting of events of cmark-gfm's parser: elements then nest at most 485
 /// deep, and browsers flatten elements that nest deeper than 512.
 const MOST_DEPTH: usize = 240;
+
+/// The level of the lowest headings in a table of contents by default.
+const TOC_DEPTH: u8 = 3;
 
 /// Renders Markdown as safe HTML.
 ///
@@ -28,7 +32,7 @@ const MOST_DEPTH: usize = 240;
 pub struct Arguments {
     /// The files to render; standard input if there is none or it is -. Several files need
     /// --out-dir. A single folder, with --out-dir, is made into a site: each *.md becomes a page,
-    /// and the files that pages link to are copied.
+    /// with links to the others, and the files that pages link to are copied.
     #[arg(value_name = "FILE", value_hint = ValueHint::FilePath)]
     pub files: Vec<PathBuf>,
 
@@ -41,20 +45,29 @@ pub struct Arguments {
     #[arg(long, value_name = "DIR", value_hint = ValueHint::DirPath, requires = "files")]
     pub out_dir: Option<PathBuf>,
 
-    /// For a folder: write all pages and copies, also those that are up to date.
-    #[arg(long, requires = "out_dir")]
-    pub all: bool,
-
-    /// For a folder: keep running and write the pages of files that change, until Ctrl-C.
+    /// For a folder: keep running and follow the folder, the template and the style, until Ctrl-C.
     #[arg(long, requires = "out_dir")]
     pub watch: bool,
+
+    /// For a folder: leave the pages and copies in the site that the folder no longer gives.
+    #[arg(long, requires = "out_dir")]
+    pub keep: bool,
+
+    /// For a folder: publish also drafts, and names that begin with _.
+    #[arg(long, requires = "out_dir")]
+    pub drafts: bool,
+
+    /// For a folder: leave out the files and folders that match, such as '*.draft.md' or
+    /// /internal; may be given several times.
+    #[arg(long, value_name = "PATTERN", value_parser = pattern, requires = "out_dir")]
+    pub exclude: Vec<Glob>,
 
     /// Write a complete page, with this title if the front matter has none.
     #[arg(long, value_name = "TITLE")]
     pub page: Option<String>,
 
     /// Write a complete page from this template, with the places {{content}}, {{title}}, {{toc}},
-    /// {{lang}} and {{style}}.
+    /// {{lang}} and {{style}}; for a folder also {{nav}}, {{prev}}, {{next}}, {{up}} and {{root}}.
     #[arg(long, value_name = "FILE", value_hint = ValueHint::FilePath)]
     pub page_template: Option<PathBuf>,
 
@@ -100,6 +113,11 @@ pub struct Arguments {
     #[arg(long)]
     pub toc: bool,
 
+    /// The level of the lowest headings in the table of contents, from 1 to 6; by default 3.
+    #[arg(long, value_name = "LEVEL", value_parser = value_parser!(u8).range(1..=6),
+        requires = "toc")]
+    pub toc_depth: Option<u8>,
+
     /// Write a line break for each line ending in a paragraph.
     #[arg(long)]
     pub hard_breaks: bool,
@@ -120,11 +138,12 @@ pub struct Arguments {
     #[arg(long)]
     pub no_tables: bool,
 
-    /// How to treat HTML in the document.
-    #[arg(long, value_enum, default_value_t = Html::Text)]
-    pub html: Html,
+    /// How to treat HTML in the document: by default text, for a folder without-comments.
+    #[arg(long, value_enum)]
+    pub html: Option<Html>,
 
-    /// The base URL of relative URLs in links and images.
+    /// The base URL of relative URLs in links and images. For a folder: the URL of the site, with
+    /// which a sitemap.xml is written.
     #[arg(long, value_name = "URL")]
     pub base: Option<String>,
 
@@ -211,19 +230,18 @@ impl Arguments {
             let message = "--lang and --css need --page, --page-template or a folder";
             end(&Arguments::command().error(ErrorKind::MissingRequiredArgument, message));
         }
-        for (option, is_given) in [("--all", arguments.all), ("--watch", arguments.watch)] {
-            if is_given && !arguments.is_site {
-                let message = format!("{option} needs a folder");
-                end(&Arguments::command().error(ErrorKind::MissingRequiredArgument, message));
-            }
+        if let Some(option) = arguments.of_folder().filter(|_| !arguments.is_site) {
+            let message = format!("{option} needs a folder");
+            end(&Arguments::command().error(ErrorKind::MissingRequiredArgument, message));
         }
         if let Some(option) = arguments.of_another_parser() {
             let message = format!("{option} can't be used with this --parser");
             end(&Arguments::command().error(ErrorKind::ArgumentConflict, message));
         }
-        if arguments.base.is_some() && arguments.is_site {
-            let message = "--base can't be used with a folder, whose links point to its pages";
-            end(&Arguments::command().error(ErrorKind::ArgumentConflict, message));
+        let base = arguments.base.as_deref().filter(|_| arguments.is_site);
+        if base.map_or(false, |base| !is_whole(base)) {
+            let message = "--base of a folder is the URL of the site, such as https://x.org/docs/";
+            end(&Arguments::command().error(ErrorKind::ValueValidation, message));
         }
         arguments
     }
@@ -231,6 +249,18 @@ impl Arguments {
     /// The folder that is made into a site, if there is one.
     pub fn folder(&self) -> Option<&Path> {
         self.is_site.then(|| self.source())
+    }
+
+    /// A given option that only a folder has.
+    fn of_folder(&self) -> Option<&'static str> {
+        let options = [
+            ("--watch", self.watch),
+            ("--keep", self.keep),
+            ("--drafts", self.drafts),
+            ("--exclude", !self.exclude.is_empty()),
+        ];
+        let given = options.into_iter().find(|(_, is_given)| *is_given);
+        given.map(|(option, _)| option)
     }
 
     /// Whether a complete page is written.
@@ -261,7 +291,7 @@ impl Arguments {
             ParserName::CmarkGfm => vec![
                 ("--hard-breaks", self.hard_breaks),
                 ("--no-bare-links", self.no_bare_links),
-                ("--html", self.html != Html::Text),
+                ("--html", self.html.map_or(false, |html| html != Html::Text)),
                 ("--base", self.base.is_some()),
                 ("--math", self.math),
                 ("--no-footnotes", self.no_footnotes),
@@ -297,6 +327,11 @@ impl Arguments {
             None => self.toc,
             Some(asked) => asked == SLUG,
         }
+    }
+
+    /// The level of the lowest headings in a table of contents.
+    pub fn toc_depth(&self) -> u8 {
+        self.toc_depth.unwrap_or(TOC_DEPTH)
     }
 
     /// Whether headings get ids.
@@ -336,14 +371,15 @@ impl Arguments {
             .with_tables(!self.no_tables)
             .with_number_ids(self.number_ids);
         options.html = match self.html {
-            Html::Text => DocumentHtml::Text,
-            Html::LeftOut => DocumentHtml::LeftOut,
-            Html::WithoutComments => DocumentHtml::WithoutComments,
+            None if self.is_site => DocumentHtml::WithoutComments,
+            None | Some(Html::Text) => DocumentHtml::Text,
+            Some(Html::LeftOut) => DocumentHtml::LeftOut,
+            Some(Html::WithoutComments) => DocumentHtml::WithoutComments,
         };
         options.footnote_prefix = self.footnote_prefix.clone();
         options.footnote_label = self.footnote_label.clone();
         options.footnote_back_label = self.footnote_back_label.clone();
-        options.base = self.base.clone();
+        options.base = self.base.clone().filter(|_| !self.is_site);
         options.rel = self.rel.clone();
         options.heading_slugs = self.has_slugs();
         options.heading_ids = self.heading_ids.clone().filter(|asked| asked != SLUG);
@@ -353,6 +389,32 @@ impl Arguments {
         options.max_depth = self.max_depth;
         options
     }
+}
+
+/// The pattern of an `--exclude`: with a `/` before its end it is that of a path from the folder,
+/// otherwise that of a name in any folder.
+fn pattern(text: &str) -> Result<Glob, String> {
+    let path = text.strip_suffix('/').unwrap_or(text);
+    let anchored = match path.strip_prefix('/') {
+        Some(path) => path.to_string(),
+        None if path.contains('/') => path.to_string(),
+        None => format!("**/{path}"),
+    };
+    if path.trim_start_matches('/').is_empty() {
+        return Err("it is empty".to_string());
+    }
+    let glob = GlobBuilder::new(&anchored).literal_separator(true).build();
+    glob.map_err(|error| error.kind().to_string())
+}
+
+/// Whether a URL is whole: http or https, a host, and neither a query nor a fragment.
+fn is_whole(url: &str) -> bool {
+    let rest = ["https://", "http://"]
+        .into_iter()
+        .find_map(|scheme| url.strip_prefix(scheme));
+    let host = rest.and_then(|rest| rest.split('/').next()).unwrap_or("");
+    let is_part = |each: char| each.is_ascii_graphic() && !"?#\"<>\\^`{|}".contains(each);
+    !host.is_empty() && url.chars().all(is_part)
 }
 
 /// Prints an error of the arguments, the help or the version, and exits.

@@ -1,9 +1,10 @@
 //! Reading and writing.
 
 use crate::failures::Failure;
+use crc32fast::Hasher;
 use std::collections::HashMap;
 use std::fs::{self, DirEntry, File, Metadata, OpenOptions};
-use std::io::{self, BufWriter, Read, Write};
+use std::io::{self, BufWriter, Read, Seek, Write};
 use std::os::unix::ffi::OsStrExt;
 use std::path::{Path, PathBuf};
 use std::process;
@@ -118,8 +119,86 @@ pub fn write(path: &Path, texts: &[&str], is_synced: bool) -> io::Result<()> {
     })
 }
 
+/// What tells one content of a file from another, though not against intent: its length, and the
+/// CRC-32 of its bytes.
+#[derive(Clone, Copy, Debug, Eq, PartialEq)]
+pub struct Stamp {
+    pub length: u64,
+    pub sum: u32,
+}
+
+impl Stamp {
+    /// The stamp of texts, one after another.
+    pub fn of(texts: &[&str]) -> Stamp {
+        let mut hasher = Hasher::new();
+        texts.iter().for_each(|text| hasher.update(text.as_bytes()));
+        let length = texts.iter().map(|text| text.len() as u64).sum();
+        let sum = hasher.finalize();
+        Stamp { length, sum }
+    }
+}
+
+/// The stamp of a file.
+pub fn stamp_of(path: &Path) -> io::Result<Stamp> {
+    compare(&mut File::open(path)?, Path::new("")).map(|(stamp, _)| stamp)
+}
+
+/// The stamp of an open file, and whether the file at a path has the same bytes.
+pub fn compare(source: &mut File, target: &Path) -> io::Result<(Stamp, bool)> {
+    let is_file = fs::metadata(target).map_or(false, |found| found.is_file());
+    let mut target = is_file.then(|| File::open(target).ok()).flatten();
+    let (mut bytes, mut others) = (vec![0; BUFFER], vec![0; BUFFER]);
+    let mut hasher = Hasher::new();
+    let mut length = 0;
+    loop {
+        let read = read_full(source, &mut bytes)?;
+        hasher.update(&bytes[..read]);
+        length += read as u64;
+        if let Some(other) = &mut target {
+            let is_same = read_full(other, &mut others).map_or(false, |count| count == read);
+            if !is_same || bytes[..read] != others[..read] {
+                target = None;
+            }
+        }
+        if read < BUFFER {
+            let sum = hasher.finalize();
+            return Ok((Stamp { length, sum }, target.is_some()));
+        }
+    }
+}
+
+/// Reads until a buffer is full or the file ends. Returns how much was read.
+fn read_full(file: &mut File, buffer: &mut [u8]) -> io::Result<usize> {
+    let mut length = 0;
+    while length < buffer.len() {
+        match file.read(&mut buffer[length..])? {
+            0 => break,
+            read => length += read,
+        }
+    }
+    Ok(length)
+}
+
+/// Whether a file has these texts and nothing else.
+pub fn holds(path: &Path, texts: &[&str]) -> bool {
+    let length: usize = texts.iter().map(|text| text.len()).sum();
+    let found = fs::metadata(path).map(|found| found.is_file() && found.len() == length as u64);
+    if !found.unwrap_or(false) {
+        return false;
+    }
+    let bytes = fs::read(path).unwrap_or_default();
+    let mut rest = &bytes[..];
+    bytes.len() == length
+        && texts.iter().all(|text| {
+            let (first, after) = rest.split_at(text.len());
+            rest = after;
+            first == text.as_bytes()
+        })
+}
+
 /// Copies an open file in the same way.
 pub fn copy(mut source: File, target: &Path) -> io::Result<()> {
+    source.rewind()?;
     fill(target, |file| io::copy(&mut source, file).map(drop))
 }
 
@@ -180,17 +259,15 @@ fn is_old(entry: &DirEntry) -> bool {
 }
 
 /// Makes a new file in the same folder, with a short name that `is_part` knows.
-fn new_beside(path: &Path) -> io::Result<(PathBuf, File)> {
+pub fn new_beside(path: &Path) -> io::Result<(PathBuf, File)> {
     static NUMBER: AtomicUsize = AtomicUsize::new(0);
     path.file_name().ok_or(io::ErrorKind::InvalidInput)?;
     loop {
         let number = NUMBER.fetch_add(1, Ordering::Relaxed);
         let beside = path.with_file_name(format!(".{}-{number}.part", process::id()));
-        match OpenOptions::new()
-            .write(true)
-            .create_new(true)
-            .open(&beside)
-        {
+        let mut options = OpenOptions::new();
+        options.read(true).write(true).create_new(true);
+        match options.open(&beside) {
             Err(error) if error.kind() == io::ErrorKind::AlreadyExists => {}
             made => return made.map(|file| (beside, file)),
         }

@@ -14,7 +14,8 @@ const MOST_SHOWN: usize = 200;
 
 /// Warnings about links.
 const NO_TARGET: &str = "a link has no target";
-const NO_INDEX: &str = "a link points to a folder without index.md";
+const NO_INDEX: &str = "a link points to a folder without pages";
+const UNPUBLISHED: &str = "a link points to what isn't published";
 const NO_ID: &str = "a link points to a missing id";
 
 /// The targets of a page's links: files, and URLs without a target. It is kept for each page until
@@ -27,8 +28,8 @@ pub struct Found {
     anchors: Vec<Anchor>,
     /// The ids of the page itself.
     ids: Vec<u64>,
-    /// The error in its front matter.
-    fault: Option<String>,
+    /// The errors in its front matter.
+    faults: Vec<String>,
 }
 
 /// A URL with a fragment, and the id in the page of a source that it refers to.
@@ -39,10 +40,10 @@ struct Anchor {
 }
 
 impl Found {
-    /// No targets, for a document with that error in its front matter.
-    pub fn with_fault(fault: Option<String>) -> Found {
+    /// No targets, for a document with these errors in its front matter.
+    pub fn with_faults(faults: Vec<String>) -> Found {
         Found {
-            fault,
+            faults,
             ..Found::default()
         }
     }
@@ -59,6 +60,7 @@ impl Found {
             Target::Page(url) => return Some(url),
             Target::File(path) => self.files.push(path),
             Target::Folder => self.lost.push((url.to_string(), NO_INDEX)),
+            Target::Unpublished => self.lost.push((url.to_string(), UNPUBLISHED)),
             Target::Nothing => self.lost.push((url.to_string(), NO_TARGET)),
             Target::Other => {}
         }
@@ -101,7 +103,7 @@ impl Found {
 
     /// The warnings about the page of that name, after these pages were read.
     pub fn warnings(&self, name: &str, read: &HashMap<&Path, &Found>) -> Vec<String> {
-        let fault = self.fault.iter().map(|fault| format!("{name}: {fault}"));
+        let faults = self.faults.iter().map(|fault| format!("{name}: {fault}"));
         let lost = self.lost.iter().map(|(url, what)| (url, *what));
         let without = self.anchors.iter().filter(|anchor| {
             let page = read.get(&*anchor.page);
@@ -110,7 +112,7 @@ impl Found {
         let without = without.map(|anchor| (&anchor.url, NO_ID));
         let lost = lost.chain(without);
         let lost = lost.map(|(url, what)| format!("{name}: {what}: {}", short(url)));
-        fault.chain(lost).collect()
+        faults.chain(lost).collect()
     }
 
     /// Whether the page has the id with that hash.

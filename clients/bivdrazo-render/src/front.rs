@@ -1,14 +1,16 @@
 //! Front matter: the text between two lines of marks at the beginning of a document.
 //!
 //! The library finds the text between two lines of `---`. This module also finds YAML that ends
-//! with a line `...`, and TOML between two lines `+++`. The title is read by a library for YAML and
+//! with a line `...`, and TOML between two lines `+++`. The keys are read by a library for YAML and
 //! one for TOML. A title that can't be read is a fault, and so is front matter that can't be read.
 
+mod keys;
 mod toml;
 mod yaml;
 
 use crate::quiet::quietly;
 use bivdrazo::front_matter_of;
+use keys::Keys;
 
 /// The first line of front matter in YAML, another one that ends it, and the lines around TOML.
 const YAML: &str = "---";
@@ -38,8 +40,12 @@ pub struct Front {
     pub title: Option<String>,
     /// Its length in bytes; 0 for a document without front matter, or if it has no end.
     pub end: usize,
-    /// The error in it.
-    pub fault: Option<String>,
+    /// Whether the document isn't to be published: it is a draft, or says so.
+    pub is_draft: bool,
+    /// The place of its page among those of its folder.
+    pub weight: Option<f64>,
+    /// The errors in it.
+    pub faults: Vec<String>,
 }
 
 /// The front matter that a document begins with.
@@ -55,40 +61,79 @@ pub fn front_matter(document: &str) -> Front {
         _ => return Front::default(),
     };
     match inner {
-        Some(inner) => {
-            let (title, fault) = match title_of(inner, is_yaml) {
-                Ok(title) => (title, None),
-                Err(fault) => (None, Some(fault)),
-            };
+        Some(inner) => front_of(keys_of(inner, is_yaml), inner, end_after(inner, document)),
+        // A line of marks with no key below it is a thematic break, or text.
+        None => {
+            let searched = first_lines(rest);
+            let mut lines = searched.split(['\n', '\r']);
+            let has_key = lines.any(|line| is_key(line.trim(), is_yaml));
             Front {
-                title,
-                end: end_after(inner, document),
-                fault,
+                is_draft: keys::looks_like_draft(searched),
+                faults: has_key.then(|| NO_END.to_string()).into_iter().collect(),
+                ..Front::default()
             }
         }
-        // A line of marks with no key below it is a thematic break, or text.
-        None => Front {
-            fault: has_key(rest, is_yaml).then(|| NO_END.to_string()),
-            ..Front::default()
-        },
     }
 }
 
-/// The title in front matter, if there is one; or the error in the front matter.
-fn title_of(inner: &str, is_yaml: bool) -> Result<Option<String>, String> {
+/// Whether a document that begins with these bytes, at least six unless it is shorter, may have
+/// front matter.
+pub fn is_marked(start: &[u8]) -> bool {
+    let start = start.strip_prefix(b"\xef\xbb\xbf").unwrap_or(start);
+    [YAML, TOML]
+        .iter()
+        .any(|mark| start.starts_with(mark.as_bytes()))
+}
+
+/// Whether a document with these bytes may be one that isn't to be published; if not, its front
+/// matter needs no reading for that.
+pub fn may_be_draft(document: &[u8]) -> bool {
+    is_marked(document) && keys::name_drafts(document)
+}
+
+/// The front matter with these keys, or with the error in it. If that hides the keys, a line that
+/// looks like that of a draft counts.
+fn front_of(keys: Result<Keys, String>, inner: &str, end: usize) -> Front {
+    let mut front = Front {
+        end,
+        ..Front::default()
+    };
+    match keys {
+        Ok(keys) => {
+            front.is_draft = keys.is_draft(&mut front.faults);
+            front.weight = keys.weight(&mut front.faults);
+            match keys.title {
+                Some(Ok(title)) => front.title = Some(title),
+                Some(Err(fault)) => front.faults.insert(0, fault),
+                None => {}
+            }
+        }
+        Err(fault) => {
+            front.is_draft = keys::looks_like_draft(inner);
+            front.faults.push(fault);
+        }
+    }
+    front
+}
+
+/// The keys of front matter; or the error in the front matter.
+fn keys_of(inner: &str, is_yaml: bool) -> Result<Keys, String> {
     if inner.len() > MOST_BYTES {
         return Err(format!("the front matter has more than {MOST_BYTES} bytes"));
     }
     // The libraries count lines by line feeds.
     let inner = inner.replace("\r\n", "\n").replace('\r', "\n");
     let read = match is_yaml {
-        true => quietly(|| yaml::title(&inner)),
-        false => quietly(|| toml::title(&inner)),
+        true => quietly(|| yaml::keys(&inner)),
+        false => quietly(|| toml::keys(&inner)),
     };
     let name = if is_yaml { "YAML" } else { "TOML" };
-    let title =
+    let keys =
         read.unwrap_or_else(|| Err(format!("the reader of {name} failed: please report it")));
-    title?.map_or(Ok(None), |title| in_one_line(&title).map(Some))
+    keys.map(|mut keys| {
+        keys.title = keys.title.map(|title| in_one_line(&title?));
+        keys
+    })
 }
 
 /// A title with a space for each run of spaces and line endings.
@@ -135,17 +180,21 @@ fn too_deep() -> String {
     format!("the front matter nests deeper than {MOST_DEPTH}")
 }
 
-/// Whether one of a text's first lines looks like a key.
-fn has_key(text: &str, is_yaml: bool) -> bool {
+/// The first lines of a text, which are searched for a key.
+fn first_lines(text: &str) -> &str {
     let mut rest = text;
-    (0..MOST_SEARCHED).any(|_| {
-        let (line, next) = cut_line(rest);
-        rest = next;
-        match is_yaml {
-            true => is_yaml_key(line.trim()),
-            false => is_toml_key(line.trim()),
-        }
-    })
+    for _ in 0..MOST_SEARCHED {
+        rest = cut_line(rest).1;
+    }
+    &text[..text.len() - rest.len()]
+}
+
+/// Whether a line looks like a key.
+fn is_key(line: &str, is_yaml: bool) -> bool {
+    match is_yaml {
+        true => is_yaml_key(line),
+        false => is_toml_key(line),
+    }
 }
 
 /// Whether a line begins with a word and a colon, and a space or nothing follows.

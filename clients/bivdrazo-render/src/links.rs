@@ -1,21 +1,24 @@
 //! Links between the files of a folder.
 
-use crate::tree::{Tree, PAGE_ENDING, SOURCE_ENDING};
+use crate::tree::{folder_of, Index, Tree, INDEX_PAGE, PAGE_ENDING, SOURCE_ENDING};
 use std::ffi::OsStr;
+use std::fmt::Write;
 use std::os::unix::ffi::OsStrExt;
 use std::path::{Path, PathBuf};
 
 /// The target of a URL in a page.
 #[derive(Clone, Debug, Eq, PartialEq)]
 pub enum Target {
-    /// A URL out of the site, a page by its own name, or a folder with an index.md.
+    /// A URL out of the site, a page by its own name, or a folder with a page.
     Other,
     /// The source of a page; this is the page's URL.
     Page(String),
     /// A file that isn't rendered.
     File(PathBuf),
-    /// A folder without index.md.
+    /// A folder without pages.
     Folder,
+    /// A file that isn't published, or one in such a folder.
+    Unpublished,
     /// Nothing.
     Nothing,
 }
@@ -24,14 +27,17 @@ pub enum Target {
 enum Named {
     /// The source of a page.
     Source(PathBuf),
-    /// A page, by its own name or as the index.md of a folder that ends in `/`; this is its source.
+    /// A page, by its own name or as that of a folder that ends in `/`; this is its source.
     Page(PathBuf),
     /// A file that isn't rendered.
     File(PathBuf),
-    /// A folder with an index.md, as a name without `/`: some servers serve another page there.
+    /// A folder's page that is a list; or a folder with a page, as a name without `/`: some servers
+    /// serve another page there.
     Index,
-    /// A folder without index.md.
+    /// A folder without pages.
     Folder,
+    /// A file that isn't published, or one in such a folder.
+    Unpublished,
     /// Nothing.
     Nothing,
 }
@@ -44,10 +50,15 @@ pub fn target(url: &str, source: &Path, tree: &Tree) -> Target {
         return Target::Other;
     }
     match named(path, source, tree) {
+        Named::Source(page) if tree.is_index(&page) => {
+            let start = path.rfind('/').map_or(0, |last| last + 1);
+            Target::Page(format!("{}{INDEX_PAGE}{rest}", &path[..start]))
+        }
         Named::Source(_) => Target::Page(format!("{}.{PAGE_ENDING}{rest}", without_ending(path))),
         Named::Page(_) | Named::Index => Target::Other,
         Named::File(found) => Target::File(found),
         Named::Folder => Target::Folder,
+        Named::Unpublished => Target::Unpublished,
         Named::Nothing => Target::Nothing,
     }
 }
@@ -78,15 +89,9 @@ fn named(path: &str, source: &Path, tree: &Tree) -> Named {
         Some(found) => found,
         None => return Named::Nothing,
     };
-    let index = found.join("index.md");
-    let has_index = tree.pages.contains(&index);
     let last = decoded(path.rsplit('/').next().unwrap_or(""));
     if matches!(&last[..], b"" | b"." | b"..") {
-        return match tree.folders.contains(&found) {
-            _ if has_index => Named::Page(index),
-            true => Named::Folder,
-            false => Named::Nothing,
-        };
+        return folder(&found, tree);
     }
     if tree.pages.contains(&found) {
         return Named::Source(found);
@@ -94,14 +99,31 @@ fn named(path: &str, source: &Path, tree: &Tree) -> Named {
     if tree.files.contains(&found) {
         return Named::File(found);
     }
-    let page = found.with_extension(SOURCE_ENDING);
-    if found.extension() == Some(OsStr::new(PAGE_ENDING)) && tree.pages.contains(&page) {
-        return Named::Page(page);
+    if found.extension() == Some(OsStr::new(PAGE_ENDING)) {
+        let at = folder_of(&found);
+        if found.file_name() == Some(OsStr::new(INDEX_PAGE)) && tree.indexes.contains_key(at) {
+            return folder(at, tree);
+        }
+        let page = found.with_extension(SOURCE_ENDING);
+        if tree.pages.contains(&page) && !tree.is_index(&page) {
+            return Named::Page(page);
+        }
     }
-    match tree.folders.contains(&found) {
-        _ if has_index => Named::Index,
-        true => Named::Folder,
-        false => Named::Nothing,
+    match folder(&found, tree) {
+        Named::Page(_) | Named::File(_) => Named::Index,
+        other => other,
+    }
+}
+
+/// What the path of a folder names that ends in `/`.
+fn folder(found: &Path, tree: &Tree) -> Named {
+    match tree.indexes.get(found) {
+        Some(Index::Source(source)) => Named::Page(source.clone()),
+        Some(Index::File) => Named::File(found.join(INDEX_PAGE)),
+        Some(Index::List) => Named::Index,
+        None if tree.folders.contains(found) => Named::Folder,
+        None if tree.skipped.has(found) => Named::Unpublished,
+        None => Named::Nothing,
     }
 }
 
@@ -119,7 +141,7 @@ fn has_scheme(path: &str) -> bool {
 }
 
 /// The path of a URL relative to a folder; none if it points out of the tree.
-fn read_from(folder: &Path, path: &str) -> Option<PathBuf> {
+pub fn read_from(folder: &Path, path: &str) -> Option<PathBuf> {
     let mut found = folder.to_path_buf();
     for part in path.split('/') {
         let name = decoded(part);
@@ -137,8 +159,50 @@ fn read_from(folder: &Path, path: &str) -> Option<PathBuf> {
     Some(found)
 }
 
+/// The URL of a file of a site in a page of a folder.
+pub fn between(folder: &Path, file: &Path) -> String {
+    let (mut from, mut to) = (folder.iter().peekable(), file.iter().peekable());
+    while from.peek().is_some() && from.peek() == to.peek() {
+        from.next();
+        to.next();
+    }
+    let mut url = "../".repeat(from.count());
+    for (place, name) in to.enumerate() {
+        if place > 0 {
+            url.push('/');
+        }
+        encode(name.as_bytes(), &mut url);
+    }
+    url
+}
+
+/// The way from a folder to the root, which ends in `/`.
+pub fn root(folder: &Path) -> String {
+    match folder.iter().count() {
+        0 => "./".to_string(),
+        depth => "../".repeat(depth),
+    }
+}
+
+/// A relative path as a URL.
+pub fn encoded(path: &Path) -> String {
+    between(Path::new(""), path)
+}
+
+/// Appends a name as a part of a URL.
+fn encode(name: &[u8], url: &mut String) {
+    for &byte in name {
+        match byte.is_ascii_alphanumeric() || b"-._~".contains(&byte) {
+            true => url.push(byte.into()),
+            false => {
+                let _ = write!(url, "%{byte:02X}");
+            }
+        }
+    }
+}
+
 /// The bytes of a part of a path, with percent escapes decoded.
-fn decoded(part: &str) -> Vec<u8> {
+pub fn decoded(part: &str) -> Vec<u8> {
     let digit = |byte: Option<&u8>| byte.and_then(|&byte| char::from(byte).to_digit(16));
     let bytes = part.as_bytes();
     let mut found = Vec::with_capacity(bytes.len());

@@ -6,13 +6,19 @@ mod files;
 mod found;
 mod front;
 mod links;
+mod list;
+mod nav;
 mod page;
 mod parser;
+mod plan;
 mod progress;
 mod quiet;
 mod render;
 mod script;
 mod site;
+mod sitemap;
+mod skipped;
+mod spool;
 mod summary;
 mod text;
 mod tree;
@@ -52,8 +58,8 @@ fn run(arguments: &Arguments) -> Result<Outcome, Failure> {
     let page = Page::of(arguments)?;
     if let (Some(folder), Some(site)) = (arguments.folder(), &arguments.out_dir) {
         return match arguments.watch {
-            true => watch::make(arguments, &page, folder, site),
-            false => site::make(arguments, &page, folder, site, None),
+            true => watch::make(arguments, page, folder, site),
+            false => site::make(arguments, &page, folder, site, false),
         };
     }
     let mut outcome = Outcome::default();
@@ -97,7 +103,7 @@ fn render(
         return Err(format!("{}: is the document itself", target.display()).into());
     }
     let read = render::read(arguments, files::open(source)?)?;
-    if let Some(fault) = &read.fault {
+    for fault in &read.front.faults {
         files::report(&format!("{}: {fault}", source.display()));
     }
     read.write(arguments, page, source, target)?;

@@ -3,6 +3,7 @@
 use crate::arguments::{Arguments, ParserName};
 use crate::failures::Failure;
 use crate::front::{front_matter, Front};
+use crate::nav::Ways;
 use crate::page::{escaped, Page, Parts};
 use crate::parser::{self, ParserError};
 use crate::{files, text};
@@ -14,13 +15,11 @@ use std::path::Path;
 /// A document that was read.
 pub struct Read {
     /// Its HTML.
-    html: String,
+    pub html: String,
     /// Its headings with an id.
     headings: Vec<Heading>,
-    /// The title in its front matter, if there is one.
-    title: Option<String>,
-    /// The error in its front matter.
-    pub fault: Option<String>,
+    /// Its front matter.
+    pub front: Front,
 }
 
 /// Reads and compiles a document, with the chosen parser.
@@ -41,8 +40,7 @@ pub fn read(arguments: &Arguments, source: impl io::Read) -> Result<Read, Failur
     Ok(Read {
         html,
         headings,
-        title: front.title,
-        fault: front.fault,
+        front,
     })
 }
 
@@ -93,19 +91,36 @@ impl Read {
             false => String::new(),
         };
         let toc = match page.has_toc {
-            true => contents(&self.headings)?.into_string(),
+            true => self.contents(arguments)?,
             false => String::new(),
         };
+        let ways = Ways::default();
         let texts = page.around(&Parts {
             title: &title,
             toc: &toc,
             content: &self.html,
+            has_h1: true,
+            ways: &ways,
         });
         match target {
             Some(target) => files::write(target, &texts, arguments.out_dir.is_none())
                 .map_err(|error| format!("{}: {error}", target.display()).into()),
             None => print(&texts),
         }
+    }
+
+    /// The table of contents; empty without headings.
+    pub fn contents(&self, arguments: &Arguments) -> Result<String, Error> {
+        let depth = arguments.toc_depth();
+        let is_shown = |heading: &&Heading| heading.level <= depth;
+        let made = match self.headings.iter().all(|heading| is_shown(&heading)) {
+            true => contents(&self.headings)?,
+            false => {
+                let shown: Vec<Heading> = self.headings.iter().filter(is_shown).cloned().collect();
+                contents(&shown)?
+            }
+        };
+        Ok(made.into_string())
     }
 
     /// The ids of the text, to which a fragment of a URL can refer.
@@ -115,8 +130,17 @@ impl Read {
 
     /// The title of the document's page, escaped.
     fn title(&self, arguments: &Arguments, source: &Path) -> Result<String, Error> {
-        if let Some(given) = self.title.as_ref().or(arguments.page.as_ref()) {
-            return escaped(given);
+        match (&self.front.title, &arguments.page) {
+            (None, Some(given)) => escaped(given),
+            _ => self.own_title(source),
+        }
+    }
+
+    /// The title that the document gives itself, escaped: that of the front matter, of the first
+    /// heading, or its name.
+    pub fn own_title(&self, source: &Path) -> Result<String, Error> {
+        if let Some(title) = &self.front.title {
+            return escaped(title);
         }
         match text::heading(&self.html) {
             Some(heading) => Ok(heading),

@@ -2,20 +2,31 @@
 
 use crate::arguments::Arguments;
 use crate::failures::{process, Failed, Failure, FAILED};
-use crate::files;
+use crate::files::{self, Stamp};
 use crate::found::Found;
-use crate::page::Page;
+use crate::front;
+use crate::list::{List, Written};
+use crate::nav::{Card, Nav, Ways};
+use crate::page::{escaped, Page, Parts};
+use crate::plan::Plan;
 use crate::progress;
-use crate::render::{self, Read};
+use crate::render;
+use crate::sitemap;
+use crate::skipped::Filter;
+use crate::spool::{Place, Spool};
 use crate::summary::{Done, Outcome};
-use crate::tree::{Tree, PAGE_ENDING};
+use crate::text;
+use crate::tree::Tree;
 use indicatif::ProgressBar;
 use rayon::prelude::*;
-use std::collections::{BTreeSet, HashMap, HashSet};
-use std::fs::{self, Metadata};
+use std::collections::{HashMap, HashSet};
+use std::fs::{self, File};
+use std::io::{Read, Seek};
 use std::path::{Path, PathBuf};
 use std::sync::{Mutex, PoisonError};
-use std::time::SystemTime;
+
+/// The most bytes that are read to see whether a document begins with front matter.
+const MARK: u64 = 6;
 
 /// A folder, and the one that its pages are written to.
 struct Site<'a> {
@@ -23,75 +34,101 @@ struct Site<'a> {
     page: &'a Page,
     folder: &'a Path,
     site: &'a Path,
-    tree: Tree,
-    /// When the newest input of all pages was written.
-    newest: Option<SystemTime>,
+    tree: &'a Tree,
+    /// The texts of the documents that were read.
+    spool: Spool,
+    /// The title of `--page`, escaped.
+    title: Option<String>,
     /// The folders that were made.
     made: Mutex<HashSet<PathBuf>>,
-    /// The files that changed since all pages were rendered.
-    changed: Option<&'a HashSet<PathBuf>>,
+    /// Whether what is written and removed is reported.
+    is_again: bool,
     bar: ProgressBar,
 }
 
-/// A document that was read, and the result of writing its page, if that was asked for.
-struct Looked<'a> {
+/// A document that was read. It is kept until all are, so its text is elsewhere.
+struct Document<'a> {
     source: &'a Path,
     found: Found,
-    done: Option<Result<Done, Failed>>,
+    /// Its own title, escaped.
+    title: String,
+    /// Whether that is of its front matter.
+    is_titled: bool,
+    weight: Option<f64>,
+    has_h1: bool,
+    toc: Place,
+    html: Place,
 }
 
-/// Makes the pages of a folder. Nothing is written before it is known that no two files have the
-/// same target. If that holds even when every file is copied, each document is read and its page
-/// written at once; otherwise all documents are read first, to find the files to copy.
+/// What was written: its path from the site, what was done, and its stamp.
+type Put = (PathBuf, Done, Stamp);
+
+/// Makes the pages of a folder, and removes from the site what earlier runs wrote and the folder no
+/// longer gives. All documents are read first; their texts wait in a file. Then it is checked that
+/// no two files have the same target, and only then anything is written. A page whose bytes are
+/// already there isn't.
 ///
-/// In a later run `changed` has the files that may have changed since, by their paths from the
-/// folder. Their pages are written even if they are new, and each written page is reported.
+/// With `is_again`, for a run that follows another one, what is written and removed is reported.
 pub fn make(
     arguments: &Arguments,
     page: &Page,
     folder: &Path,
     site: &Path,
-    changed: Option<&HashSet<PathBuf>>,
+    is_again: bool,
 ) -> Result<Outcome, Failure> {
     let named = |error| -> Failure { format!("{}: {error}", folder.display()).into() };
-    let (tree, failed) = Tree::of(folder, site).map_err(named)?;
-    let mut site = Site::of(arguments, page, folder, site, tree);
-    site.changed = changed;
-    let mut outcome = Outcome::of(failed);
-    let sources = site.tree.sources();
-    let is_clear = site.collisions(&site.tree.files).is_empty();
-    if is_clear {
-        site.remove_parts();
+    let filter = Filter::of(&arguments.exclude, arguments.drafts)?;
+    let (mut tree, failed) = Tree::of(folder, site, &filter).map_err(named)?;
+    if !arguments.drafts {
+        tree.take_out(drafts(&tree));
     }
-    let mut read = site.look(&sources, is_clear, &mut outcome);
-    let copied = read.iter_mut().flat_map(|one| one.found.take_files());
-    let copied: BTreeSet<PathBuf> = copied.collect();
-    if !is_clear {
-        let collisions = site.collisions(&copied);
-        if !collisions.is_empty() {
-            outcome.failed.extend(collisions);
-            return Ok(outcome);
-        }
-        site.remove_parts();
-        let sources: Vec<&Path> = read.iter().map(|one| one.source).collect();
-        read = site.look(&sources, true, &mut outcome);
+    let mut outcome = Outcome::of(failed);
+    let site = Site::of(arguments, page, folder, site, &tree, is_again)?;
+    let sources = tree.sources();
+    let mut read = site.read_all(&sources, &mut outcome);
+    let files = read.iter_mut().flat_map(|one| one.found.take_files());
+    let plan = Plan::of(arguments, page, &tree, files.collect());
+    let collisions = plan.collisions(folder, site.site);
+    if !collisions.is_empty() {
+        outcome.failed.extend(collisions);
+        return Ok(outcome);
     }
     site.warn(&read, &mut outcome);
-    let done = read.into_iter().filter_map(|one| one.done);
-    done.for_each(|one| outcome.add(one));
-    site.copy_all(&copied, &mut outcome);
+    outcome.warnings.extend(plan.warnings(folder));
+    let list = site.take_back(&plan, &mut outcome);
+    let written = site.write_all(&read, &plan, &mut outcome);
+    if let Some(Err(message)) = list.map(|list| list.write(written)) {
+        if !arguments.keep {
+            let status = FAILED;
+            outcome.failed.push(Failed { message, status });
+        }
+    }
     site.bar.finish_and_clear();
+    outcome.skipped = tree.skipped.summary();
     outcome.is_summed = true;
     Ok(outcome)
 }
 
-/// When a file was written, if it exists.
-fn written(path: &Path) -> Option<SystemTime> {
-    found(path).and_then(|found| found.modified().ok())
+/// The sources that aren't to be published, as their front matter says.
+fn drafts(tree: &Tree) -> Vec<PathBuf> {
+    let is_draft = |path: &&PathBuf| {
+        let document = tree.open(path).ok().and_then(front_of);
+        document.map_or(false, |document| front::front_matter(&document).is_draft)
+    };
+    tree.pages.par_iter().filter(is_draft).cloned().collect()
 }
 
-fn found(path: &Path) -> Option<Metadata> {
-    fs::metadata(path).ok().filter(Metadata::is_file)
+/// The text of a document that may be a draft; a character in place of what isn't UTF-8.
+fn front_of(mut file: File) -> Option<String> {
+    let mut bytes = Vec::new();
+    (&mut file).take(MARK).read_to_end(&mut bytes).ok()?;
+    if !front::is_marked(&bytes) {
+        return None;
+    }
+    file.rewind().ok()?;
+    bytes.clear();
+    file.read_to_end(&mut bytes).ok()?;
+    front::may_be_draft(&bytes).then(|| String::from_utf8_lossy(&bytes).into_owned())
 }
 
 impl<'a> Site<'a> {
@@ -100,62 +137,75 @@ impl<'a> Site<'a> {
         page: &'a Page,
         folder: &'a Path,
         site: &'a Path,
-        tree: Tree,
-    ) -> Site<'a> {
-        let newest = [&arguments.page_template, &arguments.css];
-        let newest = newest.into_iter().flatten();
-        let newest = newest.filter_map(|path| written(path)).max();
-        let bar = progress::bar(tree.pages.len());
-        Site {
+        tree: &'a Tree,
+        is_again: bool,
+    ) -> Result<Site<'a>, Failure> {
+        let spool = Spool::beside(site).map_err(|error| format!("{}: {error}", site.display()))?;
+        let title = arguments.page.as_deref().map(escaped).transpose()?;
+        Ok(Site {
             arguments,
             page,
             folder,
             site,
             tree,
-            newest,
+            spool,
+            title,
             made: Mutex::default(),
-            changed: None,
-            bar,
-        }
+            is_again,
+            bar: progress::bar(2 * tree.pages.len()),
+        })
     }
 
-    /// Removes the new files that killed runs left in the site's folders; only in the first run.
-    fn remove_parts(&self) {
-        if self.changed.is_none() {
-            let folders = self.tree.folders.iter();
-            folders.for_each(|folder| files::remove_parts(&self.site.join(folder)));
-        }
-    }
-
-    /// Reads these documents, and writes their pages if `is_written`, on all processors. Returns
-    /// the documents that could be read.
-    fn look<'b>(
-        &self,
-        sources: &[&'b Path],
-        is_written: bool,
-        outcome: &mut Outcome,
-    ) -> Vec<Looked<'b>> {
+    /// Reads these documents on all processors. Returns those that could be read.
+    fn read_all<'b>(&self, sources: &[&'b Path], outcome: &mut Outcome) -> Vec<Document<'b>> {
         let work = |&source: &&'b Path| {
-            let name = self.name(source);
-            let looked = process(&name, || {
-                let (read, found) = self.read(source)?;
-                let done = is_written.then(|| process(&name, || self.write(source, &read)));
-                Ok(Looked {
-                    source,
-                    found,
-                    done,
-                })
-            });
-            self.bar.inc(is_written.into());
-            looked
+            let read = process(&self.name(source), || self.read(source));
+            self.bar.inc(1);
+            read
         };
-        let all: Vec<Result<Looked, Failed>> = sources.par_iter().map(work).collect();
+        let all: Vec<Result<Option<Document>, Failed>> = sources.par_iter().map(work).collect();
         let mut add = |one: Result<_, Failed>| one.map_err(|failed| outcome.failed.push(failed));
-        all.into_iter().filter_map(|one| add(one).ok()).collect()
+        all.into_iter()
+            .filter_map(|one| add(one).ok().flatten())
+            .collect()
+    }
+
+    /// Reads a document, and changes its links to other documents into links to their pages. There
+    /// is none if it has become a draft.
+    fn read<'b>(&self, source: &'b Path) -> Result<Option<Document<'b>>, Failure> {
+        let mut read = render::read(self.arguments, self.tree.open(source)?)?;
+        if read.front.is_draft && !self.arguments.drafts {
+            return Ok(None);
+        }
+        let is_asked = self.arguments.has_heading_ids();
+        let mut found = Found::with_faults(std::mem::take(&mut read.front.faults));
+        let read = read.with_urls(self.arguments, |url| {
+            if is_asked {
+                found.add_anchor(url, source, self.tree);
+            }
+            found.add(url, source, self.tree)
+        })?;
+        if is_asked {
+            found.add_ids(read.ids(), source);
+        }
+        let toc = match self.page.has_toc {
+            true => read.contents(self.arguments)?,
+            false => String::new(),
+        };
+        Ok(Some(Document {
+            source,
+            found: found.in_order(),
+            title: read.own_title(source)?,
+            is_titled: read.front.title.is_some(),
+            weight: read.front.weight,
+            has_h1: text::has_h1(&read.html),
+            toc: self.spool.put(&toc)?,
+            html: self.spool.put(&read.html)?,
+        }))
     }
 
     /// Adds the warnings about pages.
-    fn warn(&self, read: &[Looked], outcome: &mut Outcome) {
+    fn warn(&self, read: &[Document], outcome: &mut Outcome) {
         let pages: HashMap<&Path, &Found> =
             read.iter().map(|one| (one.source, &one.found)).collect();
         for one in read {
@@ -165,115 +215,182 @@ impl<'a> Site<'a> {
         }
     }
 
-    /// Reads a document, and changes its links to other documents into links to their pages.
-    fn read(&self, source: &Path) -> Result<(Read, Found), Failure> {
-        let mut read = render::read(self.arguments, self.tree.open(source)?)?;
-        let is_asked = self.arguments.has_heading_ids();
-        let mut found = Found::with_fault(read.fault.take());
-        let read = read.with_urls(self.arguments, |url| {
-            if is_asked {
-                found.add_anchor(url, source, &self.tree);
-            }
-            found.add(url, source, &self.tree)
-        })?;
-        if is_asked {
-            found.add_ids(read.ids(), source);
+    /// Removes what earlier runs wrote and isn't planned any more, and what killed runs left.
+    /// Returns the list of what earlier runs wrote, if it can be read.
+    fn take_back(&self, plan: &Plan, outcome: &mut Outcome) -> Option<List> {
+        if !self.is_again {
+            let folders = self.tree.folders.iter();
+            folders.for_each(|folder| files::remove_parts(&self.site.join(folder)));
         }
-        Ok((read, found.in_order()))
-    }
-
-    /// The conflicts if these files are copied: two files with one target, a file where a folder is
-    /// needed, and a target that is a file of the folder itself.
-    fn collisions<'b>(&'b self, copied: impl IntoIterator<Item = &'b PathBuf>) -> Vec<Failed> {
-        let mut collisions = Vec::new();
-        let mut taken: HashMap<PathBuf, &Path> = HashMap::new();
-        let sources = self.tree.sources().into_iter();
-        let pages = sources.map(|page| (page, page_of(page)));
-        let copies = copied.into_iter().map(|file| (&**file, file.clone()));
-        for (source, target) in pages.chain(copies) {
-            let place = self.site.join(&target);
-            if self.tree.holds(&place) {
-                let place = place.display();
-                collisions.push(format!("{place}: is a file of the folder itself"));
-            }
-            if let Some(other) = taken.insert(target, source) {
-                collisions.push(self.both(other, source, &place));
-            }
+        let read = List::read(self.site).map_err(|message| outcome.warnings.push(message));
+        let mut list = read.ok()?;
+        if self.arguments.keep {
+            return Some(list);
         }
-        for (target, source) in &taken {
-            for folder in target.ancestors().skip(1) {
-                if let Some(other) = taken.get(folder) {
-                    collisions.push(self.both(other, source, &self.site.join(folder)));
-                }
-            }
-        }
-        collisions.sort();
-        let failed = collisions.into_iter().map(|message| Failed {
-            message,
-            status: FAILED,
+        let has_failed = !outcome.failed.is_empty();
+        let removal = list.remove(self.site, |path| {
+            let may_be_copied = has_failed && self.tree.files.contains(path);
+            plan.has(path) || self.tree.may_give(path) || may_be_copied
         });
-        failed.collect()
-    }
-
-    fn both(&self, one: &Path, other: &Path, place: &Path) -> String {
-        let (one, other) = (self.name(one), self.name(other));
-        let place = place.display();
-        format!("{one} and {other} would both be written to {place}")
-    }
-
-    /// Writes a page, unless it is newer than all its inputs. An empty one is written again: a
-    /// power cut may have left it.
-    fn write(&self, source: &Path, read: &Read) -> Result<Done, Failure> {
-        let target = self.site.join(page_of(source));
-        if !self.is_asked_for(source) {
-            let page = found(&target).filter(|page| page.len() > 0);
-            if let Some(made) = page.and_then(|page| page.modified().ok()) {
-                let newest = written(&self.folder.join(source)).max(self.newest);
-                if Some(made) > newest {
-                    return Ok(Done::Unchanged);
-                }
+        for target in removal.removed {
+            if self.is_again {
+                files::report(&format!("{}: removed", target.display()));
             }
+            outcome.add(Ok(Done::Removed));
         }
-        self.make_folder_of(&target)?;
-        read.write(self.arguments, self.page, source, Some(&target))?;
-        if self.changed.is_some() {
-            files::report(&format!("{}: written", target.display()));
-        }
-        Ok(Done::Written)
+        let changed = removal.changed.iter().map(|target| target.display());
+        let changed = changed.map(|target| {
+            format!("{target}: was changed since it was written, so it isn't removed")
+        });
+        outcome.warnings.extend(changed);
+        outcome.failed.extend(removal.failed);
+        Some(list)
     }
 
-    /// Whether a file is rendered or copied even if its target is newer.
-    fn is_asked_for(&self, file: &Path) -> bool {
-        match self.changed {
-            Some(changed) => changed.contains(file),
-            None => self.arguments.all,
-        }
-    }
-
-    /// Copies these files, on all processors.
-    fn copy_all(&self, copied: &BTreeSet<PathBuf>, outcome: &mut Outcome) {
-        self.bar.inc_length(copied.len() as u64);
-        let copies = copied.par_iter().map(|file| {
-            let done = process(&self.name(file), || self.copy(file));
+    /// Writes the pages of these documents, the lists of folders, the copies and the sitemap.
+    /// Returns what is there then.
+    fn write_all(&self, read: &[Document], plan: &Plan, outcome: &mut Outcome) -> Written {
+        let cards: Vec<Card> = read.iter().map(Document::card).collect();
+        let names = self.names();
+        let nav = Nav::of(&cards, self.tree, &names);
+        let pages = read.par_iter().map(|one| {
+            let done = process(&self.name(one.source), || self.write(one, &nav));
             self.bar.inc(1);
             done
         });
-        let done: Vec<Result<Done, Failed>> = copies.collect();
-        done.into_iter().for_each(|one| outcome.add(one));
+        let mut done: Vec<Result<Put, Failed>> = pages.collect();
+        let lists = nav.lists().map(|(target, title, text, ways)| {
+            process(&self.name(target), || {
+                self.write_list(target, title, &text, &ways)
+            })
+        });
+        done.extend(lists);
+        done.extend(self.copy_all(plan));
+        let mut written = Written::new();
+        for one in done {
+            outcome.add(one.map(|(target, done, stamp)| {
+                written.insert(target, stamp);
+                done
+            }));
+        }
+        let base = self.arguments.base.as_deref();
+        let sitemap = base.map(|base| process(sitemap::NAME, || self.write_sitemap(base, &nav)));
+        match sitemap {
+            Some(Ok((target, _, stamp))) => drop(written.insert(target, stamp)),
+            Some(Err(failed)) => outcome.failed.push(failed),
+            None => {}
+        }
+        written
     }
 
-    /// Copies a file, unless its copy is newer and has the same length.
-    fn copy(&self, file: &Path) -> Result<Done, Failure> {
-        let (source, target) = (self.folder.join(file), self.site.join(file));
-        let length = |path| found(path).map(|found| found.len());
-        let is_newer = written(&target) > written(&source) && length(&target) == length(&source);
-        if !self.is_asked_for(file) && is_newer {
-            return Ok(Done::Kept);
+    /// The names of the folders that have pages, escaped; that of the site itself is its title.
+    fn names(&self) -> HashMap<PathBuf, String> {
+        let folders = self.tree.indexes.keys();
+        let named = folders.map(|path| {
+            let whole = self.tree.root().join(path);
+            let name = whole.file_name().unwrap_or_default().to_string_lossy();
+            let name = match (&self.title, path.as_os_str().is_empty()) {
+                (Some(title), true) => title.clone(),
+                _ => escaped(&name).unwrap_or_default(),
+            };
+            (path.clone(), name)
+        });
+        named.collect()
+    }
+
+    /// Writes the page of a document.
+    fn write(&self, document: &Document, nav: &Nav) -> Result<Put, Failure> {
+        let toc = self.spool.take(document.toc)?;
+        let content = self.spool.take(document.html)?;
+        let title = match &self.title {
+            Some(title) if !document.is_titled => title,
+            _ => &document.title,
+        };
+        let parts = Parts {
+            title,
+            toc: &toc,
+            content: &content,
+            has_h1: document.has_h1,
+            ways: &nav.ways(document.source),
+        };
+        let target = self.tree.page_of(document.source);
+        self.put(target, &self.page.around(&parts))
+    }
+
+    /// Writes the page of a folder that is a list of its pages.
+    fn write_list(
+        &self,
+        target: &Path,
+        title: &str,
+        text: &str,
+        ways: &Ways,
+    ) -> Result<Put, Failure> {
+        let content = format!("<h1>{title}</h1>\n{text}");
+        let parts = Parts {
+            title,
+            toc: "",
+            content: &content,
+            has_h1: true,
+            ways,
+        };
+        self.put(target.to_path_buf(), &self.page.around(&parts))
+    }
+
+    fn write_sitemap(&self, base: &str, nav: &Nav) -> Result<Put, Failure> {
+        let text = sitemap::text(base, nav.targets())?;
+        self.put(sitemap::path(), &[&text])
+    }
+
+    /// Writes texts to a file of the site, unless it has these bytes.
+    fn put(&self, target: PathBuf, texts: &[&str]) -> Result<Put, Failure> {
+        let place = self.site.join(&target);
+        let stamp = Stamp::of(texts);
+        if files::holds(&place, texts) {
+            return Ok((target, Done::Unchanged, stamp));
         }
-        let opened = self.tree.open(file)?;
-        self.make_folder_of(&target)?;
-        files::copy(opened, &target).map_err(|error| format!("{}: {error}", target.display()))?;
-        Ok(Done::Copied)
+        self.make_folder_of(&place)?;
+        files::write(&place, texts, false)
+            .map_err(|error| format!("{}: {error}", place.display()))?;
+        self.report_written(&place);
+        Ok((target, Done::Written, stamp))
+    }
+
+    /// Copies the planned files, on all processors.
+    fn copy_all(&self, plan: &Plan) -> Vec<Result<Put, Failed>> {
+        self.bar.inc_length(plan.copied.len() as u64);
+        let copies = plan.copied.par_iter().map(|file| {
+            let open = || self.copy(self.tree.open(file)?, file);
+            let done = process(&self.name(file), open);
+            self.bar.inc(1);
+            done
+        });
+        let mut done: Vec<Result<Put, Failed>> = copies.collect();
+        let extras = plan.extras.iter().map(|(target, source)| {
+            let open = || self.copy(File::open(source)?, target);
+            process(&source.display().to_string(), open)
+        });
+        done.extend(extras);
+        done
+    }
+
+    /// Copies a file into the site, unless that has these bytes.
+    fn copy(&self, mut source: File, target: &Path) -> Result<Put, Failure> {
+        let place = self.site.join(target);
+        let (stamp, is_same) = files::compare(&mut source, &place)?;
+        let target = target.to_path_buf();
+        if is_same {
+            return Ok((target, Done::Kept, stamp));
+        }
+        self.make_folder_of(&place)?;
+        files::copy(source, &place).map_err(|error| format!("{}: {error}", place.display()))?;
+        self.report_written(&place);
+        Ok((target, Done::Copied, stamp))
+    }
+
+    fn report_written(&self, place: &Path) {
+        if self.is_again {
+            files::report(&format!("{}: written", place.display()));
+        }
     }
 
     /// Makes the folder of a file, once.
@@ -293,7 +410,12 @@ impl<'a> Site<'a> {
     }
 }
 
-/// The path of a source's page.
-fn page_of(source: &Path) -> PathBuf {
-    source.with_extension(PAGE_ENDING)
+impl Document<'_> {
+    fn card(&self) -> Card<'_> {
+        Card {
+            source: self.source,
+            title: &self.title,
+            weight: self.weight,
+        }
+    }
 }

@@ -7,12 +7,14 @@ use crate::failures::Failed;
 pub enum Done {
     /// A page was written.
     Written,
-    /// A page was newer than its inputs.
+    /// A page was there already.
     Unchanged,
     /// A file was copied.
     Copied,
-    /// A copy was newer than its file.
+    /// A copy was there already.
     Kept,
+    /// A page or a copy was removed.
+    Removed,
 }
 
 /// The results for all files.
@@ -23,6 +25,8 @@ pub struct Outcome {
     pub failed: Vec<Failed>,
     /// Warnings about pages that were written: links without a target, errors in front matter.
     pub warnings: Vec<String>,
+    /// A line about what isn't published.
+    pub skipped: Option<String>,
     /// Whether there is a summary: for several files, and for a folder.
     pub is_summed: bool,
 }
@@ -44,24 +48,25 @@ impl Outcome {
         }
     }
 
-    /// The summary; none for a file that is named alone.
-    pub fn summary(&self) -> Option<String> {
+    /// The summary, in one line or two; none for a file that is named alone.
+    pub fn summary(&self) -> Vec<String> {
         if !self.is_summed {
-            return None;
+            return Vec::new();
         }
         let count = |wanted| self.done.iter().filter(|&&done| done == wanted).count();
         let (unchanged, copied) = (count(Done::Unchanged), count(Done::Copied));
-        let failed = self.failed.len();
+        let (removed, failed) = (count(Done::Removed), self.failed.len());
         let parts = [
             (unchanged, format!("{unchanged} unchanged")),
             (copied, format!("{} copied", counted(copied, "file"))),
+            (removed, format!("{removed} removed")),
             (failed, format!("{failed} failed")),
         ];
         let mut line = format!("{} written", counted(count(Done::Written), "page"));
         for (_, part) in parts.iter().filter(|(number, _)| *number > 0) {
             line.extend([", ", part]);
         }
-        Some(line)
+        self.skipped.iter().cloned().chain([line]).collect()
     }
 }
 
@@ -79,22 +84,23 @@ mod tests {
     #[test]
     fn lines() {
         let mut outcome = Outcome::default();
-        assert_eq!(outcome.summary(), None);
+        assert!(outcome.summary().is_empty());
         outcome.is_summed = true;
-        assert_eq!(outcome.summary().as_deref(), Some("0 pages written"));
+        assert_eq!(outcome.summary(), ["0 pages written"]);
         outcome.add(Ok(Done::Kept));
         outcome.add(Ok(Done::Copied));
         outcome.add(Ok(Done::Written));
-        let line = "1 page written, 1 file copied";
-        assert_eq!(outcome.summary().as_deref(), Some(line));
+        assert_eq!(outcome.summary(), ["1 page written, 1 file copied"]);
         outcome.add(Ok(Done::Unchanged));
         outcome.add(Ok(Done::Copied));
         outcome.add(Ok(Done::Written));
+        outcome.add(Ok(Done::Removed));
+        outcome.skipped = Some("not published: 1 draft".to_string());
         outcome.add(Err(Failed {
             message: String::new(),
             status: 1,
         }));
-        let line = "2 pages written, 1 unchanged, 2 files copied, 1 failed";
-        assert_eq!(outcome.summary().as_deref(), Some(line));
+        let line = "2 pages written, 1 unchanged, 2 files copied, 1 removed, 1 failed";
+        assert_eq!(outcome.summary(), ["not published: 1 draft", line]);
     }
 }

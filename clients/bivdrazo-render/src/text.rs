@@ -87,6 +87,12 @@ pub fn heading(html: &str) -> Option<String> {
     (!text.is_empty()).then_some(text)
 }
 
+/// Whether a text has a heading of the first level.
+pub fn has_h1(html: &str) -> bool {
+    let mut tags = html.match_indices("<h1");
+    tags.any(|(at, _)| is_heading(&html[at..]))
+}
+
 /// Whether a tag that begins with `<h` is the tag of a heading.
 fn is_heading(tag: &str) -> bool {
     matches!(tag.as_bytes(), [_, _, b'1'..=b'6', b' ' | b'>', ..])
@@ -221,5 +227,13 @@ mod tests {
         let options = MarkdownOptions::default().with_heading_ids("x");
         let made = markdown_to_html("# a\n", &options).unwrap();
         assert_eq!(heading(&made).as_deref(), Some("a"));
+        for (text, wanted) in [
+            ("# a", true),
+            ("## a\n\nb\n===", true),
+            ("## a\n`<h1>`", false),
+        ] {
+            assert_eq!(has_h1(&html(text)), wanted, "{text}");
+        }
+        assert!(has_h1(&made));
     }
 }

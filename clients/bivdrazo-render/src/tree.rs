@@ -1,7 +1,8 @@
 //! The files of a folder.
 
 use crate::failures::{Failed, Failure, FAILED};
-use std::collections::HashSet;
+use crate::skipped::{Filter, Reason, Skipped};
+use std::collections::{HashMap, HashSet};
 use std::ffi::OsStr;
 use std::fmt::Display;
 use std::fs::{self, DirEntry, File, OpenOptions};
@@ -13,6 +14,11 @@ use std::path::{Path, PathBuf};
 /// The ending of a source, and that of a page.
 pub const SOURCE_ENDING: &str = "md";
 pub const PAGE_ENDING: &str = "html";
+
+/// The source of a folder's page, the one in its place if there is none, in any case, and the page.
+const INDEX: &str = "index.md";
+const README: &str = "readme.md";
+pub const INDEX_PAGE: &str = "index.html";
 
 /// Opening a pipe doesn't wait for a writer (`O_NONBLOCK` of Linux).
 const NO_WAIT: i32 = 0o4000;
@@ -31,14 +37,32 @@ pub struct Tree {
     pub files: HashSet<PathBuf>,
     /// The folders; the path of the outermost one is empty.
     pub folders: HashSet<PathBuf>,
+    /// The pages of folders, by their paths: of each in which or below which a page is, and of each
+    /// that has an index.html.
+    pub indexes: HashMap<PathBuf, Index>,
+    /// What isn't published.
+    pub skipped: Skipped,
+    /// The folders and sources that can't be read.
+    pub unread: Vec<PathBuf>,
     /// The canonical path of the folder.
     root: PathBuf,
 }
 
+/// What the page of a folder is made from.
+#[derive(Clone, Debug, Eq, PartialEq)]
+pub enum Index {
+    /// A source: `index.md`, or `README.md` in a folder without it.
+    Source(PathBuf),
+    /// The `index.html` of a folder without these, which is copied.
+    File,
+    /// The list of the folder's pages.
+    List,
+}
+
 impl Tree {
-    /// Lists a folder, without the site if that is in it. Returns also what can't be read, and the
-    /// sources that are symbolic links to no file of the folder.
-    pub fn of(folder: &Path, site: &Path) -> Result<(Tree, Vec<Failed>), Failure> {
+    /// Lists a folder, without the site if that is in it, and without what isn't published. Returns
+    /// also what can't be read, and the sources that are symbolic links to no file of the folder.
+    pub fn of(folder: &Path, site: &Path, filter: &Filter) -> Result<(Tree, Vec<Failed>), Failure> {
         let root = fs::canonicalize(folder)?;
         let site = fs::canonicalize(site).ok();
         if site.as_ref() == Some(&root) {
@@ -48,12 +72,13 @@ impl Tree {
             root,
             ..Tree::default()
         };
-        let mut failed = Vec::new();
-        let mut fail = |path: &Path, error: &dyn Display| {
+        let (mut failed, mut unread) = (Vec::new(), Vec::new());
+        let mut fail = |path: PathBuf, error: &dyn Display| {
             failed.push(Failed {
-                message: format!("{}: {error}", folder.join(path).display()),
+                message: format!("{}: {error}", folder.join(&path).display()),
                 status: FAILED,
             });
+            unread.push(path);
         };
         let mut left = vec![PathBuf::new()];
         while let Some(at) = left.pop() {
@@ -66,18 +91,95 @@ impl Tree {
             let listed = fs::read_dir(tree.root.join(&at)).and_then(|mut entries| {
                 entries.try_for_each(|entry| {
                     let entry = entry?;
-                    if let Err(error) = tree.add(&at, &entry, &mut left) {
-                        fail(&at.join(entry.file_name()), &error);
+                    if let Err(error) = tree.add(&at, &entry, filter, &mut left) {
+                        fail(at.join(entry.file_name()), &error);
                     }
                     Ok(())
                 })
             });
             if let Err(error) = listed {
-                fail(&at, &error);
+                fail(at.clone(), &error);
             }
             tree.folders.insert(at);
         }
+        tree.unread = unread;
+        tree.settle();
         Ok((tree, failed))
+    }
+
+    /// Takes out sources that are drafts.
+    pub fn take_out(&mut self, drafts: Vec<PathBuf>) {
+        for draft in drafts {
+            self.pages.remove(&draft);
+            self.skipped.add(draft, Reason::Draft);
+        }
+        self.settle();
+    }
+
+    /// Finds the pages of folders, after the sources and files.
+    pub fn settle(&mut self) {
+        self.indexes.clear();
+        for page in &self.pages {
+            for folder in page.ancestors().skip(1) {
+                if self.indexes.contains_key(folder) {
+                    break;
+                }
+                self.indexes.insert(folder.to_path_buf(), Index::List);
+            }
+        }
+        let files = self.files.iter();
+        for file in files.filter(|file| file.file_name() == Some(OsStr::new(INDEX_PAGE))) {
+            self.indexes
+                .insert(folder_of(file).to_path_buf(), Index::File);
+        }
+        let is_readme = |name: &OsStr| name.eq_ignore_ascii_case(README);
+        let named = |page: &&Path| page.file_name().map_or(false, is_readme);
+        // In reverse order, so that of several the first one remains.
+        let readmes: Vec<&Path> = self.sources().into_iter().rev().filter(named).collect();
+        let readmes: Vec<PathBuf> = readmes.into_iter().map(Path::to_path_buf).collect();
+        for readme in readmes {
+            self.indexes
+                .insert(folder_of(&readme).to_path_buf(), Index::Source(readme));
+        }
+        let pages = self.pages.iter();
+        for index in pages.filter(|page| page.file_name() == Some(OsStr::new(INDEX))) {
+            self.indexes
+                .insert(folder_of(index).to_path_buf(), Index::Source(index.clone()));
+        }
+    }
+
+    /// Whether a source is that of its folder's page.
+    pub fn is_index(&self, source: &Path) -> bool {
+        let index = self.indexes.get(folder_of(source));
+        matches!(index, Some(Index::Source(index)) if index == source)
+    }
+
+    /// The path of a source's page.
+    pub fn page_of(&self, source: &Path) -> PathBuf {
+        match self.is_index(source) {
+            true => source.with_file_name(INDEX_PAGE),
+            false => source.with_extension(PAGE_ENDING),
+        }
+    }
+
+    /// The folders whose pages are lists.
+    pub fn lists(&self) -> impl Iterator<Item = &Path> {
+        let lists = self
+            .indexes
+            .iter()
+            .filter(|(_, index)| **index == Index::List);
+        lists.map(|(folder, _)| &**folder)
+    }
+
+    /// Whether a page of this path, or a copy, is of something that can't be read.
+    pub fn may_give(&self, target: &Path) -> bool {
+        let mut unread = self.unread.iter();
+        unread.any(|path| target.starts_with(path) || self.page_of(path) == target)
+    }
+
+    /// The canonical path of the folder.
+    pub fn root(&self) -> &Path {
+        &self.root
     }
 
     /// The sources, in order.
@@ -88,18 +190,31 @@ impl Tree {
     }
 
     /// Adds an entry of a folder; pushes a subfolder to `left`.
-    fn add(&mut self, at: &Path, entry: &DirEntry, left: &mut Vec<PathBuf>) -> Result<(), Failure> {
+    fn add(
+        &mut self,
+        at: &Path,
+        entry: &DirEntry,
+        filter: &Filter,
+        left: &mut Vec<PathBuf>,
+    ) -> Result<(), Failure> {
         let name = entry.file_name();
         if name.as_bytes().starts_with(b".") {
             return Ok(());
         }
         let path = at.join(name);
         let kind = entry.file_type()?;
+        let is_source = path.extension() == Some(OsStr::new(SOURCE_ENDING));
+        if let Some(reason) = filter.reason(&path, kind.is_dir()) {
+            match kind.is_dir() || is_source {
+                true => self.skipped.add(path, reason),
+                false => self.skipped.add_file(path),
+            }
+            return Ok(());
+        }
         if kind.is_dir() {
             left.push(path);
             return Ok(());
         }
-        let is_source = path.extension() == Some(OsStr::new(SOURCE_ENDING));
         let is_file = match kind.is_symlink() {
             true => self.is_linked_file(&path, is_source)?,
             false => kind.is_file(),
@@ -161,6 +276,11 @@ impl Tree {
     }
 }
 
+/// The folder of a file of the tree.
+pub fn folder_of(path: &Path) -> &Path {
+    path.parent().unwrap_or_else(|| Path::new(""))
+}
+
 #[cfg(test)]
 mod tests {
     use super::*;
@@ -195,7 +315,7 @@ mod tests {
         for path in ["secret/sub/a.md", "folder/.hidden/a.md"] {
             fs::write(all.join(path), "secret").unwrap();
         }
-        let (tree, failed) = Tree::of(&folder, &all.join("site")).unwrap();
+        let (tree, failed) = Tree::of(&folder, &all.join("site"), &Filter::default()).unwrap();
         assert!(failed.is_empty());
         assert_eq!(tree.pages.len() + tree.files.len(), 8);
         for path in kept.iter().chain(&gone) {

@@ -1,4 +1,4 @@
-//! Titles, and faults.
+//! Titles, drafts, weights, and faults.
 
 use super::yaml::{MANY_COLONS, QUOTE_IT, TAB};
 use super::*;
@@ -8,6 +8,10 @@ use std::time::{Duration, Instant};
 fn of(document: &str) -> (Option<String>, &str) {
     let front = front_matter(document);
     (front.title, &document[front.end..])
+}
+
+fn title_of(text: &str, is_yaml: bool) -> Result<Option<String>, String> {
+    keys_of(text, is_yaml)?.title.transpose()
 }
 
 /// The title of front matter in YAML and in TOML, or its fault.
@@ -89,7 +93,7 @@ fn ends() {
         ("---\n\nA text: with colon.\n\n---\na\n", None),
     ] {
         assert_eq!(
-            front_matter(document).fault.as_deref(),
+            front_matter(document).faults.first().map(String::as_str),
             fault,
             "{document:?}"
         );
@@ -99,9 +103,9 @@ fn ends() {
 /// Only the first lines are searched for a key.
 #[test]
 fn searched() {
-    let fault = |lines| front_matter(&format!("---\n{}a: b\n", "c\n".repeat(lines))).fault;
-    assert_eq!(fault(19).as_deref(), Some(NO_END));
-    assert_eq!(fault(20), None);
+    let fault = |lines| front_matter(&format!("---\n{}a: b\n", "c\n".repeat(lines))).faults;
+    assert_eq!(fault(19), [NO_END]);
+    assert!(fault(20).is_empty());
 }
 
 /// What isn't a map is reported, since it isn't printed.
@@ -119,7 +123,7 @@ fn no_maps() {
         for end in ["---", "..."] {
             let front = front_matter(&format!("---\n{inner}{end}\nc\n"));
             let fault = format!("the front matter isn't a map, so it isn't printed: line {line}: ");
-            assert_eq!(front.fault, Some(fault + why), "{inner:?}");
+            assert_eq!(front.faults, [fault + why], "{inner:?}");
             assert_eq!(front.end, inner.len() + 8);
         }
     }
@@ -131,11 +135,11 @@ fn broken() {
     assert_eq!((front.title, front.end), (None, 23));
     let why = "while scanning a quoted scalar, found unexpected end of stream";
     let fault = format!("the front matter can't be read as YAML: line 3: {why}");
-    assert_eq!(front.fault, Some(fault));
+    assert_eq!(front.faults, [fault]);
     let front = front_matter("+++\na = 1\ntitle = 'A\n+++\nc\n");
     assert_eq!((front.title, front.end), (None, 25));
     let fault = "the front matter can't be read as TOML: line 3: newline in string found";
-    assert_eq!(front.fault.as_deref(), Some(fault));
+    assert_eq!(front.faults.first().map(String::as_str), Some(fault));
 }
 
 #[test]
@@ -480,4 +484,98 @@ fn bombs() {
     assert_eq!(toml(&format!("a = {}", "[".repeat(65))), Err(too_deep()));
     let dots = toml(&format!("a{} = 1", ".a".repeat(501))).unwrap_err();
     assert!(dots.contains("more than 500 dots"), "{dots}");
+}
+
+/// Whether a document is a draft, and its faults.
+fn draft(document: &str) -> (bool, Vec<String>) {
+    let front = front_matter(document);
+    (front.is_draft, front.faults)
+}
+
+#[test]
+fn drafts() {
+    for (inner, is_draft) in [
+        ("draft: true", true),
+        ("Draft: TRUE # a", true),
+        ("\"draft\": yes", true),
+        ("draft: 'true'", true),
+        ("a: &x on\ndraft: *x", true),
+        ("{title: a, draft: true}", true),
+        ("published: false", true),
+        ("published: off\ndraft: false", true),
+        ("published: false\npublished: true", true),
+        ("draft: false", false),
+        ("draft:", false),
+        ("draft: ~", false),
+        ("published: true", false),
+        ("published: 2026-11-01", false),
+        ("published: [false]", false),
+        ("a:\n  draft: true", false),
+        ("title: draft", false),
+        ("drafts: true", false),
+    ] {
+        let document = format!("---\n{inner}\n---\nb\n");
+        assert_eq!(draft(&document), (is_draft, vec![]), "{inner}");
+        let is_marked = may_be_draft(document.as_bytes());
+        assert!(is_marked || !is_draft, "{inner}");
+    }
+    assert!(draft("+++\ndraft = true\n+++\n").0);
+    assert!(draft("+++\ndraft = \"true\"\n+++\n").0);
+    assert!(draft("+++\npublished = false\n+++\n").0);
+    assert!(!draft("+++\ndraft = false\n[a]\ndraft = true\n+++\n").0);
+    assert!(!may_be_draft(b"draft: true\n"));
+    assert!(may_be_draft(b"\xef\xbb\xbf+++\nDRAFT = true\n"));
+}
+
+/// A draft stays one if something is wrong with it or with the front matter.
+#[test]
+fn faulty_drafts() {
+    let no_truth = "the draft in the front matter is no truth value";
+    for value in ["maybe", "[true]", "{a: b}", "!!bool true", "1"] {
+        let front = draft(&format!("---\ndraft: {value}\n---\n"));
+        assert_eq!(front, (true, vec![no_truth.to_string()]), "{value}");
+    }
+    for document in [
+        "---\ntitle: a: b\ndraft: true\n---\n",
+        "---\ndraft: true\n\ta: b\n---\n",
+        "---\n  'published' : False  # a\n- b\n---\n",
+        "+++\ntitle = a\ndraft = true\n+++\n",
+        "---\ntitle: a\ndraft: true\n\ntext\n",
+        "---\rtitle: a\rdraft: true\r\rtext\r",
+    ] {
+        let (is_draft, faults) = draft(document);
+        assert!(is_draft && faults.len() == 1, "{document:?}: {faults:?}");
+        assert!(may_be_draft(document.as_bytes()), "{document:?}");
+    }
+    let long = format!("---\ndraft: true\na: {}\n---\n", "b".repeat(MOST_BYTES));
+    assert!(draft(&long).0);
+    assert!(!draft("---\ntitle: a: b\ndraft: false\n---\n").0);
+}
+
+#[test]
+fn weights() {
+    let weight = |inner: &str| front_matter(&format!("---\n{inner}\n---\n")).weight;
+    for (inner, wanted) in [
+        ("weight: 10", Some(10.0)),
+        ("weight: -1.5", Some(-1.5)),
+        ("nav_order: '3'", Some(3.0)),
+        ("nav_order: 3\nWeight: 2", Some(2.0)),
+        ("weight:\nnav_order: 4", Some(4.0)),
+        ("title: a", None),
+    ] {
+        assert_eq!(weight(inner), wanted, "{inner}");
+        let document = format!("---\n{inner}\n---\n");
+        assert!(front_matter(&document).faults.is_empty(), "{inner}");
+    }
+    assert_eq!(front_matter("+++\nweight = 7\n+++\n").weight, Some(7.0));
+    assert_eq!(front_matter("+++\nweight = 7.5\n+++\n").weight, Some(7.5));
+    for value in ["first", "inf", ".nan", "[1]", "1 2", "\"\""] {
+        let front = front_matter(&format!("---\nweight: {value}\nnav_order: 5\n---\n"));
+        let fault = "the weight in the front matter is no number";
+        assert_eq!(
+            (front.weight, front.faults),
+            (Some(5.0), vec![fault.to_string()]),
+            "{value}"
+        );
+    }
 }

@@ -1,14 +1,12 @@
-//! The title in front matter that is TOML, read by the crate toml.
+//! The keys of front matter that is TOML, read by the crate toml.
 //!
 //! That crate nests calls as its input nests brackets and dots in keys, so these are counted first.
 
+use super::keys::{known, Keys, TITLE};
 use super::{no_text, too_deep, unread, unread_at, MOST_DEPTH};
 use std::iter::Peekable;
 use std::str::Chars;
 use toml::Value;
-
-/// The key of the title.
-const TITLE: &str = "title";
 
 /// The most dots outside of strings, in all keys and numbers together.
 const MOST_DOTS: usize = 500;
@@ -16,8 +14,8 @@ const MOST_DOTS: usize = 500;
 /// The beginning of the error for a duplicate key.
 const DUPLICATE: &str = "duplicate key";
 
-/// The title in a text: in TOML before any table.
-pub fn title(text: &str) -> Result<Option<String>, String> {
+/// The keys in a text: in TOML before any table.
+pub fn keys(text: &str) -> Result<Keys, String> {
     let nesting = Nesting::of(text);
     if nesting.brackets > MOST_DEPTH {
         return Err(too_deep());
@@ -28,14 +26,28 @@ pub fn title(text: &str) -> Result<Option<String>, String> {
         ));
     }
     let front: Value = toml::from_str(text).map_err(|error| fault(&error, text))?;
-    match front.get(TITLE) {
-        None => Ok(None),
-        Some(Value::String(title)) => Ok(Some(title.clone())),
-        Some(Value::Integer(_) | Value::Float(_)) => Err(no_text("a number without quotes")),
-        Some(Value::Datetime(_)) => Err(no_text("a date without quotes")),
-        Some(Value::Boolean(_)) => Err(no_text("a truth value without quotes")),
-        Some(Value::Array(_)) => Err(no_text("a list")),
-        Some(Value::Table(_)) => Err(no_text("a table")),
+    let title = front.get(TITLE).map(|title| match title {
+        Value::String(title) => Ok(title.clone()),
+        Value::Integer(_) | Value::Float(_) => Err(no_text("a number without quotes")),
+        Value::Datetime(_) => Err(no_text("a date without quotes")),
+        Value::Boolean(_) => Err(no_text("a truth value without quotes")),
+        Value::Array(_) => Err(no_text("a list")),
+        Value::Table(_) => Err(no_text("a table")),
+    });
+    let table = front.as_table().into_iter().flatten();
+    let others = table.filter_map(|(key, value)| Some((known(key)?, scalar(value))));
+    Ok(Keys {
+        title,
+        others: others.collect(),
+    })
+}
+
+/// The text of a value that is neither a list nor a table.
+fn scalar(value: &Value) -> Option<String> {
+    match value {
+        Value::String(text) => Some(text.clone()),
+        Value::Array(_) | Value::Table(_) => None,
+        other => Some(other.to_string()),
     }
 }
 

@@ -1,8 +1,9 @@
-//! The title in front matter that is YAML, from the events of yaml-rust.
+//! The keys of front matter that is YAML, from the events of yaml-rust.
 //!
-//! Events come one by one, so that nesting takes no stack, and an alias isn't expanded: a title may
-//! be an alias of a text, and no other value is looked at.
+//! Events come one by one, so that nesting takes no stack, and an alias isn't expanded: a value may
+//! be an alias of a text, and lists and maps aren't looked at.
 
+use super::keys::{known, Keys, Others, TITLE};
 use super::{no_map, no_text, too_deep, unread_at, EMPTY_TITLE, MOST_DEPTH};
 use std::borrow::Cow;
 use std::collections::{HashMap, HashSet};
@@ -11,8 +12,7 @@ use std::str::Chars;
 use yaml_rust::parser::{Event, Parser};
 use yaml_rust::scanner::{Marker, ScanError, TScalarStyle, TokenType};
 
-/// The key of the title, and the one by which YAML 1.1 merges another mapping.
-const TITLE: &str = "title";
+/// The key by which YAML 1.1 merges another mapping.
 const MERGE: &str = "<<";
 
 const NO_END: &str = "the reader of YAML finds no end: please report it";
@@ -41,7 +41,7 @@ const QUOTE_MARK: &str = "a value that begins with # needs quotes";
 /// The tags that a text may have: none, or those of a string.
 const STRINGS: [(&str, &str); 3] = [("!!", "str"), ("", "tag:yaml.org,2002:str"), ("", "!")];
 
-/// A value, as far as a title needs it.
+/// A value, as far as a key needs it.
 #[derive(Clone, Debug)]
 enum Value {
     Text(Rc<str>),
@@ -72,8 +72,8 @@ struct Reader<'a> {
     block: Option<usize>,
 }
 
-/// The title in a text.
-pub fn title(text: &str) -> Result<Option<String>, String> {
+/// The keys in a text.
+pub fn keys(text: &str) -> Result<Keys, String> {
     if let Some(at) = text.find(is_unprintable) {
         let line = text[..at].matches('\n').count() + 1;
         return Err(unread_at("YAML", text, line, "a control character"));
@@ -118,14 +118,14 @@ fn with_marked_slashes(text: &str) -> Cow<'_, str> {
 }
 
 impl Reader<'_> {
-    /// The title of the only document.
-    fn document(&mut self) -> Result<Option<String>, String> {
+    /// The keys of the only document.
+    fn document(&mut self) -> Result<Keys, String> {
         self.next()?;
         if self.next()?.0 == Event::StreamEnd {
             let mut lines = self.text.lines();
             let comment = lines.position(|line| !line.trim().is_empty());
             let comments = |line| no_map(self.text, line + 1, ONLY_COMMENTS);
-            return comment.map_or(Ok(None), |line| Err(comments(line)));
+            return comment.map_or(Ok(Keys::default()), |line| Err(comments(line)));
         }
         let (event, start) = self.next()?;
         if !matches!(event, Event::MappingStart(_)) {
@@ -133,7 +133,7 @@ impl Reader<'_> {
             return Err(no_map(self.text, start.line(), NO_KEY));
         }
         let is_block = !self.is_at(start, '{');
-        let (found, at) = self.mapping(is_block)?;
+        let (found, others) = self.mapping(is_block)?;
         loop {
             match self.next()? {
                 (Event::StreamEnd, _) => break,
@@ -144,15 +144,20 @@ impl Reader<'_> {
         if is_block {
             self.check_tabs()?;
         }
-        match found {
-            Some(Value::Text(title)) => Ok(Some(title.to_string())),
-            None => Ok(None),
-            Some(Value::Tilde(mark)) if self.is_at(mark, '~') => Err(no_text("null")),
-            Some(Value::Nothing | Value::Tilde(_)) => Err(self.empty(at)),
-            Some(Value::Null) => Err(no_text("null")),
-            Some(Value::Tagged) => Err(no_text("of a type that isn't known")),
-            Some(Value::List) => Err(no_text("a list")),
-            Some(Value::Map) => Err(no_text("a map")),
+        let title = found.map(|(value, at)| self.title(value, at));
+        Ok(Keys { title, others })
+    }
+
+    /// The title with a value, whose key ends at or after this place; or its fault.
+    fn title(&self, value: Value, at: usize) -> Result<String, String> {
+        match value {
+            Value::Text(title) => Ok(title.to_string()),
+            Value::Tilde(mark) if self.is_at(mark, '~') => Err(no_text("null")),
+            Value::Nothing | Value::Tilde(_) => Err(self.empty(at)),
+            Value::Null => Err(no_text("null")),
+            Value::Tagged => Err(no_text("of a type that isn't known")),
+            Value::List => Err(no_text("a list")),
+            Value::Map => Err(no_text("a map")),
         }
     }
 
@@ -167,9 +172,10 @@ impl Reader<'_> {
         }
     }
 
-    /// The title in the outermost mapping, whose start was read, and the place of its key.
-    fn mapping(&mut self, is_block: bool) -> Result<(Option<Value>, usize), String> {
-        let (mut found, mut place) = (None, 0);
+    /// The title in the outermost mapping, whose start was read, with the place of its key; and the
+    /// other keys that are known.
+    fn mapping(&mut self, is_block: bool) -> Result<(Option<(Value, usize)>, Others), String> {
+        let (mut found, mut others) = (None, Vec::new());
         let mut merged = None;
         loop {
             let (event, mark) = self.next()?;
@@ -183,22 +189,25 @@ impl Reader<'_> {
                 return Err(self.error(at, "a value without indentation"));
             }
             let value = self.value(event, at)?;
-            match key {
-                Value::Text(key) if &*key == TITLE => {
-                    if found.replace(value).is_some() {
+            let key = match key {
+                Value::Text(key) => key,
+                _ => continue,
+            };
+            match &*key {
+                TITLE => {
+                    if found.replace((value, mark.index())).is_some() {
                         return Err(self.error(mark, "a second title"));
                     }
-                    place = mark.index();
                 }
-                Value::Text(key) if &*key == MERGE => merged = Some(mark),
-                _ => {}
+                MERGE => merged = Some(mark),
+                key => others.extend(known(key).and_then(|key| Some((key, given(value)?)))),
             }
         }
         match merged {
             Some(mark) if found.is_none() => {
                 Err(self.error(mark, "a merge key (<<), which isn't supported"))
             }
-            _ => Ok((found, place)),
+            _ => Ok((found, others)),
         }
     }
 
@@ -358,6 +367,15 @@ impl Reader<'_> {
             Err(tab) => tab,
             Ok(()) => unread_at("YAML", self.text, mark.line(), why),
         }
+    }
+}
+
+/// The text of a value, nothing inside if it is none; and nothing for a value that isn't there.
+fn given(value: Value) -> Option<Option<String>> {
+    match value {
+        Value::Text(text) => Some(Some(text.to_string())),
+        Value::Nothing | Value::Null | Value::Tilde(_) => None,
+        Value::Tagged | Value::List | Value::Map => Some(None),
     }
 }
 

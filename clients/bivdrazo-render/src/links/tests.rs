@@ -1,6 +1,7 @@
 //! Targets of URLs.
 
 use super::*;
+use crate::skipped::Reason;
 
 fn tree() -> Tree {
     let mut tree = Tree::default();
@@ -14,13 +15,19 @@ fn tree() -> Tree {
         "d.md",
         "d/index.md",
         "e/f.md",
+        "r/README.md",
+        "r/s/readme.md",
     ];
     tree.pages.extend(pages.map(PathBuf::from));
     let odd = OsStr::from_bytes(b"n\xff.md");
     tree.pages.insert(PathBuf::from(odd));
-    let files = ["i.png", "c/i.png", "d.pdf", "g.html"];
+    let files = ["i.png", "c/i.png", "d.pdf", "g.html", "w/index.html", "h/x"];
     tree.files.extend(files.map(PathBuf::from));
-    tree.folders.extend(["", "c", "d", "e"].map(PathBuf::from));
+    let folders = ["", "c", "d", "e", "h", "r", "r/s", "w"];
+    tree.folders.extend(folders.map(PathBuf::from));
+    tree.skipped.add(PathBuf::from("_x"), Reason::Underscore);
+    tree.skipped.add(PathBuf::from("c/draft.md"), Reason::Draft);
+    tree.settle();
     tree
 }
 
@@ -57,6 +64,8 @@ fn pages() {
             ("c/d.m%64#e", page("c/%64.html#e")),
             ("n%FF.md", page("n%FF.html")),
             ("c/%2e%2e/a.md", page("c/%2e%2e/a.html")),
+            ("r/README.md#b", page("r/index.html#b")),
+            ("r/s/%72eadme.m%64?c", page("r/s/index.html?c")),
         ],
     );
     check(
@@ -93,6 +102,13 @@ fn others() {
         "d",
         "d/",
         "d.html",
+        "e",
+        "e/",
+        "e/index.html#a",
+        "r",
+        "r/",
+        "r/index.html",
+        "r/s/",
     ] {
         check("a.md", &[(url, Target::Other)]);
     }
@@ -127,10 +143,39 @@ fn nothing() {
 
 #[test]
 fn folders() {
-    for url in ["e", "e/", "./e/?a#b", "c/../e/.", "%65"] {
+    for url in ["h", "h/", "./h/?a#b", "c/../h/.", "%68"] {
         check("a.md", &[(url, Target::Folder)]);
     }
-    check("e/f.md", &[(".", Target::Folder), ("../e", Target::Folder)]);
+    check("h/f.md", &[(".", Target::Folder), ("../h", Target::Folder)]);
+    check(
+        "a.md",
+        &[("w/", file("w/index.html")), ("w", Target::Other)],
+    );
+    check("r/README.md", &[("README.html", Target::Nothing)]);
+}
+
+#[test]
+fn unpublished() {
+    for url in ["_x", "_x/", "_x/a/b.md#c", "c/draft.md", "./c/../_x/d.png"] {
+        check("a.md", &[(url, Target::Unpublished)]);
+    }
+    check("a.md", &[("x", Target::Nothing), ("c/_x", Target::Nothing)]);
+}
+
+#[test]
+fn ways() {
+    for (folder, file, url) in [
+        ("", "a.html", "a.html"),
+        ("b", "a.html", "../a.html"),
+        ("b/c", "b/c/a.html", "a.html"),
+        ("b/c", "b/d e/a&\".html", "../d%20e/a%26%22.html"),
+        ("b", "bc/a.html", "../bc/a.html"),
+        ("", "http:/x", "http%3A/x"),
+    ] {
+        assert_eq!(between(Path::new(folder), Path::new(file)), url);
+    }
+    assert_eq!(root(Path::new("")), "./");
+    assert_eq!(root(Path::new("a/b")), "../../");
 }
 
 #[test]
@@ -171,6 +216,9 @@ fn anchors() {
         ("../a.MD#b", None),
         ("../a.HTML#b", None),
         ("../e/#b", None),
+        ("../r/#b", Some(("r/README.md", "b"))),
+        ("../r/index.html#b", Some(("r/README.md", "b"))),
+        ("../r/README.md#b", Some(("r/README.md", "b"))),
         ("#", None),
         ("#Top", None),
         ("../a.md", None),
