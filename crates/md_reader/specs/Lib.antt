@@ -1,0 +1,10 @@
+pub mod Allowed
+pub mod Attributes
+pub mod Begun
+pub mod Levels
+pub mod Named
+pub mod Names
+pub mod Permitted
+pub mod Runs
+pub mod Safe
+pub mod SplitNames
