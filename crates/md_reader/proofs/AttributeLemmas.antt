@@ -212,10 +212,6 @@ seen-without names seen name i is below other = at (index_of names other) refl
         ]
 
 -- ---- one attribute, and the others
-pub attributes-none : (p : Attribute → Bool) (left : List ℕ → Bool) (text : List ℕ) →
-    AreAttributes p left text text
-attributes-none p left text = record { attributes = []; is = refl; fresh = refl; passes = refl }
-
 pub attributes-one : (p : Attribute → Bool) (left : List ℕ → Bool) (name after rest end : List ℕ) →
     IsAttribute p left name after rest → AreAttributes p (without left name) rest end →
     AreAttributes p left (32 ∷ after) end

@@ -202,8 +202,8 @@ pub record ElementFacts (p : Attribute → Bool) (content : contents.Content) (d
   pub inner : IsLevel p held (depth - 1) children (60 ∷ 47 ∷ (name ++ (62 ∷ later)))
   pub level : IsLevel p content depth later end
 
-tail_of : (b c : ℕ) (x y : List ℕ) → b ∷ x ≡ c ∷ y → x ≡ y
-tail_of b c x y e = cc
+after_open : (x y : List ℕ) → 60 ∷ x ≡ 60 ∷ y → x ≡ y
+after_open x y e = cc
 
 attributes-stop : (x : List Attribute) (b : ℕ) (more : List ℕ) → is_name_byte b ≡ false →
     stops is_name_byte (written_attributes x ++ (b ∷ more)) ≡ true
@@ -238,7 +238,7 @@ tag-facts p content depth name text end cut on ends level =
         let parts = void_parts other attributes more inside in
         let later = written more ++ end in
         let e : name ++ text ≡ other ++ (written_attributes attributes
-        ++ (32 ∷ 47 ∷ 62 ∷ later)) = tail_of 60 60 _ _ is ∙ simp append_assoc refl in
+        ++ (32 ∷ 47 ∷ 62 ∷ later)) = after_open _ _ is ∙ simp append_assoc refl in
         let same = split is_name_byte name other text _ cut.named (name-bytes other parts.tidy.0)
         (stops-name text cut.stops) (attributes-stop attributes 32 _ refl) e in
         let tags = and_parts (is_tag void_tags other attributes) (is_forest more) inside in
@@ -266,7 +266,7 @@ tag-facts p content depth name text end cut on ends level =
         let parts = element_parts other attributes inner more inside in
         let later = written more ++ end in
         let e : name ++ text ≡ other ++ (written_attributes attributes ++ (62 ∷ (written inner
-        ++ (60 ∷ 47 ∷ (other ++ (62 ∷ later)))))) = tail_of 60 60 _ _ is
+        ++ (60 ∷ 47 ∷ (other ++ (62 ∷ later)))))) = after_open _ _ is
         ∙ simp append_assoc refl in
         let same = split is_name_byte name other text _ cut.named (name-bytes other parts.tidy.0)
         (stops-name text cut.stops) (attributes-stop attributes 62 _ refl) e in

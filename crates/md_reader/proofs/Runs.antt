@@ -1,13 +1,13 @@
 -- Escaped text is split in one way into its longest beginning and a rest.
-use Rattle.std.proofs.Common.{arith, ◌≡◌, ℕ, ◌-◌, ◌==◌, Bool, true, false, not, ◌||◌}
-use Rattle.std.proofs.Common.{List, [], ◌∷◌, ◌++◌, take, drop, length, refl, sym, ap, ◌∙◌, subst}
-use Rattle.std.proofs.Common.{append_assoc, length-append, inl, inr, codes}
+use Rattle.std.proofs.Common.{arith, ◌≡◌, ℕ, ◌==◌, Bool, true, false, not, ◌||◌}
+use Rattle.std.proofs.Common.{List, [], ◌∷◌, ◌++◌, refl, sym, ap, ◌∙◌, subst}
+use Rattle.std.proofs.Common.{append_assoc, inl, inr, codes}
 use Rattle.std.proofs.Common.{if◌then◌else◌}
-use Rattle.std.proofs.lemmas.Bool.{and_parts, and_from, cases_Bool}
+use Rattle.std.proofs.lemmas.Bool.{or_from, or_parts, and_parts, and_from, cases_Bool}
 use Rattle.md_base.proofs.Lies.{lie}
 use Rattle.md_text.specs.References.{is_escaped, is_escaped_byte, begins_with, read_back}
 use Rattle.md_text.proofs.EscapedLemmas.{completes_reference, completes-any, escaped-append}
-use Rattle.md_reader.specs.Runs.{is_plain, begins_escaped, IsEscapedBefore, IsRun, IsReference}
+use Rattle.md_reader.specs.Runs.{is_plain, begins_escaped, IsEscapedBefore, IsReference}
 
 -- ---- bytes
 pub escaped-plain : (b : ℕ) (front : List ℕ) → is_plain b ≡ true → is_escaped_byte b front ≡ true
@@ -30,33 +30,38 @@ begins-append (s ∷ start) [] more h = lie h
 begins-append (s ∷ start) (b ∷ text) more h =
     let later = begins-append start text more in grind (arith, later, h)
 
-or_keeps : (a b c d : Bool) → (a ≡ true → c ≡ true) → (b ≡ true → d ≡ true) →
-    (a || b) ≡ true → (c || d) ≡ true
-or_keeps a b c d f g h = grind (arith, f, g, h)
+begins-cut : (start text more : List ℕ) → begins_with start (text ++ more) ≡ false →
+    begins_with start text ≡ false
+begins-cut start text more lacks =
+    elim (cases_Bool (begins_with start text)) [
+      | inl begins ↦ lie (sym lacks ∙ begins-append start text more begins)
+      | inr none ↦ none
+    ]
 
-completes-append : (rest more : List ℕ) → completes_reference rest ≡ true →
-    completes_reference (rest ++ more) ≡ true
-completes-append rest more h =
-    let on = λ (start : List ℕ). begins-append start rest more in
-    completes-any (rest ++ more)
-    ∙ or_keeps _ _ _ _ (or_keeps _ _ _ _ (or_keeps _ _ _ _ (on (codes "amp;")) (on (codes "quot;")))
-    (on (codes "lt;"))) (on (codes "gt;")) (sym (completes-any rest) ∙ h)
+completes-cut : (rest more : List ℕ) → completes_reference (rest ++ more) ≡ false →
+    completes_reference rest ≡ false
+completes-cut rest more lacks =
+    let cut = λ (start : List ℕ). begins-cut start rest more in
+    let one = or_parts _ _ (sym (completes-any (rest ++ more)) ∙ lacks) in
+    let two = or_parts _ _ one.0 in
+    let three = or_parts _ _ two.0 in
+    completes-any rest
+    ∙ or_from _ _ (or_from _ _ (or_from _ _ (cut (codes "amp;") three.0)
+    (cut (codes "quot;") three.1)) (cut (codes "lt;") two.1)) (cut (codes "gt;") one.1)
 
-escaped_byte-append : (b : ℕ) (rest more : List ℕ) → is_escaped_byte b rest ≡ true →
-    is_escaped_byte b (rest ++ more) ≡ true
-escaped_byte-append b rest more =
+-- a byte that isn't escaped before a longer text isn't before the text's beginning
+escaped_byte-cut : (b : ℕ) (rest more : List ℕ) → is_escaped_byte b (rest ++ more) ≡ false →
+    is_escaped_byte b rest ≡ false
+escaped_byte-cut b rest more =
     elim (cases_Bool ((b == 0) || (b == 60) || (b == 62) || (b == 34))) [
       | inl special ↦ rw special (λ h. h)
       | inr plain ↦ rw plain (elim (cases_Bool (b == 38)) [
-        | inl is ↦ rw is (completes-append rest more)
+        | inl is ↦ rw is (completes-cut rest more)
         | inr other ↦ rw other (λ h. h)
       ])
     ]
 
 -- ---- beginnings
-pub before-none : (text : List ℕ) → IsEscapedBefore text text
-before-none text = record { front = []; is = refl; escaped = refl }
-
 pub before-then : (text rest later : List ℕ) → IsEscapedBefore text rest →
     IsEscapedBefore rest later → IsEscapedBefore text later
 before-then text rest later first next = record {
@@ -88,11 +93,10 @@ pub same-run : (x a y b : List ℕ) → x ++ a ≡ y ++ b → is_escaped x ≡ t
 same-run [] a [] b e hx hy sa sb = (refl, e)
 same-run [] a (c ∷ y) b e hx hy sa sb =
     let parts = and_parts (is_escaped_byte c y) (is_escaped y) hy in
-    lie (sym (subst (λ z. begins_escaped z ≡ false) e sa) ∙ escaped_byte-append c y b parts.0)
+    lie (sym (escaped_byte-cut c y b (subst (λ z. begins_escaped z ≡ false) e sa)) ∙ parts.0)
 same-run (c ∷ x) a [] b e hx hy sa sb =
     let parts = and_parts (is_escaped_byte c x) (is_escaped x) hx in
-    lie (sym (subst (λ z. begins_escaped z ≡ false) (sym e) sb)
-    ∙ escaped_byte-append c x a parts.0)
+    lie (sym (escaped_byte-cut c x a (subst (λ z. begins_escaped z ≡ false) (sym e) sb)) ∙ parts.0)
 same-run (c ∷ x) a (d ∷ y) b e hx hy sa sb =
     let px = and_parts (is_escaped_byte c x) (is_escaped x) hx in
     let py = and_parts (is_escaped_byte d y) (is_escaped y) hy in
@@ -100,41 +104,6 @@ same-run (c ∷ x) a (d ∷ y) b e hx hy sa sb =
     let heads : c ≡ d = cc in
     let later = same-run x a y b tails px.1 py.1 sa sb in
     ((λ i. heads i ∷ later.0 i), later.1)
-
-take-front : (x a : List ℕ) → take (length (x ++ a) - length a) (x ++ a) ≡ x
-take-front x a = at (length (x ++ a) - length a) x a (omega (arith, length-append {A = ℕ}))
-  where
-    at : (n : ℕ) (x a : List ℕ) → n ≡ length x → take n (x ++ a) ≡ x
-    at n x a e = rw e (front x a)
-      where
-        front : (x a : List ℕ) → take (length x) (x ++ a) ≡ x
-        front [] a = refl
-        front (b ∷ x) a = ap (λ y. b ∷ y) (front x a)
-
-drop-front : (x a : List ℕ) → drop (length (x ++ a) - length a) (x ++ a) ≡ a
-drop-front x a = at (length (x ++ a) - length a) x a (omega (arith, length-append {A = ℕ}))
-  where
-    at : (n : ℕ) (x a : List ℕ) → n ≡ length x → drop n (x ++ a) ≡ a
-    at n x a e = rw e (back x a)
-      where
-        back : (x a : List ℕ) → drop (length x) (x ++ a) ≡ a
-        back [] a = refl
-        back (b ∷ x) a = back x a
-
-pub run-at : (text rest front back : List ℕ) → IsEscapedBefore text rest →
-    begins_escaped rest ≡ false → front ≡ take (length text - length rest) text →
-    back ≡ drop (length text - length rest) text → IsRun text front back
-run-at text rest front back before stops f b =
-    let x = before.front in
-    let cut = λ (g : ℕ → List ℕ → List ℕ).
-    ap (λ (z : List ℕ). g (length z - length rest) z) before.is in
-    let is_front : front ≡ x = f ∙ cut take ∙ take-front x rest in
-    let is_back : back ≡ rest = b ∙ cut drop ∙ drop-front x rest in
-    record {
-      is = before.is ∙ (λ i. sym is_front i ++ sym is_back i);
-      escaped = subst (λ z. is_escaped z ≡ true) (sym is_front) before.escaped;
-      stops = subst (λ z. begins_escaped z ≡ false) (sym is_back) stops;
-    }
 
 -- ---- references
 pub reference-amp : (text rest : List ℕ) → text ≡ codes "amp;" ++ rest → IsReference text 38 rest
