@@ -3,8 +3,8 @@
  *
  * The compiled library calls them and nothing else for memory: it has no C of its own.
  * clients/build compiles this file for the processor of the library, and links both into one
- * object, in which these names are local. What the library requires of them, and what is assumed of them where it is
- * proved:
+ * object, in which these names are local. What the library requires of them, and what is assumed of
+ * them where it is proved:
  *  - The answer is two words in registers: 1 and the block's address, or 0 and the address of a
  *    byte that nobody owns. It is never null.
  *  - Each `align` is a power of two up to 16, as malloc() aligns on every 64-bit Linux for a block
