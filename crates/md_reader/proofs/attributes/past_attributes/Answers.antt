@@ -1,4 +1,4 @@
--- Each attribute in turn, and where they end.
+-- One attribute after another, and where they end.
 use Rattle.std.proofs.Common.{arith, ◌<◌, ◌∙◌, sym, subst, length, length-set, refl, List, Bool}
 use Rattle.std.proofs.Common.{false, [], ◌∷◌}
 use Rattle.md_reader.specs.Names.{listed}

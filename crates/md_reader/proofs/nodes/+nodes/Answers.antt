@@ -1,4 +1,4 @@
--- Each node in turn, and where they end.
+-- One node after another, and where they end.
 use Rattle.std.proofs.Common.{rules, arith, ◌-◌, ◌∷◌, ◌++◌, inl, inr, refl, sym, ap, subst, ◌∙◌}
 use Rattle.md_reader.specs.Allowed.{content_of}
 use Rattle.md_reader.specs.Permitted.{permits}
