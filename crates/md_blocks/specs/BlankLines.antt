@@ -1,4 +1,4 @@
--- Blank lines that are written (4.9): those that make a list loose.
+-- When a blank line that waits is written (4.9, 5.3).
 use Rattle.std.specs.Prelude.{Bool, List, [], ◌∷◌, ◌&&◌, ◌||◌, not, nat_lt, length, Option, Some, None}
 use Rattle.std.specs.Prelude.{if◌then◌else◌}
 use Rattle.md_blocks.specs.declared.nesting.Open.{Open}
@@ -7,12 +7,12 @@ use Rattle.md_blocks.specs.declared.block.Block.{Block}
 use Rattle.md_blocks.specs.declared.block.Block.TheVariants.{BlankLine}
 use Rattle.md_blocks.specs.Stack.{innermost, is_item, is_list}
 
--- an item, or a list between two items
+-- an item or a list
 abbrev pub in_list : Open → Bool
 in_list container = is_item container || is_list container
 
--- a blank line before a child of an item, or between two items, if the quote or footnote around it
--- is open still
+-- the blank line that waits, if as many containers are open as up to the quote or footnote around
+-- it, and the innermost is an item or a list
 abbrev pub blank_before : Option Pending → List Open → List Block
 blank_before None containers = []
 blank_before (Some blank) containers =

@@ -13,13 +13,14 @@ quote_continued rest =
     if nat_lt (indent rest) 4 && option_map_or (λ byte. byte == 62) (first rest) (nat_lt 1 0)
     then Some (skipped 1 (passed 1 rest)) else None
 
--- an item or a footnote goes on after so many columns, or if the line is blank
+-- an item with a child, or a footnote, goes on after so many columns, or if the line is blank
 abbrev pub indented_continued : ℕ → Rest → Option Rest
 indented_continued columns rest =
     if nat_lt (indent rest) columns && not (is_blank_rest rest) then None
     else Some (skipped columns rest)
 
--- the rest of the line after what continues a container
+-- the rest of the line after what continues a container; a blank line continues no item that has no
+-- child
 abbrev pub continued : Open → Rest → Option Rest
 continued container rest = elim container.kind [
   | Quote ↦ quote_continued rest

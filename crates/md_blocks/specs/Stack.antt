@@ -32,7 +32,7 @@ with_child [] = []
 with_child (container ∷ []) = record container { has_child = true } ∷ []
 with_child (container ∷ next ∷ inner) = container ∷ with_child (next ∷ inner)
 
--- how many containers there are up to the innermost quote or footnote
+-- how many containers there are up to the innermost quote or footnote; 0 if there is none
 abbrev pub quotes_depth : List Open → ℕ
 quotes_depth [] = 0
 quotes_depth (container ∷ inner) =
@@ -44,7 +44,7 @@ abbrev pub without_list : List Open → ℕ
 without_list containers =
     if innermost is_list containers then length containers - 1 else length containers
 
--- the end of a container, up to which a document is read
+-- the end of a container, where the document is read up to this index
 abbrev pub end_of : ℕ → Open → Block
 end_of at container = Exit container.kind (not container.has_child) at
 

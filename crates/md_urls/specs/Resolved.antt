@@ -39,7 +39,8 @@ begins_empty ((byte ∷ segment) ∷ more) = false
 abbrev pub relative : List (List ℕ) → List ℕ
 relative segments = if begins_empty segments then codes "./" else []
 
--- a path without its segments `.` and `..` (5.2.4)
+-- a path without its segments `.` and `..` (5.2.4); one that begins with no slash stays so, and
+-- isn't emptied
 abbrev pub without_dots : List ℕ → List ℕ
 without_dots [] = []
 without_dots (first ∷ rest) =
@@ -85,6 +86,6 @@ target base url =
 abbrev pub stays : List ℕ → Bool
 stays url = is_some (split url).scheme || is_empty url || starts_with nat_eq url (codes "#")
 
--- a URL, resolved against a base
+-- a URL that doesn't stay as it is, resolved against a base
 abbrev pub resolved : List ℕ → List ℕ → List ℕ
 resolved base url = joined (target (split base) (split url))
