@@ -41,6 +41,8 @@ ALLOWED = {
         "neither crate uses the other, and no crate below both is about URLs",
     ("md_pattern::push_node", "md_tree::push_open"):
         "it is private to each, and inlined; a shared one would be exported",
+    ("md_clean_abi::check_version", "md_markdown_abi::check_version"):
+        "each reads the version in the options of its own layout",
     ("md_html::render", "md_html::render_within"):
         "the context borrows the definitions, which the caller must own",
     ("md_buffer::put_sanitized", "md_buffer::put_sanitized_with_protocols"):

@@ -3,9 +3,9 @@
 
     bench/pages/api.py
 
-For md_base, md_text, md_tree, md_html, md_script, md_page, md_slugs, md_reader and md_markdown: the
-names at the root and the methods of the types among them are exactly those of the crate's list and
-of the table at the end. md_html re-exports exactly the names of the lists of md_base, md_text and md_tree.
+For md_base, md_text, md_tree, md_html, md_script, md_page, md_slugs, md_reader, md_clean and
+md_markdown: the names at the root and the methods of the types among them are exactly those of the
+crate's list and of the table at the end. md_html re-exports exactly the names of the lists of md_base, md_text and md_tree.
 The C headers have each name of their list, and declare no function except these and those that
 their own functions call. Each other crate's README says that it is internal. It prints each
 difference, and the status is 1 if there is one.
@@ -17,13 +17,13 @@ import sys
 
 ROOT = pathlib.Path(__file__).resolve().parents[2]
 CRATES = ["md_base", "md_text", "md_tree", "md_html", "md_script", "md_page", "md_slugs",
-          "md_reader", "md_markdown"]
+          "md_reader", "md_clean", "md_markdown"]
 BELOW_HTML = ["md_base", "md_text", "md_tree"]
 # Crates whose own list has what they re-export from lower crates.
 HANDED_ON = {"md_script": {"md_html"}, "md_markdown": {"md_html", "md_blocks"}}
 # The C interface, the programs and the benchmark, whose folder stays as it is; what the README of
 # each other crate says.
-OTHERS = ["md_ffi", "mdevents", "mdhtml", "md_bench"]
+OTHERS = ["md_ffi", "mdevents", "mdhtml", "mdclean", "md_bench"]
 INTERNAL = "Internal: users call nothing of it ([docs/use/API.md](../../docs/use/API.md))."
 # What the inline functions of the headers call.
 HELPERS = {"bivdrazo_answer_memory", "bivdrazo_is_too_long", "bivdrazo_first_size", "bivdrazo_grow",

@@ -63,7 +63,7 @@ class InBody(Stack):
                 raise Stuck
             self.insert(name, attributes)
             self.mode = "table"
-        elif name in ("br", "img", "input"):
+        elif name in ("br", "img", "input", "wbr"):
             self.reconstruct()
             self.insert_void(name, attributes)
         elif name == "hr":

@@ -6,21 +6,31 @@ import pathlib
 
 ATTACKS = json.loads(pathlib.Path(__file__).with_name("attacks.json").read_text(encoding="utf-8"))
 
+# The attributes that any element of authors may have.
+SHARED = ["id", "title", "lang", "dir"]
 ELEMENTS = {
-    name: []
-    for name in "blockquote pre p ul em strong del sup table thead tbody tr h1 h3 h4 h5 h6".split()
+    name: SHARED
+    for name in "blockquote pre ul li em strong del sup b i u s small sub span kbd samp var q cite "
+                "abbr dfn ins mark summary figure figcaption".split()
 } | {
-    "code": ["class"],
-    "ol": ["start"],
-    "li": ["id"],
-    "h2": ["id", "class"],
-    "th": ["align"],
-    "td": ["align"],
+    name: ["align", *SHARED] for name in "p div h1 h3 h4 h5 h6".split()
+} | {
+    name: ["align", "valign", *SHARED] for name in "thead tbody tfoot tr".split()
+} | {
+    name: ["colspan", "rowspan", "width", "height", "align", "valign", *SHARED]
+    for name in ("th", "td")
+} | {
+    "code": ["class", *SHARED],
+    "ol": ["start", *SHARED],
+    "h2": ["class", "align", *SHARED],
+    "table": ["align", "width", *SHARED],
+    "details": ["open", *SHARED],
     "section": ["data-footnotes", "class"],
-    "a": "href title id class data-footnote-ref data-footnote-backref aria-describedby "
-         "aria-label".split(),
+    "a": ["href", "class", "data-footnote-ref", "data-footnote-backref", "aria-describedby",
+          "aria-label", "name", *SHARED],
 }
-VOID = {"br": [], "hr": [], "img": ["src", "alt", "title"],
+VOID = {"br": SHARED, "hr": SHARED, "wbr": SHARED,
+        "img": ["src", "alt", "width", "height", "align", *SHARED],
         "input": ["type", "disabled", "checked"]}
 # Escaped pieces of texts and values.
 ESCAPED = [

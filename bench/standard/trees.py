@@ -15,31 +15,37 @@ import sys
 
 import construction
 import html5lib
+from html5lib import html5parser
+from html5lib.constants import namespaces
 
 NAMESPACE = "{http://www.w3.org/1999/xhtml}"
-PHRASING = {name: "phrasing" for name in ("em", "strong", "del", "sup")} | {"code": "characters",
-                                                                            "a": "linked"}
-LINKED = {name: "linked" for name in ("em", "strong", "del", "sup")} | {"code": "characters"}
-BLOCKS = {"blockquote": "flow", "section": "flow", "ul": "items", "ol": "items", "table": "parts",
-          "pre": "preformatted"}
+# html5lib 1.1 lacks two of the Standard's special elements.
+html5parser.specialElements |= {(namespaces["html"], name) for name in ("figcaption", "summary")}
+SPANS = ("em strong del sup b i u s small sub span kbd samp var q cite abbr dfn ins mark").split()
+PHRASING = {name: "phrasing" for name in SPANS} | {"code": "characters", "a": "linked"}
+LINKED = {name: "linked" for name in SPANS} | {"code": "characters"}
+BLOCKS = {name: "flow" for name in ("blockquote section div details figure figcaption").split()}
+BLOCKS |= {"ul": "items", "ol": "items", "table": "parts", "pre": "preformatted",
+           "summary": "phrasing"}
 HEADINGS = {f"h{rank}": "phrasing" for rank in range(1, 7)}
 MODEL = {
     "flow": PHRASING | BLOCKS | HEADINGS | {"p": "phrasing"},
     "phrasing": PHRASING,
     "linked": LINKED,
     "items": {"li": "flow"},
-    "parts": {"thead": "rows", "tbody": "rows"},
+    "parts": {"thead": "rows", "tbody": "rows", "tfoot": "rows"},
     "rows": {"tr": "cells"},
     "cells": {"th": "phrasing", "td": "phrasing"},
     "preformatted": {"code": "characters"},
     "characters": {},
 }
-VOIDS = {"flow": ["br", "hr", "img", "input"], "phrasing": ["br", "img", "input"],
-         "linked": ["br", "img", "input"]}
+VOIDS = {"flow": ["br", "hr", "img", "input", "wbr"], "phrasing": ["br", "img", "input", "wbr"],
+         "linked": ["br", "img", "input", "wbr"]}
 ATTRIBUTES = {
-    "a": ["href", "id", "rel"], "code": ["class"], "ol": ["start"], "li": ["id"], "th": ["align"],
-    "td": ["align"], "img": ["src", "alt"], "input": ["type", "checked"],
-    **{f"h{rank}": ["id"] for rank in range(1, 7)},
+    "a": ["href", "id", "name", "rel"], "code": ["class"], "ol": ["start"], "li": ["id"],
+    "th": ["align", "colspan"], "td": ["align", "rowspan"], "img": ["src", "alt", "width"],
+    "input": ["type", "checked"], "details": ["open"], "div": ["align", "dir"],
+    **{f"h{rank}": ["id", "title"] for rank in range(1, 7)},
 }
 # Texts before a forest, the elements that are open after each, and the insertion mode.
 PLACES = {

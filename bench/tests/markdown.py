@@ -15,7 +15,8 @@ PROGRAM is crates/mdhtml/out/mdhtml if it isn't given, which `rt ci` builds. Six
   each mark at each of OFFSETS places in a line;
 - the cases of docs/use/MARKDOWN.md, here and by cmark-gfm;
 - documents that make parsers slow: four times as long a one takes at most GROWTH times the
-  processor time, and at most MEMORY bytes for each of its bytes beyond MEGABYTES.
+  processor time, and at most MEMORY bytes for each of its bytes beyond MEGABYTES. One that seems
+  slower is run AGAIN times more, since other work on the machine can only make a time longer.
 The first three parts need Debian's cmark-gfm and its extensions, the fifth cmark-gfm: if they are
 missing, the part is left out, which is reported. The status is 1 if something is wrong.
 """
@@ -52,6 +53,7 @@ CHARACTERS = (("\\n", "\n"), ("\\t", "\t"), ("\\0", "\0"))
 EXTENSIONS = ("footnotes", "table", "strikethrough", "autolink", "tasklist")
 SIZE = 100_000
 GROWTH = 12
+AGAIN = 5
 MEMORY = 400
 MEGABYTES = 64
 OFFSETS = 40
@@ -269,12 +271,14 @@ SHAPES = {
 
 
 def taken(program, text):
-    """The processor seconds of the program for a document, and its memory in bytes."""
+    """The processor seconds of the program for a document, and its memory in bytes. The seconds are
+    those of the program and of the kernel, since Linux only estimates each of them.
+    """
     script = ("import resource, subprocess, sys\n"
               "subprocess.run([*sys.argv[2:]], stdin=open(sys.argv[1], 'rb'), check=True,\n"
               "    stdout=subprocess.DEVNULL)\n"
               "used = resource.getrusage(resource.RUSAGE_CHILDREN)\n"
-              "print(used.ru_utime, used.ru_maxrss * 1024)\n")
+              "print(used.ru_utime + used.ru_stime, used.ru_maxrss * 1024)\n")
     with tempfile.NamedTemporaryFile() as file:
         file.write(text.encode("utf-8"))
         file.flush()
@@ -291,7 +295,11 @@ def hostile(program):
         short, long = shape(SIZE), shape(4 * SIZE)
         before, _ = taken(program, short)
         seconds, memory = taken(program, long)
-        if seconds > GROWTH * max(before, 0.01):
+        most = GROWTH * max(before, 0.01)
+        for _ in range(AGAIN):
+            if seconds > most:
+                seconds = min(seconds, taken(program, long)[0])
+        if seconds > most:
             faults.append(f"{name}: {before:.2f} seconds, then {seconds:.2f}")
         if memory > (MEGABYTES << 20) + MEMORY * len(long):
             faults.append(f"{name}: {memory >> 20} megabytes for {len(long)} bytes")

@@ -116,6 +116,17 @@ bivdrazo_answer bivdrazo_compile_unnested(const bivdrazo_event *events, size_t e
 bivdrazo_answer bivdrazo_has_nested_link(const bivdrazo_event *events, size_t events_length);
 
 /*
+ * Whether a text is safe HTML, whoever wrote it: 1 if it is, else 0. So a text that comes back from
+ * a database can be inserted into a page again without escaping it. It is safe exactly if it has a
+ * reading as HTML with the elements and attributes of a short list, in which no link stands in a
+ * link, links and images have no protocol or a permitted one, and elements nest at most 485 deep:
+ * then it has no other reading. Under safe options the text of each call but bivdrazo_run() is, if
+ * no link stands in a link and no `rel` was requested. The text needn't be UTF-8. No memory is
+ * requested. `text` isn't null.
+ */
+uint32_t bivdrazo_is_safe_html(const uint8_t *text, size_t text_length);
+
+/*
  * Writes the HTML of an event script (lines of options and events, a line `--`, the document)
  * likewise. Its statuses are BIVDRAZO_OK, BIVDRAZO_TOO_SHORT, BIVDRAZO_REFUSED, BIVDRAZO_NO_LINE
  * and BIVDRAZO_MEMORY.

@@ -1,5 +1,5 @@
 /*
- * Bivdrazo for C: renders Markdown as safe HTML.
+ * Bivdrazo for C: renders Markdown as safe HTML, and cleans HTML.
  *
  *     char *html;
  *     bivdrazo_answer answer = bivdrazo_markdown((const uint8_t *)"**a** <b>", 9, NULL, &html);
@@ -16,9 +16,11 @@
  *
  * Nothing checks these requirements:
  *  - `text` points to `length` bytes. It may be null if `length` is 0, except for
- *    bivdrazo_markdown_into() and bivdrazo_front_matter(), for which no pointer is null.
- *  - Begin with bivdrazo_markdown_options_default(), or pass NULL. A set text points to as many
- *    bytes as its length says; the pointer of an unset text isn't null either.
+ *    bivdrazo_markdown_into(), bivdrazo_clean_into() and bivdrazo_front_matter(), for which no
+ *    pointer is null.
+ *  - Begin with bivdrazo_markdown_options_default() or bivdrazo_clean_options_default(), or pass
+ *    NULL. A set text points to as many bytes as its length says; the pointer of an unset text
+ *    isn't null either.
  *  - `html` and `headings` aren't null, and the texts that are stored there are freed once, by
  *    bivdrazo_markdown_free().
  *  - No length exceeds PTRDIFF_MAX, and nobody writes to the arguments during the call.
@@ -120,6 +122,44 @@ bivdrazo_answer bivdrazo_markdown_into(const uint8_t *text, size_t text_length,
 bivdrazo_answer bivdrazo_markdown_slugs_into(const uint8_t *text, size_t text_length,
                                              const bivdrazo_markdown_options *options,
                                              uint8_t *buffer, size_t buffer_length);
+
+/*
+ * The options of bivdrazo_clean(). The text is safe under all of them; neither length has a limit
+ * by default.
+ *
+ * `tags` are the names of the elements that stay, in lower case and with a space between two;
+ * unset: all that bivdrazo_clean() may keep. `table` brings the elements that a table needs, `ul`
+ * and `ol` bring `li`, and `pre` brings `code`. An empty text keeps no element. `protocols` are
+ * those that URLs may have, written likewise: some of http, https, irc, ircs, mailto and xmpp;
+ * unset: all of them. Images have http and https at most. A URL without a protocol stays.
+ */
+typedef struct bivdrazo_clean_options {
+    uint32_t version;        /* BIVDRAZO_MARKDOWN_VERSION */
+    uint8_t unused[4];       /* 0 */
+    bivdrazo_text tags;      /* the elements that stay; unset: all */
+    bivdrazo_text protocols; /* the protocols that URLs may have; unset: all */
+    size_t max_input;        /* the limit on the input's length in bytes; SIZE_MAX: none */
+    size_t max_output;       /* the limit on the text's length in bytes; SIZE_MAX: none */
+} bivdrazo_clean_options;
+
+BIVDRAZO_ASSERT(sizeof(bivdrazo_clean_options) == 72, "the options' size");
+BIVDRAZO_ASSERT(offsetof(bivdrazo_clean_options, tags) == 8, "the first text");
+BIVDRAZO_ASSERT(offsetof(bivdrazo_clean_options, max_output) == 64, "the last limit");
+
+/*
+ * Cleans HTML that anyone wrote: writes into the buffer safe HTML, of which
+ * bivdrazo_is_safe_html() says 1, with the elements and attributes of the input that are listed.
+ * Text in other elements stays, except for that of script, style and others. With BIVDRAZO_OK the
+ * text is the buffer's first `length` bytes; with BIVDRAZO_TOO_SHORT that is the size that it
+ * needs. Any status but BIVDRAZO_OK leaves the buffer unchanged.
+ *
+ * The other statuses: BIVDRAZO_MARKDOWN_NO_VERSION, BIVDRAZO_NO_OPTION (`index` is 0 for a name in
+ * `tags` that isn't known, 1 for one in `protocols`), BIVDRAZO_MARKDOWN_INPUT_TOO_LONG,
+ * .._NOT_UTF8, .._OUTPUT_TOO_LONG; and BIVDRAZO_MEMORY.
+ */
+bivdrazo_answer bivdrazo_clean_into(const uint8_t *text, size_t text_length,
+                                    const bivdrazo_clean_options *options, uint8_t *buffer,
+                                    size_t buffer_length);
 
 /*
  * Finds the front matter of a Markdown document: the text between lines of `---` at its beginning,
@@ -273,8 +313,39 @@ static inline bivdrazo_answer bivdrazo_markdown_slugs(const uint8_t *text, size_
     return bivdrazo_markdown_texts(1, text, length, options, html, headings);
 }
 
-/* Frees a text of bivdrazo_markdown(), bivdrazo_markdown_headings() or bivdrazo_markdown_slugs();
-   null is allowed. */
+/* The default options. */
+static inline bivdrazo_clean_options bivdrazo_clean_options_default(void) {
+    bivdrazo_clean_options options = {
+        BIVDRAZO_MARKDOWN_VERSION, {0, 0, 0, 0}, {0, 0, 0}, {0, 0, 0}, SIZE_MAX, SIZE_MAX};
+    options.tags = bivdrazo_text_unset();
+    options.protocols = bivdrazo_text_unset();
+    return options;
+}
+
+/*
+ * Cleans HTML as bivdrazo_clean_into() does. With BIVDRAZO_OK `*html` is the text, `length` bytes
+ * of which none is NUL, and a NUL that isn't counted; otherwise `*html` is null. Null options are
+ * the default ones. The statuses are those of bivdrazo_clean_into() without BIVDRAZO_TOO_SHORT.
+ */
+static inline bivdrazo_answer bivdrazo_clean(const uint8_t *text, size_t length,
+                                             const bivdrazo_clean_options *options, char **html) {
+    const bivdrazo_clean_options defaults = bivdrazo_clean_options_default();
+    bivdrazo_answer answer = {BIVDRAZO_TOO_SHORT, 0, 0, bivdrazo_markdown_first_size(length)};
+    uint8_t *made = NULL;
+    for (int tries = 0; tries < 2 && answer.status == BIVDRAZO_TOO_SHORT; tries++) {
+        const size_t room = answer.length;
+        bivdrazo_grow(&answer, &made);
+        if (answer.status == BIVDRAZO_TOO_SHORT)
+            answer = bivdrazo_clean_into(length ? text : (const uint8_t *)"", length,
+                                         options ? options : &defaults, made, room);
+    }
+    bivdrazo_settle(&answer, &made);
+    *html = (char *)made;
+    return answer;
+}
+
+/* Frees a text of bivdrazo_markdown(), bivdrazo_markdown_headings(), bivdrazo_markdown_slugs() or
+   bivdrazo_clean(); null is allowed. */
 static inline void bivdrazo_markdown_free(char *html) {
     free(html);
 }
@@ -283,11 +354,11 @@ static inline void bivdrazo_markdown_free(char *html) {
 static inline const char *bivdrazo_markdown_status_text(uint32_t status) {
     switch (status) {
     case BIVDRAZO_MARKDOWN_INPUT_TOO_LONG:
-        return "the Markdown is too long";
+        return "the input is too long";
     case BIVDRAZO_MARKDOWN_OUTPUT_TOO_LONG:
         return "the text is too long";
     case BIVDRAZO_MARKDOWN_NOT_UTF8:
-        return "the Markdown isn't UTF-8";
+        return "the input isn't UTF-8";
     case BIVDRAZO_MARKDOWN_NO_VERSION:
         return "the options are of an unknown version";
     case BIVDRAZO_MARKDOWN_TOO_MUCH_WORK:

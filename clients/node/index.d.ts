@@ -104,8 +104,53 @@ export function markdownWithHeadingsAsync(
   options?: Options,
 ): Promise<Page>;
 
+/** The names of the elements that clean() may keep. */
+export const CLEAN_TAGS: readonly string[];
+
+/** The protocols that clean() may leave in URLs. */
+export const CLEAN_PROTOCOLS: readonly string[];
+
+/** The options of clean(). The HTML is safe under all of them. */
+export interface CleanOptions {
+  /** The names of the elements that stay, some of CLEAN_TAGS; by default all of them. `table`
+   *  brings the elements that a table needs, `ul` and `ol` bring `li`, and `pre` brings `code`. The
+   *  text of an element that doesn't stay does. */
+  tags?: readonly string[] | undefined;
+  /** The protocols that URLs may have, some of CLEAN_PROTOCOLS; by default all of them. Images have
+   *  http and https at most. A URL without a protocol stays. */
+  protocols?: readonly string[] | undefined;
+  /** The limit on the length of the input in bytes of UTF-8; Infinity, the default, is none. */
+  maxInput?: number | undefined;
+  /** The limit on the length of the HTML in bytes of UTF-8; Infinity, the default, is none. */
+  maxOutput?: number | undefined;
+}
+
+/**
+ * Makes safe HTML of any HTML: what is listed of its elements and attributes stays, the rest is
+ * left out, and text stays, except for that of script, style and others. isSafeHtml() is true of it.
+ *
+ * Throws as markdownToHtml() does, and a RangeError for a name that isn't in CLEAN_TAGS or
+ * CLEAN_PROTOCOLS.
+ */
+export function clean(html: string | Uint8Array, options?: CleanOptions): string;
+
+/** The same, cleaned by another thread; the promise is rejected with the same errors. */
+export function cleanAsync(html: string | Uint8Array, options?: CleanOptions): Promise<string>;
+
 /** A table of contents, as safe HTML: a list of links to headings, nested by their levels. */
 export function contents(headings: readonly Heading[]): string;
 
 /** The text between lines of `---` at the beginning of a document; null if there is none. */
 export function frontMatter(text: string | Uint8Array): string | null;
+
+/**
+ * Whether a text is safe HTML, whoever wrote it: so a text that comes back from a database can be
+ * inserted into a page again. A string with a lone surrogate isn't; bytes needn't be UTF-8.
+ *
+ * It is safe exactly if it has a reading as HTML with the elements and attributes of a short list,
+ * in which no link stands in a link, links and images have no protocol or a permitted one, and
+ * elements nest at most 485 deep. Then it has no other reading.
+ *
+ * Throws a BivdrazoError only if memory runs out.
+ */
+export function isSafeHtml(text: string | Uint8Array): boolean;

@@ -112,16 +112,16 @@ function textOf(text) {
   return text;
 }
 
-/** The library's arguments. */
-function argumentsOf(text, options) {
-  const values = DEFAULTS.slice();
+/** The library's arguments, from their defaults and the options by name. */
+function argumentsBy(text, options, defaults, byName) {
+  const values = defaults.slice();
   values[0] = textOf(text);
   if (options === undefined) return values;
   if (typeof options !== 'object' || options === null) {
     throw typeError('options', 'an object', options);
   }
   for (const name of Object.keys(options)) {
-    const option = BY_NAME.get(name);
+    const option = byName.get(name);
     if (option === undefined) {
       throw Object.assign(new TypeError(`${name}: no option has this name`), {
         code: 'ERR_INVALID_ARG_VALUE',
@@ -131,6 +131,39 @@ function argumentsOf(text, options) {
   }
   return values;
 }
+
+function argumentsOf(text, options) {
+  return argumentsBy(text, options, DEFAULTS, BY_NAME);
+}
+
+/** The elements and protocols that clean() may keep. */
+const TAGS =
+  'a abbr b blockquote br cite code del details dfn div em figcaption figure h1 h2 h3 h4 h5 h6 ' +
+  'hr i img ins kbd li mark ol p pre q s samp small span strong sub summary sup table tbody td ' +
+  'tfoot th thead tr u ul';
+const KEPT = {
+  tags: Object.freeze(TAGS.split(' ')),
+  protocols: Object.freeze(['http', 'https', 'irc', 'ircs', 'mailto', 'xmpp']),
+};
+
+/** Names as the library reads them. */
+function names(option, value) {
+  if (!Array.isArray(value)) throw typeError(option, 'an array', value);
+  for (const name of value) {
+    if (!KEPT[option].includes(string(option, name))) {
+      throw rangeError(option, `some of ${KEPT[option].join(', ')}`, name);
+    }
+  }
+  return value.join(' ');
+}
+
+/** What reads an option of clean(). */
+const CLEAN_OPTIONS = new Map([
+  ['tags', { at: 1, read: names }],
+  ['protocols', { at: 2, read: names }],
+  ['maxInput', { at: 3, read: limit }],
+  ['maxOutput', { at: 4, read: limit }],
+]);
 
 /** The error that the library answers. */
 function errorOf([code, index, number]) {
@@ -239,10 +272,34 @@ function frontMatter(text) {
   return found;
 }
 
+function cleanArgumentsOf(html, options) {
+  return argumentsBy(html, options, [null, null, null, Infinity, Infinity], CLEAN_OPTIONS);
+}
+
+function clean(html, options) {
+  return textsOf(native.clean(...cleanArgumentsOf(html, options)))[0];
+}
+
+async function cleanAsync(html, options) {
+  return textsOf(await native.cleanLater(...cleanArgumentsOf(html, options)))[0];
+}
+
+function isSafeHtml(text) {
+  const found = native.isSafeHtml(textOf(text));
+  if (!Array.isArray(found)) return found;
+  if (found[0] === 'LONE_SURROGATE') return false;
+  throw errorOf(found);
+}
+
 module.exports = {
   BivdrazoError,
+  CLEAN_PROTOCOLS: KEPT.protocols,
+  CLEAN_TAGS: KEPT.tags,
+  clean,
+  cleanAsync,
   contents,
   frontMatter,
+  isSafeHtml,
   markdownToHtml,
   markdownToHtmlAsync,
   markdownWithHeadings,

@@ -3,8 +3,13 @@ import bivdrazo from './index.js';
 
 export const {
   BivdrazoError,
+  CLEAN_PROTOCOLS,
+  CLEAN_TAGS,
+  clean,
+  cleanAsync,
   contents,
   frontMatter,
+  isSafeHtml,
   markdownToHtml,
   markdownToHtmlAsync,
   markdownWithHeadings,

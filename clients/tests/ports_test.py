@@ -69,7 +69,10 @@ def ways(out):
     elif not runner or not shutil.which(compiler):
         left_out("the library on arm64", "gcc-aarch64-linux-gnu qemu-user")
     else:
-        yield Way("arm64", [compiler], arm, [runner, "-L", "/usr/aarch64-linux-gnu"], [])
+        # The C library of the cross compiler, also where Debian's for arm64 is installed.
+        libraries = "LD_LIBRARY_PATH=/usr/aarch64-linux-gnu/lib"
+        runner = [runner, "-E", libraries, "-L", "/usr/aarch64-linux-gnu"]
+        yield Way("arm64", [compiler], arm, runner, [])
 
 
 def worked_cases():

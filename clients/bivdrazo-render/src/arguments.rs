@@ -2,7 +2,9 @@
 
 use crate::files;
 use crate::parser::ParserLimits;
-use bivdrazo::{default_work, Attributes, DocumentHtml, Limits, MarkdownOptions, Options};
+use bivdrazo::{
+    default_work, Attributes, CleanOptions, DocumentHtml, Limits, MarkdownOptions, Options,
+};
 use clap::error::ErrorKind;
 use clap::{value_parser, CommandFactory, Parser, ValueEnum, ValueHint};
 use clap_complete::Shell;
@@ -26,13 +28,14 @@ const TOC_DEPTH: u8 = 3;
 /// Reads tables, strikethrough, tasks, footnotes and bare links, and math with --math. Links and
 /// images whose protocol isn't permitted get an empty URL. The exit status is 0 if every file was
 /// rendered; 1 if a file failed (the others are written); 2 for invalid arguments; 5 if files
-/// failed only because of --max-output, 6 if only because of --max-work.
+/// failed only because of --max-output, 6 if only because of --max-work, 7 if only because of
+/// --check-html.
 #[derive(Debug, Parser)]
 #[command(name = "bivdrazo-render", version = bivdrazo::VERSION_TEXT)]
 pub struct Arguments {
     /// The files to render; standard input if there is none or it is -. Several files need
-    /// --out-dir. A single folder, with --out-dir, is made into a site: each *.md becomes a page,
-    /// with links to the others, and the files that pages link to are copied.
+    /// --out-dir or --check-html. A single folder, with --out-dir, is made into a site: each *.md
+    /// becomes a page, with links to the others, and the files that pages link to are copied.
     #[arg(value_name = "FILE", value_hint = ValueHint::FilePath)]
     pub files: Vec<PathBuf>,
 
@@ -180,6 +183,33 @@ pub struct Arguments {
     #[arg(long, value_name = "NODES")]
     pub max_depth: Option<usize>,
 
+    /// Render nothing: read the files as HTML that anyone may have written. The exit status is 0 if
+    /// each is safe, 7 if one isn't. Only --max-input can be used with it.
+    #[arg(long, conflicts_with_all = ["output", "out_dir", "page", "page_template",
+        "front_matter", "lang", "css", "footnote_prefix", "footnote_label",
+        "footnote_back_label", "number_ids", "rel", "heading_ids", "toc", "hard_breaks",
+        "no_bare_links", "math", "no_footnotes", "no_tables", "html", "base", "parser",
+        "parser_seconds", "parser_memory", "max_output", "max_work", "max_depth"])]
+    pub check_html: bool,
+
+    /// Read the file as HTML that anyone may have written, in place of Markdown, and write the
+    /// listed elements and attributes of it, as safe HTML.
+    #[arg(long, conflicts_with_all = ["out_dir", "check_html", "front_matter", "footnote_prefix",
+        "footnote_label", "footnote_back_label", "number_ids", "rel", "heading_ids", "toc",
+        "hard_breaks", "no_bare_links", "math", "no_footnotes", "no_tables", "html", "base",
+        "parser", "parser_seconds", "parser_memory", "max_work", "max_depth"])]
+    pub clean_html: bool,
+
+    /// With --clean-html: the names of the elements that stay, such as "a b p"; by default all that
+    /// are listed.
+    #[arg(long, value_name = "NAMES", requires = "clean_html")]
+    pub tags: Option<String>,
+
+    /// With --clean-html: the protocols that URLs may have, such as "http https"; by default http,
+    /// https, irc, ircs, mailto and xmpp.
+    #[arg(long, value_name = "NAMES", requires = "clean_html")]
+    pub protocols: Option<String>,
+
     /// Print a completion script for this shell, and render nothing.
     #[arg(long, value_name = "SHELL", value_enum, exclusive = true)]
     pub completions: Option<Shell>,
@@ -222,7 +252,8 @@ impl Arguments {
             ([folder], Some(_)) => folder.is_dir(),
             _ => false,
         };
-        if arguments.files.len() > 1 && arguments.out_dir.is_none() {
+        let is_alone = arguments.out_dir.is_none() && !arguments.check_html;
+        if arguments.files.len() > 1 && is_alone {
             let message = "several files need --out-dir <DIR>";
             end(&Arguments::command().error(ErrorKind::MissingRequiredArgument, message));
         }
@@ -359,6 +390,23 @@ impl Arguments {
     /// The file to render; `-` is standard input.
     pub fn source(&self) -> &Path {
         self.files.first().map_or(Path::new("-"), PathBuf::as_path)
+    }
+
+    /// All files; `-` is standard input.
+    pub fn sources(&self) -> Vec<&Path> {
+        match self.files.is_empty() {
+            true => vec![self.source()],
+            false => self.files.iter().map(PathBuf::as_path).collect(),
+        }
+    }
+
+    /// The options for cleaning HTML.
+    pub fn clean_options(&self) -> CleanOptions {
+        let mut options = CleanOptions::default();
+        options.tags = self.tags.clone();
+        options.protocols = self.protocols.clone();
+        options.max_output = self.max_output;
+        options
     }
 
     /// The options of the library's own parser.

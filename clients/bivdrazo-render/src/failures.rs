@@ -3,10 +3,11 @@
 use crate::quiet::quietly;
 use std::error::Error;
 
-/// The statuses if a file isn't rendered: for a text that is too long, for too much work, and for
-/// any other cause.
+/// The statuses if a file isn't rendered: for a text that is too long, for too much work, for HTML
+/// that isn't safe, and for any other cause.
 const TOO_LONG: u8 = 5;
 const TOO_MUCH: u8 = 6;
+const UNSAFE: u8 = 7;
 pub const FAILED: u8 = 1;
 
 /// Why a file isn't rendered.
@@ -31,13 +32,17 @@ pub fn status_of(failed: &[Failed]) -> u8 {
 
 /// Does the work on the file of that name. A failure is reported with the name, and so is a panic,
 /// so that the other files are written.
-pub fn process<T>(name: &str, work: impl FnOnce() -> Result<T, Failure>) -> Result<T, Failed> {
+pub fn process<T>(
+    name: impl FnOnce() -> String,
+    work: impl FnOnce() -> Result<T, Failure>,
+) -> Result<T, Failed> {
     let done = quietly(work).unwrap_or_else(|| Err("the program failed: please report it".into()));
     done.map_err(|error| Failed {
-        message: format!("{name}: {error}"),
+        message: format!("{}: {error}", name()),
         status: match error.downcast_ref() {
             Some(bivdrazo::Error::OutputTooLong { .. }) => TOO_LONG,
             Some(bivdrazo::Error::TooMuchWork { .. }) => TOO_MUCH,
+            _ if error.is::<bivdrazo::UnsafeHtml>() => UNSAFE,
             _ => FAILED,
         },
     })
@@ -53,10 +58,11 @@ mod tests {
     fn panics() {
         let names = ["a.md", "b.md", "c.md"];
         let done = names.par_iter().map(|&name| {
-            process(name, || match name {
+            let work = || match name {
                 "b.md" => panic!("the text of a document"),
                 _ => Ok(()),
-            })
+            };
+            process(|| name.to_string(), work)
         });
         let failed: Vec<Failed> = done.filter_map(Result::err).collect();
         let texts: Vec<&str> = failed.iter().map(|each| &*each.message).collect();

@@ -25,6 +25,14 @@ pub fn open(path: &Path) -> io::Result<Box<dyn Read>> {
     })
 }
 
+/// The name of a file in messages.
+pub fn name(path: &Path) -> String {
+    match path.to_str() {
+        Some("-") => "standard input".to_string(),
+        _ => path.display().to_string(),
+    }
+}
+
 /// Reads a text, which may have at most `limit` bytes.
 pub fn read(mut input: impl Read, limit: Option<usize>) -> Result<String, Failure> {
     let mut bytes = Vec::new();

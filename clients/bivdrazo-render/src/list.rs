@@ -8,7 +8,7 @@ use crate::failures::{Failed, FAILED};
 use crate::files::{self, Stamp};
 use crate::links;
 use std::collections::BTreeMap;
-use std::ffi::OsStr;
+use std::ffi::{OsStr, OsString};
 use std::fmt::Write;
 use std::fs;
 use std::io;
@@ -19,8 +19,9 @@ use std::path::{Component, Path, PathBuf};
 const FIRST: &str = "bivdrazo-render site 1";
 const LAST: &str = "end ";
 
-/// What a run wrote, by its path from the site.
-pub type Written = BTreeMap<PathBuf, Stamp>;
+/// What a run wrote, by its path from the site, in the order of bytes: to compare paths takes
+/// several times as long.
+pub type Written = BTreeMap<OsString, Stamp>;
 
 /// A list that was read.
 pub struct List {
@@ -69,21 +70,22 @@ impl List {
     /// the list, as is one that is gone.
     pub fn remove(&mut self, site: &Path, is_given: impl Fn(&Path) -> bool) -> Removal {
         let mut removal = Removal::default();
-        let gone: Vec<PathBuf> = self
+        let gone: Vec<OsString> = self
             .files
             .keys()
-            .filter(|path| !is_given(path))
+            .filter(|path| !is_given(Path::new(path)))
             .cloned()
             .collect();
-        for path in gone {
-            let target = site.join(&path);
-            let stamp = self.files.get(&path).copied();
-            match is_own(site, &path, stamp) {
+        for name in gone {
+            let path = Path::new(&name);
+            let target = site.join(path);
+            let stamp = self.files.get(&name).copied();
+            match is_own(site, path, stamp) {
                 None => {}
                 Some(false) => removal.changed.push(target),
                 Some(true) => match fs::remove_file(&target) {
                     Ok(()) => {
-                        remove_empty(site, &path);
+                        remove_empty(site, path);
                         removal.removed.push(target);
                     }
                     Err(error) => {
@@ -94,7 +96,7 @@ impl List {
                     }
                 },
             }
-            self.files.remove(&path);
+            self.files.remove(&name);
         }
         removal
     }
@@ -143,7 +145,7 @@ fn files_of(text: &str) -> Option<Written> {
 }
 
 /// The file of a line. Its path stays in the site.
-fn file_of(line: &str) -> Option<(PathBuf, Stamp)> {
+fn file_of(line: &str) -> Option<(OsString, Stamp)> {
     let mut words = line.split(' ');
     let sum = u32::from_str_radix(words.next()?, 16).ok()?;
     let length = words.next()?.parse().ok()?;
@@ -154,13 +156,18 @@ fn file_of(line: &str) -> Option<(PathBuf, Stamp)> {
         _ => false,
     });
     let is_whole = words.next().is_none() && is_inner && path.file_name().is_some();
-    is_whole.then_some((path, Stamp { length, sum }))
+    let path: PathBuf = path.components().collect();
+    is_whole.then_some((path.into_os_string(), Stamp { length, sum }))
 }
 
 fn text_of(files: &Written) -> String {
     let mut text = format!("{FIRST}\n");
     for (path, Stamp { length, sum }) in files {
-        let _ = writeln!(text, "{sum:08x} {length} {}", links::encoded(path));
+        let _ = writeln!(
+            text,
+            "{sum:08x} {length} {}",
+            links::encoded(Path::new(path))
+        );
     }
     text + LAST + &files.len().to_string() + "\n"
 }
@@ -199,8 +206,8 @@ mod tests {
     fn texts() {
         let odd = OsStr::from_bytes(b"n\xff%\n/a b.html");
         let files: Written = [
-            (PathBuf::from("index.html"), stamp(0, 0)),
-            (PathBuf::from(odd), stamp(u64::MAX, u32::MAX)),
+            (OsString::from("index.html"), stamp(0, 0)),
+            (odd.to_os_string(), stamp(u64::MAX, u32::MAX)),
         ]
         .into();
         let text = text_of(&files);

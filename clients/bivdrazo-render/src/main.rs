@@ -1,6 +1,7 @@
 //! bivdrazo-render: Markdown in, safe HTML out.
 
 mod arguments;
+mod check;
 mod failures;
 mod files;
 mod found;
@@ -55,6 +56,9 @@ fn run(arguments: &Arguments) -> Result<Outcome, Failure> {
         render::print(&[&Arguments::completions(shell)])?;
         return Ok(Outcome::default());
     }
+    if arguments.check_html {
+        return Ok(Outcome::of(check::failed(arguments)));
+    }
     let page = Page::of(arguments)?;
     if let (Some(folder), Some(site)) = (arguments.folder(), &arguments.out_dir) {
         return match arguments.watch {
@@ -70,7 +74,7 @@ fn run(arguments: &Arguments) -> Result<Outcome, Failure> {
             let jobs = arguments.files.par_iter().zip(&targets);
             let done = jobs.map(|(source, target)| {
                 let work = || render(arguments, &page, source, Some(target));
-                let done = process(&source.display().to_string(), work);
+                let done = process(|| source.display().to_string(), work);
                 bar.inc(1);
                 done
             });
@@ -81,12 +85,8 @@ fn run(arguments: &Arguments) -> Result<Outcome, Failure> {
         }
         None => {
             let source = arguments.source();
-            let name = match source.to_str() {
-                Some("-") => "standard input".to_string(),
-                _ => source.display().to_string(),
-            };
             let work = || render(arguments, &page, source, arguments.output.as_deref());
-            outcome.add(process(&name, work));
+            outcome.add(process(|| files::name(source), work));
         }
     }
     Ok(outcome)

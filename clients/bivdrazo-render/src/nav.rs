@@ -213,7 +213,7 @@ impl<'a> Nav<'a> {
             let other = at.and_then(|at| self.stops.get(at));
             other.map_or(String::new(), |other| {
                 let url = links::between(&folder.path, &other.target);
-                format!("<a{rel} href=\"{url}\">{}</a>", other.title)
+                ["<a", rel, " href=\"", &url, "\">", other.title, "</a>"].concat()
             })
         };
         let above = match stop.entry {
@@ -304,7 +304,7 @@ impl Entry<'_> {
             What::Folder(path) => folder_of(path),
         };
         let url = links::between(folder, &target);
-        format!("{ENTRY} href=\"{url}\">{title}</a></li>\n")
+        [ENTRY, " href=\"", &url, "\">", title, "</a></li>\n"].concat()
     }
 }
 

@@ -21,16 +21,17 @@ pub struct Plan<'a> {
     template: PathBuf,
     lost: Vec<String>,
     has_sitemap: bool,
+    /// The files that will be written: their paths from the site, and their origins.
+    outputs: Vec<(PathBuf, Origin)>,
     targets: HashSet<PathBuf>,
 }
 
 /// What a file of the site is made from.
-#[derive(Clone, Copy)]
-enum Origin<'a> {
+enum Origin {
     /// A file of the folder, or a folder whose page is a list.
-    Inner(&'a Path),
+    Inner(PathBuf),
     /// A file beside the template.
-    Extra(&'a Path),
+    Extra(PathBuf),
     Sitemap,
 }
 
@@ -49,6 +50,7 @@ impl<'a> Plan<'a> {
             template: arguments.page_template.clone().unwrap_or_default(),
             lost: Vec::new(),
             has_sitemap: arguments.base.is_some(),
+            outputs: Vec::new(),
             targets: HashSet::new(),
         };
         let indexes = tree.indexes.iter();
@@ -58,11 +60,9 @@ impl<'a> Plan<'a> {
             }
         }
         page.named.iter().for_each(|url| plan.add_named(url));
-        plan.targets = plan
-            .outputs()
-            .into_iter()
-            .map(|(target, _)| target)
-            .collect();
+        plan.outputs = plan.planned();
+        let targets = plan.outputs.iter().map(|(target, _)| target.clone());
+        plan.targets = targets.collect();
         plan
     }
 
@@ -89,20 +89,17 @@ impl<'a> Plan<'a> {
         (!is_hidden && source.is_file()).then_some((target, source))
     }
 
-    /// The files that will be written: their paths from the site, and their origins.
-    fn outputs(&self) -> Vec<(PathBuf, Origin<'_>)> {
+    /// The files that will be written.
+    fn planned(&self) -> Vec<(PathBuf, Origin)> {
+        let inner = |path: &Path| Origin::Inner(path.to_path_buf());
         let sources = self.tree.sources().into_iter();
-        let pages = sources.map(|page| (self.tree.page_of(page), Origin::Inner(page)));
-        let lists = self
-            .tree
-            .lists()
-            .map(|at| (at.join(INDEX_PAGE), Origin::Inner(at)));
-        let copies = self
-            .copied
-            .iter()
-            .map(|file| (file.clone(), Origin::Inner(file)));
+        let pages = sources.map(|page| (self.tree.page_of(page), inner(page)));
+        let lists = self.tree.lists();
+        let lists = lists.map(|at| (at.join(INDEX_PAGE), inner(at)));
+        let copies = self.copied.iter();
+        let copies = copies.map(|file| (file.clone(), inner(file)));
         let extras = self.extras.iter();
-        let extras = extras.map(|(target, source)| (target.clone(), Origin::Extra(source)));
+        let extras = extras.map(|(target, source)| (target.clone(), Origin::Extra(source.clone())));
         let sitemap = self.has_sitemap.then(|| (sitemap::path(), Origin::Sitemap));
         pages
             .chain(copies)
@@ -121,31 +118,30 @@ impl<'a> Plan<'a> {
     /// is a file of the folder itself. Each place has one.
     pub fn collisions(&self, folder: &Path, site: &Path) -> Vec<Failed> {
         let mut collisions: BTreeMap<PathBuf, String> = BTreeMap::new();
-        let mut taken: HashMap<PathBuf, Origin> = HashMap::new();
-        let both = |one: Origin, other: Origin, place: &Path| {
+        let mut taken: HashMap<&Path, &Origin> = HashMap::new();
+        let both = |one: &Origin, other: &Origin, place: &Path| {
             let (one, other) = (one.name(folder), other.name(folder));
             format!(
                 "{one} and {other} would both be written to {}",
                 place.display()
             )
         };
-        let outputs = self.outputs();
-        for (target, origin) in &outputs {
+        for (target, origin) in &self.outputs {
             let place = site.join(target);
             if self.tree.holds(&place) {
                 let message = format!("{}: is a file of the folder itself", place.display());
                 collisions.entry(place.clone()).or_insert(message);
             }
-            if let Some(other) = taken.insert(target.clone(), *origin) {
-                let message = both(other, *origin, &place);
+            if let Some(other) = taken.insert(target, origin) {
+                let message = both(other, origin, &place);
                 collisions.entry(place).or_insert(message);
             }
         }
-        for (target, origin) in &outputs {
+        for (target, origin) in &self.outputs {
             for above in target.ancestors().skip(1) {
                 if let Some(other) = taken.get(above) {
                     let place = site.join(above);
-                    let message = both(*other, *origin, &place);
+                    let message = both(other, origin, &place);
                     collisions.entry(place).or_insert(message);
                 }
             }
@@ -161,8 +157,8 @@ impl<'a> Plan<'a> {
         let lost = self.lost.iter();
         let lost = lost.map(|url| format!("{template}: a link has no target: {url}"));
         let mut warnings: Vec<String> = lost.collect();
-        let mut taken: HashMap<String, Origin> = HashMap::new();
-        for (target, origin) in self.outputs() {
+        let mut taken: HashMap<String, &Origin> = HashMap::new();
+        for (target, origin) in &self.outputs {
             let lower = target.to_string_lossy().to_lowercase();
             if let Some(other) = taken.insert(lower, origin) {
                 let (one, other) = (other.name(folder), origin.name(folder));
@@ -176,7 +172,7 @@ impl<'a> Plan<'a> {
     }
 }
 
-impl Origin<'_> {
+impl Origin {
     /// The name in messages.
     fn name(&self, folder: &Path) -> String {
         match self {

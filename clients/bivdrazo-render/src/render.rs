@@ -7,7 +7,7 @@ use crate::nav::Ways;
 use crate::page::{escaped, Page, Parts};
 use crate::parser::{self, ParserError};
 use crate::{files, text};
-use bivdrazo::{contents, markdown_with_headings, Attributes, Error, Heading};
+use bivdrazo::{clean, contents, markdown_with_headings, Attributes, Error, Heading};
 use std::borrow::Cow;
 use std::io;
 use std::path::Path;
@@ -25,6 +25,13 @@ pub struct Read {
 /// Reads and compiles a document, with the chosen parser.
 pub fn read(arguments: &Arguments, source: impl io::Read) -> Result<Read, Failure> {
     let text = files::read(source, arguments.max_input)?;
+    if arguments.clean_html {
+        return Ok(Read {
+            html: clean(&text, &arguments.clean_options())?.into_string(),
+            headings: Vec::new(),
+            front: Front::default(),
+        });
+    }
     let front = match arguments.has_front_matter() {
         true => front_matter(&text),
         false => Front::default(),

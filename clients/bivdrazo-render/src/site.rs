@@ -159,7 +159,7 @@ impl<'a> Site<'a> {
     /// Reads these documents on all processors. Returns those that could be read.
     fn read_all<'b>(&self, sources: &[&'b Path], outcome: &mut Outcome) -> Vec<Document<'b>> {
         let work = |&source: &&'b Path| {
-            let read = process(&self.name(source), || self.read(source));
+            let read = process(|| self.name(source), || self.read(source));
             self.bar.inc(1);
             read
         };
@@ -254,29 +254,29 @@ impl<'a> Site<'a> {
         let names = self.names();
         let nav = Nav::of(&cards, self.tree, &names);
         let pages = read.par_iter().map(|one| {
-            let done = process(&self.name(one.source), || self.write(one, &nav));
+            let done = process(|| self.name(one.source), || self.write(one, &nav));
             self.bar.inc(1);
             done
         });
         let mut done: Vec<Result<Put, Failed>> = pages.collect();
         let lists = nav.lists().map(|(target, title, text, ways)| {
-            process(&self.name(target), || {
-                self.write_list(target, title, &text, &ways)
-            })
+            let write = || self.write_list(target, title, &text, &ways);
+            process(|| self.name(target), write)
         });
         done.extend(lists);
         done.extend(self.copy_all(plan));
         let mut written = Written::new();
         for one in done {
             outcome.add(one.map(|(target, done, stamp)| {
-                written.insert(target, stamp);
+                written.insert(target.into_os_string(), stamp);
                 done
             }));
         }
         let base = self.arguments.base.as_deref();
-        let sitemap = base.map(|base| process(sitemap::NAME, || self.write_sitemap(base, &nav)));
+        let name = || sitemap::NAME.to_string();
+        let sitemap = base.map(|base| process(name, || self.write_sitemap(base, &nav)));
         match sitemap {
-            Some(Ok((target, _, stamp))) => drop(written.insert(target, stamp)),
+            Some(Ok((target, _, stamp))) => drop(written.insert(target.into_os_string(), stamp)),
             Some(Err(failed)) => outcome.failed.push(failed),
             None => {}
         }
@@ -360,14 +360,14 @@ impl<'a> Site<'a> {
         self.bar.inc_length(plan.copied.len() as u64);
         let copies = plan.copied.par_iter().map(|file| {
             let open = || self.copy(self.tree.open(file)?, file);
-            let done = process(&self.name(file), open);
+            let done = process(|| self.name(file), open);
             self.bar.inc(1);
             done
         });
         let mut done: Vec<Result<Put, Failed>> = copies.collect();
         let extras = plan.extras.iter().map(|(target, source)| {
             let open = || self.copy(File::open(source)?, target);
-            process(&source.display().to_string(), open)
+            process(|| source.display().to_string(), open)
         });
         done.extend(extras);
         done

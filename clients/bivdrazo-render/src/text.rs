@@ -3,11 +3,14 @@
 //! The text has one reading as HTML, in which `<` begins a tag, and no value contains a quotation
 //! mark. So a search for a tag or a value finds these and nothing else.
 
+use memchr::memmem;
+use memchr::{memchr, memchr_iter};
 use std::borrow::Cow;
 use std::iter;
 
 /// The beginnings of a link and of an image; the URL follows.
-const BEFORE_URLS: [&str; 2] = ["<a href=\"", "<img src=\""];
+const LINK: &str = "<a href=\"";
+const IMAGE: &str = "<img src=\"";
 
 /// The beginning of the section of footnotes, and the beginning and end of a footnote call.
 const FOOTNOTES: &str = "<section data-footnotes";
@@ -26,19 +29,15 @@ const ESCAPED: [(&str, &str); 4] = [
 /// returns none stays.
 pub fn with_urls(html: &str, mut made: impl FnMut(&str) -> Option<String>) -> Cow<'_, str> {
     let mut changed = String::new();
-    // The text before `kept` is in `changed`, and the text before `at` was searched.
-    let (mut kept, mut at) = (0, 0);
-    while let Some(tag) = find(html, at, b'<') {
-        at = tag + 1;
-        let before = BEFORE_URLS.iter();
-        let before = before.filter(|before| html[tag..].starts_with(**before));
-        for before in before {
-            let start = tag + before.len();
-            at = find(html, start, b'"').unwrap_or(html.len());
-            if let Some(other) = made(&unescaped(&html[start..at])) {
+    // The text before `kept` is in `changed`.
+    let mut kept = 0;
+    for tag in memchr_iter(b'<', html.as_bytes()) {
+        if let Some(start) = url_after(html, tag) {
+            let end = find(html, start, b'"').unwrap_or(html.len());
+            if let Some(other) = made(&unescaped(&html[start..end])) {
                 changed.push_str(&html[kept..start]);
                 changed.push_str(&escaped(&other));
-                kept = at;
+                kept = end;
             }
         }
     }
@@ -49,10 +48,21 @@ pub fn with_urls(html: &str, mut made: impl FnMut(&str) -> Option<String>) -> Co
     changed.into()
 }
 
-/// The position of the next such byte. It is near, so a plain loop is fast enough.
+/// Where the URL of a link or of an image begins whose tag begins at a place.
+fn url_after(html: &str, tag: usize) -> Option<usize> {
+    let text = &html.as_bytes()[tag..];
+    let before = match text.get(1) {
+        Some(b'a') => LINK,
+        Some(b'i') => IMAGE,
+        _ => return None,
+    };
+    text.starts_with(before.as_bytes())
+        .then_some(tag + before.len())
+}
+
+/// The position of the next such byte.
 fn find(html: &str, from: usize, wanted: u8) -> Option<usize> {
-    let mut bytes = html.as_bytes()[from..].iter();
-    bytes.position(|&byte| byte == wanted).map(|at| from + at)
+    memchr(wanted, &html.as_bytes()[from..]).map(|at| from + at)
 }
 
 /// The ids of a text.
@@ -74,10 +84,7 @@ pub fn ids(html: &str) -> impl Iterator<Item = Cow<'_, str>> {
 /// The text of the first heading, escaped, without tags and footnote calls; none if the document
 /// has no heading or that is empty.
 pub fn heading(html: &str) -> Option<String> {
-    let start = html
-        .match_indices("<h")
-        .find(|(at, _)| is_heading(&html[*at..]))?
-        .0;
+    let start = heading_tag(html, "<h")?;
     if html[..start].contains(FOOTNOTES) {
         return None;
     }
@@ -89,13 +96,14 @@ pub fn heading(html: &str) -> Option<String> {
 
 /// Whether a text has a heading of the first level.
 pub fn has_h1(html: &str) -> bool {
-    let mut tags = html.match_indices("<h1");
-    tags.any(|(at, _)| is_heading(&html[at..]))
+    heading_tag(html, "<h1").is_some()
 }
 
-/// Whether a tag that begins with `<h` is the tag of a heading.
-fn is_heading(tag: &str) -> bool {
-    matches!(tag.as_bytes(), [_, _, b'1'..=b'6', b' ' | b'>', ..])
+/// The place of the first tag of a heading that begins like this.
+fn heading_tag(html: &str, beginning: &str) -> Option<usize> {
+    let is_heading = |tag: &[u8]| matches!(tag, [_, _, b'1'..=b'6', b' ' | b'>', ..]);
+    let html = html.as_bytes();
+    memmem::find_iter(html, beginning).find(|at| is_heading(&html[*at..]))
 }
 
 /// A text without footnote calls.

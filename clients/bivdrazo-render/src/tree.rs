@@ -133,11 +133,11 @@ impl Tree {
                 .insert(folder_of(file).to_path_buf(), Index::File);
         }
         let is_readme = |name: &OsStr| name.eq_ignore_ascii_case(README);
-        let named = |page: &&Path| page.file_name().map_or(false, is_readme);
+        let named = |page: &&PathBuf| page.file_name().map_or(false, is_readme);
+        let mut readmes: Vec<PathBuf> = self.pages.iter().filter(named).cloned().collect();
+        readmes.sort_unstable();
         // In reverse order, so that of several the first one remains.
-        let readmes: Vec<&Path> = self.sources().into_iter().rev().filter(named).collect();
-        let readmes: Vec<PathBuf> = readmes.into_iter().map(Path::to_path_buf).collect();
-        for readme in readmes {
+        for readme in readmes.into_iter().rev() {
             self.indexes
                 .insert(folder_of(&readme).to_path_buf(), Index::Source(readme));
         }
@@ -182,10 +182,10 @@ impl Tree {
         &self.root
     }
 
-    /// The sources, in order.
+    /// The sources, in the order of their bytes: to compare paths takes several times as long.
     pub fn sources(&self) -> Vec<&Path> {
         let mut sources: Vec<&Path> = self.pages.iter().map(|path| &**path).collect();
-        sources.sort_unstable();
+        sources.sort_unstable_by(|one, other| one.as_os_str().cmp(other.as_os_str()));
         sources
     }
 

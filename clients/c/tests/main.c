@@ -19,6 +19,8 @@ int main(void) {
     test_options();
     test_attributes();
     test_unnested();
+    test_safe();
+    test_cleaning();
     test_limits();
     test_memory();
     test_threads();

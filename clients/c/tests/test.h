@@ -52,6 +52,8 @@ void test_words(void);
 void test_options(void);
 void test_attributes(void);
 void test_unnested(void);
+void test_safe(void);
+void test_cleaning(void);
 void test_limits(void);
 void test_memory(void);
 void test_threads(void);

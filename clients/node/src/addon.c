@@ -6,7 +6,10 @@
  * of its headings; or an error: its code, an index, and the limit that was exceeded. index.js
  * checks the types of all arguments.
  *
- * frontMatter(text) answers a string, null, or an error.
+ * clean() and cleanLater() take a text, the names of tags and of protocols, and two limits, and
+ * answer likewise; there are no headings.
+ *
+ * frontMatter(text) answers a string, null, or an error; isSafeHtml(text) a boolean, or an error.
  *
  * There is no state: any number of workers may load this file.
  */
@@ -42,6 +45,8 @@ enum argument {
     MAX_DEPTH,
     ARGUMENTS
 };
+/* The arguments of clean(). */
+enum clean_argument { CLEAN_TEXT, TAGS, PROTOCOLS, CLEAN_MAX_INPUT, CLEAN_MAX_OUTPUT };
 enum { TEXTS = HEADING_IDS - FOOTNOTE_PREFIX + 1 };
 
 /* The status for a lone surrogate; the library has no such number. */
@@ -58,7 +63,9 @@ struct job {
     struct text document;
     struct text texts[TEXTS];
     bivdrazo_markdown_options options;
+    bivdrazo_clean_options clean_options;
     int has_slugs;
+    int cleans;
     bivdrazo_answer answer;
     uint8_t *made;
     napi_deferred deferred;
@@ -154,17 +161,18 @@ static uint8_t number_of(napi_env env, napi_value value) {
 
 /* Reads the options that are texts; null is unset. */
 static bivdrazo_answer read_texts(napi_env env, const napi_value *given, struct job *job) {
-    bivdrazo_text *const fields[TEXTS] = {
-        &job->options.footnote_prefix,     &job->options.footnote_label,
-        &job->options.footnote_back_label, &job->options.base,
-        &job->options.rel,                 &job->options.heading_ids};
+    bivdrazo_text *const fields[TEXTS] = {&job->options.footnote_prefix,
+                                          &job->options.footnote_label,
+                                          &job->options.footnote_back_label,
+                                          &job->options.base,
+                                          &job->options.rel,
+                                          &job->options.heading_ids};
     for (size_t at = 0; at < TEXTS; at++) {
         napi_valuetype type;
         napi_typeof(env, given[FOOTNOTE_PREFIX + at], &type);
         if (type != napi_string)
             continue;
-        bivdrazo_answer answer =
-            read_string(env, given[FOOTNOTE_PREFIX + at], &job->texts[at]);
+        bivdrazo_answer answer = read_string(env, given[FOOTNOTE_PREFIX + at], &job->texts[at]);
         if (answer.status != BIVDRAZO_OK) {
             answer.length = at + 1; /* which text: index.js names it */
             return answer;
@@ -201,13 +209,51 @@ static bivdrazo_answer read_job(napi_env env, const napi_value *given, struct jo
 /* The limit on work: the library's default depends on the length. */
 static size_t work_limit(const struct job *job) {
     const size_t given = job->options.max_work;
-    return given == BIVDRAZO_MARKDOWN_WORK_BY_LENGTH
-               ? ((size_t)1 << 20) + 64 * job->document.length
-               : given;
+    return given == BIVDRAZO_MARKDOWN_WORK_BY_LENGTH ? ((size_t)1 << 20) + 64 * job->document.length
+                                                     : given;
+}
+
+/* Reads all arguments of clean(), as read_job() does. */
+static bivdrazo_answer read_clean_job(napi_env env, const napi_value *given, struct job *job) {
+    bivdrazo_clean_options *const options = &job->clean_options;
+    *options = bivdrazo_clean_options_default();
+    bivdrazo_text *const fields[] = {&options->tags, &options->protocols};
+    job->cleans = 1;
+    options->max_input = limit_of(env, given[CLEAN_MAX_INPUT]);
+    options->max_output = limit_of(env, given[CLEAN_MAX_OUTPUT]);
+    for (size_t at = 0; at < 2; at++) {
+        napi_valuetype type;
+        napi_typeof(env, given[TAGS + at], &type);
+        if (type != napi_string)
+            continue;
+        const bivdrazo_answer answer = read_string(env, given[TAGS + at], &job->texts[at]);
+        if (answer.status != BIVDRAZO_OK)
+            return answer;
+        *fields[at] = bivdrazo_text_of(job->texts[at].bytes, job->texts[at].length);
+    }
+    return read_text(env, given[CLEAN_TEXT], &job->document);
+}
+
+/* Cleans the text; the length of an error's answer is the limit that was exceeded. */
+static void clean_job(struct job *job) {
+    bivdrazo_answer *const answer = &job->answer;
+    char *html;
+    *answer = bivdrazo_clean(job->document.bytes, job->document.length, &job->clean_options, &html);
+    job->made = (uint8_t *)html;
+    if (answer->status == BIVDRAZO_OK)
+        answer->index = answer->length;
+    else if (answer->status == BIVDRAZO_MARKDOWN_INPUT_TOO_LONG)
+        answer->length = job->clean_options.max_input;
+    else if (answer->status == BIVDRAZO_MARKDOWN_OUTPUT_TOO_LONG)
+        answer->length = job->clean_options.max_output;
 }
 
 /* Renders the document; the length of an error's answer is the limit that was exceeded. */
 static void render_job(struct job *job) {
+    if (job->cleans) {
+        clean_job(job);
+        return;
+    }
     bivdrazo_answer *const answer = &job->answer;
     *answer = bivdrazo_markdown_alloc_by(job->has_slugs, job->document.bytes, job->document.length,
                                          &job->options, &job->made);
@@ -303,18 +349,30 @@ static napi_value value_of(napi_env env, const struct job *job) {
     return values;
 }
 
-/* render(): at once, in this thread. */
-static napi_value render(napi_env env, napi_callback_info info) {
+/* What reads the arguments of a call. */
+typedef bivdrazo_answer reads(napi_env env, const napi_value *given, struct job *job);
+
+/* A call at once, in this thread. */
+static napi_value call_now(napi_env env, napi_callback_info info, reads *read) {
     napi_value given[ARGUMENTS];
     size_t count = ARGUMENTS;
     struct job job = {0};
     napi_get_cb_info(env, info, &count, given, NULL, NULL);
-    job.answer = read_job(env, given, &job);
+    job.answer = read(env, given, &job);
     if (job.answer.status == BIVDRAZO_OK)
         render_job(&job);
     const napi_value made = value_of(env, &job);
     end_job(&job);
     return made;
+}
+
+/* render(), clean(). */
+static napi_value render(napi_env env, napi_callback_info info) {
+    return call_now(env, info, read_job);
+}
+
+static napi_value clean(napi_env env, napi_callback_info info) {
+    return call_now(env, info, read_clean_job);
 }
 
 /* In another thread: renders. */
@@ -352,21 +410,30 @@ static int queue_job(napi_env env, struct job *job, napi_value *promise) {
     return 0;
 }
 
-/* renderLater(): a promise, or an array at once if the arguments have an error. */
-static napi_value render_later(napi_env env, napi_callback_info info) {
+/* A promise, or an array at once if the arguments have an error. */
+static napi_value call_later(napi_env env, napi_callback_info info, reads *read) {
     napi_value given[ARGUMENTS], promise;
     size_t count = ARGUMENTS;
     bivdrazo_answer answer = failure(BIVDRAZO_MEMORY, 0);
     napi_get_cb_info(env, info, &count, given, NULL, NULL);
     struct job *const job = calloc(1, sizeof *job);
     if (job != NULL) {
-        answer = read_job(env, given, job);
+        answer = read(env, given, job);
         if (answer.status == BIVDRAZO_OK && queue_job(env, job, &promise))
             return promise;
         end_job(job);
         free(job);
     }
     return failure_value(env, &answer);
+}
+
+/* renderLater(), cleanLater(). */
+static napi_value render_later(napi_env env, napi_callback_info info) {
+    return call_later(env, info, read_job);
+}
+
+static napi_value clean_later(napi_env env, napi_callback_info info) {
+    return call_later(env, info, read_clean_job);
 }
 
 /* frontMatter(): the text between lines of `---` at the beginning; null if there is none. */
@@ -388,11 +455,29 @@ static napi_value front_matter(napi_env env, napi_callback_info info) {
     return found;
 }
 
+/* isSafeHtml(): whether a text is safe HTML. */
+static napi_value is_safe_html(napi_env env, napi_callback_info info) {
+    napi_value given[1], found;
+    size_t count = 1;
+    struct text text = {NULL, 0};
+    napi_get_cb_info(env, info, &count, given, NULL, NULL);
+    const bivdrazo_answer answer = read_text(env, given[0], &text);
+    if (answer.status != BIVDRAZO_OK)
+        found = failure_value(env, &answer);
+    else
+        napi_get_boolean(env, bivdrazo_is_safe_html(text.bytes, text.length) == 1, &found);
+    free(text.bytes);
+    return found;
+}
+
 NAPI_MODULE_INIT() {
     const napi_property_descriptor calls[] = {
         {"render", NULL, render, NULL, NULL, NULL, napi_default, NULL},
         {"renderLater", NULL, render_later, NULL, NULL, NULL, napi_default, NULL},
+        {"clean", NULL, clean, NULL, NULL, NULL, napi_default, NULL},
+        {"cleanLater", NULL, clean_later, NULL, NULL, NULL, napi_default, NULL},
         {"frontMatter", NULL, front_matter, NULL, NULL, NULL, napi_default, NULL},
+        {"isSafeHtml", NULL, is_safe_html, NULL, NULL, NULL, napi_default, NULL},
     };
     napi_define_properties(env, exports, sizeof calls / sizeof *calls, calls);
     return exports;

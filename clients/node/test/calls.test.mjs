@@ -5,9 +5,13 @@ import { describe, it } from 'node:test';
 import { runInNewContext } from 'node:vm';
 
 import bivdrazo, {
+  CLEAN_TAGS,
+  clean,
+  cleanAsync,
   BivdrazoError,
   contents,
   frontMatter,
+  isSafeHtml,
   markdownToHtml,
   markdownWithHeadings,
 } from '../index.mjs';
@@ -90,8 +94,13 @@ describe('texts', () => {
     assert.equal(require('../index.js'), bivdrazo);
     assert.deepEqual(Object.keys(bivdrazo).sort(), [
       'BivdrazoError',
+      'CLEAN_PROTOCOLS',
+      'CLEAN_TAGS',
+      'clean',
+      'cleanAsync',
       'contents',
       'frontMatter',
+      'isSafeHtml',
       'markdownToHtml',
       'markdownToHtmlAsync',
       'markdownWithHeadings',
@@ -162,6 +171,132 @@ describe('front matter', () => {
     assert.equal(frontMatter(Buffer.from('---\n---\n')), '');
     assert.equal(frontMatter('# b\n'), null);
     assert.equal(frontMatter(''), null);
+  });
+});
+
+describe('whether HTML is safe', () => {
+  const ATTACKS = [
+    '<script>alert(1)</script>',
+    '<ScRiPt>alert(1)</sCrIpT>',
+    '<p onclick="alert(1)">a</p>',
+    '<img src="a" onerror="alert(1)" />',
+    '<img src=a onerror=alert(1)>',
+    '<a href="javascript:alert(1)">a</a>',
+    '<a href="JaVaScRiPt:alert(1)">a</a>',
+    '<a href="java&#115;cript:alert(1)">a</a>',
+    '<a href="javascript&colon;alert(1)">a</a>',
+    '<a href="data:text/html,a">a</a>',
+    '<img src="data:image/svg+xml,a" alt="b" />',
+    '<a href="a" href="javascript:alert(1)">a</a>',
+    '<svg onload="alert(1)"></svg>',
+    '<iframe src="https://a.b"></iframe>',
+    '<form action="https://a.b"></form>',
+    '<style>body { display: none }</style>',
+    '<p style="position: fixed">a</p>',
+    '</div></div><p>a</p>',
+    '<p>a',
+    'a <!-- b',
+    '<a href="a"><a href="b">c</a></a>',
+    "<p title='</p><script>alert(1)</script>'>a</p>",
+    '<plaintext>a',
+    'a\0b',
+    'a\ud800',
+    '\udfff',
+  ];
+
+  it('is', () => {
+    for (const text of ['', 'a', '\u{1fa90}\ufffd', '<p>a &amp; <em>b</em></p>\n']) {
+      assert.equal(isSafeHtml(text), true);
+      assert.equal(isSafeHtml(Buffer.from(text)), true);
+    }
+    assert.equal(isSafeHtml('<p>a</p>'.repeat(100_000)), true);
+    assert.equal(isSafeHtml(Buffer.from([0x61, 0xff])), true);
+  });
+
+  it("isn't", () => {
+    for (const text of ATTACKS) assert.equal(isSafeHtml(text), false, text);
+    assert.equal(isSafeHtml('<blockquote>'.repeat(100_000)), false);
+    assert.equal(isSafeHtml(Buffer.from('<script>')), false);
+  });
+
+  it('is for what was rendered and stored', () => {
+    const html = markdownToHtml('# a <b>\n\n- [x] *c* [d](e "f")\n\n|g|\n|-|\n|h[^i]|\n\n[^i]: j\n');
+    const stored = JSON.parse(JSON.stringify({ html })).html;
+    assert.equal(isSafeHtml(stored), true);
+    assert.equal(isSafeHtml(`${stored}<script>`), false);
+    assert.equal(isSafeHtml(stored.slice(0, -2)), false);
+  });
+
+  it('of another type is an error', () => {
+    for (const text of [undefined, null, 7, {}, []]) {
+      assert.throws(() => isSafeHtml(text), /^TypeError.*text: expected a string or a Uint8Array/);
+    }
+  });
+});
+
+describe('cleaning', () => {
+  const CLEANED = [
+    ['', ''],
+    ['a & b < c', 'a &amp; b &lt; c'],
+    ['<p onclick=f()>one<script>f()</script><p>two', '<p>one</p><p>two</p>'],
+    ['<b>1<p>2</b>3', '<b>1</b><p><b>2</b>3</p>'],
+    ["<a href=' javascript:alert(1)'>a</a>", '<a>a</a>'],
+    ['<table><tr><td>1', '<table><tbody><tr><td>1</td></tr></tbody></table>'],
+    ['<h1 class=a>\u00e9\u{1fa90}', '<h1>\u00e9\u{1fa90}</h1>'],
+  ];
+  const HOSTILE = [
+    '<svg><style><img title="</style><img src=x onerror=alert(1)>">',
+    '<noscript><p title="</noscript><img src=x onerror=alert(1)>">',
+    '<math><mtext></form><form><mglyph><style></math><img src onerror=alert(1)>',
+    '<a href="java&#115;cript:alert(1)">a</a>',
+    'a\0b',
+    '<blockquote>'.repeat(100_000),
+  ];
+
+  it('keeps what is listed', async () => {
+    for (const [html, wanted] of CLEANED) {
+      assert.equal(clean(html), wanted);
+      assert.equal(clean(Buffer.from(html)), wanted);
+      assert.equal(await cleanAsync(html), wanted);
+    }
+  });
+
+  it('makes safe HTML of attacks', () => {
+    for (const html of HOSTILE) {
+      const made = clean(html);
+      assert.equal(isSafeHtml(made), true, html);
+      assert.doesNotMatch(made, /<script|javascript:/);
+    }
+  });
+
+  it('has options', async () => {
+    const html = '<p>a <b>b</b><h1>c</h1>d';
+    assert.equal(clean(html, { tags: ['p'] }), '<p>a b</p>c\nd');
+    assert.equal(clean(html, { tags: [] }), 'a b\nc\nd');
+    assert.equal(clean(html, { tags: CLEAN_TAGS }), clean(html));
+    assert.equal(clean('<ul><li>a', { tags: ['ul'] }), '<ul><li>a</li></ul>');
+    const links = '<a href=http://a>b</a><a href=https://c>d</a>';
+    const wanted = '<a>b</a><a href="https://c">d</a>';
+    assert.equal(clean(links, { protocols: ['https'] }), wanted);
+    assert.equal(await cleanAsync(links, { protocols: ['https'] }), wanted);
+    assert.equal(clean('<p>a', { maxInput: 4, maxOutput: 8 }), '<p>a</p>');
+    assert.equal(clean('"'.repeat(10_000)), '&quot;'.repeat(10_000));
+  });
+
+  it('has errors', async () => {
+    const code = (name) => ({ code: `ERR_BIVDRAZO_${name}` });
+    assert.throws(() => clean('<p>a', { maxInput: 3 }), { ...code('INPUT_TOO_LONG'), limit: 3 });
+    assert.throws(() => clean('<p>a', { maxOutput: 7 }), { ...code('OUTPUT_TOO_LONG'), limit: 7 });
+    await assert.rejects(cleanAsync('<p>a', { maxInput: 3 }), code('INPUT_TOO_LONG'));
+    assert.throws(() => clean('a\ud800'), { ...code('LONE_SURROGATE'), index: 1 });
+    assert.throws(() => clean(Buffer.from([0x61, 0xff])), { ...code('NOT_UTF8'), index: 1 });
+    for (const options of [{ tags: ['font'] }, { tags: ['P'] }, { protocols: ['javascript'] }]) {
+      assert.throws(() => clean('a', options), RangeError);
+    }
+    for (const options of [{ tags: 'p' }, { tags: [7] }, { tag: ['p'] }, null]) {
+      assert.throws(() => clean('a', options), TypeError);
+    }
+    assert.throws(() => clean(7), /^TypeError.*text: expected a string or a Uint8Array/);
   });
 });
 

@@ -31,17 +31,20 @@ Any number of threads can call at the same time; the calls run in parallel.
 """
 
 from .calls import Event, compile, compile_unnested, compile_within, has_nested_link, run
+from .cleaning import PROTOCOLS, TAGS, clean
 from .errors import Error, Invalid, Nested, Refused, TooDeep, TooLong
-from .errors import TooMuchWork, Unreadable
+from .errors import TooMuchWork, Unreadable, UnsafeHtml
 from .markdown import Heading, contents, front_matter_of, markdown_to_html
 from .markdown import markdown_with_headings
 from .numbers import VERSION, Kind, LineEnding, Name, Rule
 from .numbers import VERSION_TEXT as __version__
 from .references import REFERENCES
-from .safe import SafeHtml
+from .safe import SafeHtml, is_safe_html
 
 __all__ = [
+    "PROTOCOLS",
     "REFERENCES",
+    "TAGS",
     "VERSION",
     "Error",
     "Event",
@@ -58,13 +61,16 @@ __all__ = [
     "TooLong",
     "TooMuchWork",
     "Unreadable",
+    "UnsafeHtml",
     "__version__",
+    "clean",
     "compile",
     "compile_unnested",
     "compile_within",
     "contents",
     "front_matter_of",
     "has_nested_link",
+    "is_safe_html",
     "markdown_to_html",
     "markdown_with_headings",
     "run",

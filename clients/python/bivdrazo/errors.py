@@ -20,9 +20,9 @@ TEXTS = {
     Status.TOO_MUCH: "there is too much work",
     Status.NESTED: "a link is in a link",
     Status.TOO_DEEP: "the events nest too deep",
-    MarkdownStatus.INPUT_TOO_LONG: "the Markdown is too long",
+    MarkdownStatus.INPUT_TOO_LONG: "the input is too long",
     MarkdownStatus.OUTPUT_TOO_LONG: "the text is too long",
-    MarkdownStatus.NOT_UTF8: "the Markdown isn't UTF-8",
+    MarkdownStatus.NOT_UTF8: "the input isn't UTF-8",
     MarkdownStatus.NO_VERSION: "the options are of an unknown version",
     MarkdownStatus.TOO_MUCH_WORK: "there is too much work",
 }
@@ -74,7 +74,7 @@ class Unreadable(Error):
 
 
 class TooLong(Error):
-    """The Markdown or its HTML exceeds a limit of `limit` bytes; `what` is "input" or "output"."""
+    """The input or its HTML exceeds a limit of `limit` bytes; `what` is "input" or "output"."""
 
     def __init__(self, what: str, limit: int) -> None:
         super().__init__(f"the {what} has more than {limit} bytes")
@@ -115,6 +115,17 @@ class Nested(Error):
 
     def __init__(self) -> None:
         super().__init__("a link is in a link")
+
+    def __reduce__(self) -> tuple[type, tuple[()]]:
+        """How it is pickled."""
+        return type(self), ()
+
+
+class UnsafeHtml(Error):
+    """The text isn't safe HTML."""
+
+    def __init__(self) -> None:
+        super().__init__("the text isn't safe HTML")
 
     def __reduce__(self) -> tuple[type, tuple[()]]:
         """How it is pickled."""

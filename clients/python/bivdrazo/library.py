@@ -91,6 +91,19 @@ class CMarkdownOptions(ctypes.Structure):
     ]
 
 
+class CCleanOptions(ctypes.Structure):
+    """The options for cleaning HTML."""
+
+    _fields_ = [
+        ("version", ctypes.c_uint32),
+        ("unused", ctypes.c_uint8 * 4),
+        ("tags", CText),
+        ("protocols", CText),
+        ("max_input", ctypes.c_size_t),
+        ("max_output", ctypes.c_size_t),
+    ]
+
+
 def load() -> ctypes.CDLL:
     """The shared object that BIVDRAZO_LIBRARY names, or else the one in this package."""
     path = (os.environ.get("BIVDRAZO_LIBRARY")
@@ -112,11 +125,15 @@ def load() -> ctypes.CDLL:
     library.bivdrazo_compile_unnested.restype = CAnswer
     library.bivdrazo_has_nested_link.argtypes = [events, size]
     library.bivdrazo_has_nested_link.restype = CAnswer
+    library.bivdrazo_is_safe_html.argtypes = [text, size]
+    library.bivdrazo_is_safe_html.restype = ctypes.c_uint32
     library.bivdrazo_run.argtypes = [text, size, text, size]
     library.bivdrazo_run.restype = CAnswer
     for into in library.bivdrazo_markdown_into, library.bivdrazo_markdown_slugs_into:
         into.argtypes = [text, size, ctypes.POINTER(CMarkdownOptions), text, size]
         into.restype = CAnswer
+    library.bivdrazo_clean_into.argtypes = [text, size, ctypes.POINTER(CCleanOptions), text, size]
+    library.bivdrazo_clean_into.restype = CAnswer
     library.bivdrazo_front_matter.argtypes = [text, size]
     library.bivdrazo_front_matter.restype = CAnswer
     for call, wanted in ((library.bivdrazo_version, VERSION),

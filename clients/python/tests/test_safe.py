@@ -9,11 +9,12 @@ import json
 import pathlib
 import pickle
 import re
+import sqlite3
 import unittest
 
 import bivdrazo
-from bivdrazo import Event, Name, SafeHtml, compile, compile_within, markdown_to_html
-from bivdrazo import markdown_with_headings, run
+from bivdrazo import Event, Name, SafeHtml, UnsafeHtml, compile, compile_within, is_safe_html
+from bivdrazo import markdown_to_html, markdown_with_headings, run
 
 try:
     import jinja2
@@ -104,6 +105,91 @@ class Values(unittest.TestCase):
         # These may return the text itself if nothing in it changes.
         for each in (made.format(), made % (), made.partition("!")[0]):
             self.assertTrue(each is made or type(each) is str)
+
+
+class Checked(unittest.TestCase):
+    """Texts of others become SafeHtml if they are safe."""
+
+    ATTACKS = (
+        "<script>alert(1)</script>",
+        "<ScRiPt>alert(1)</sCrIpT>",
+        '<p onclick="alert(1)">a</p>',
+        '<img src="a" onerror="alert(1)" />',
+        "<img src=a onerror=alert(1)>",
+        '<a href="javascript:alert(1)">a</a>',
+        '<a href="JaVaScRiPt:alert(1)">a</a>',
+        '<a href="java&#115;cript:alert(1)">a</a>',
+        '<a href="javascript&colon;alert(1)">a</a>',
+        '<a href="data:text/html,a">a</a>',
+        '<img src="data:image/svg+xml,a" alt="b" />',
+        '<a href="a" href="javascript:alert(1)">a</a>',
+        '<svg onload="alert(1)"></svg>',
+        '<iframe src="https://a.b"></iframe>',
+        '<form action="https://a.b"></form>',
+        "<style>body { display: none }</style>",
+        '<p style="position: fixed">a</p>',
+        "</div></div><p>a</p>",
+        "<p>a",
+        "a <!-- b",
+        '<a href="a"><a href="b">c</a></a>',
+        "<p title='</p><script>alert(1)</script>'>a</p>",
+        "<plaintext>a",
+        "a\0b",
+        "a\ud800",
+        "\udfff",
+    )
+    DOCUMENT = "# a <b>\n\n- [x] *c* [d](e \"f\")\n\n|g|\n|-|\n|h[^i]|\n\n[^i]: \U0001fa90\n"
+
+    def test_safe(self):
+        for text in ("", "a", "\U0001fa90", "<p>a &amp; <em>b</em></p>\n", "<p>a</p>" * 100_000,
+                     SafeHtml("<p>a</p>")):
+            self.assertIs(is_safe_html(text), True)
+            made = SafeHtml.from_checked(text)
+            self.assertIs(type(made), SafeHtml)
+            self.assertEqual(made, text)
+
+    def test_unsafe(self):
+        for text in (*self.ATTACKS, "<blockquote>" * 100_000):
+            self.assertIs(is_safe_html(text), False, text[:100])
+            with self.assertRaises(UnsafeHtml) as caught:
+                SafeHtml.from_checked(text)
+            self.assertIsInstance(caught.exception, ValueError)
+            again = pickle.loads(pickle.dumps(caught.exception))
+            self.assertEqual((type(again), str(again)), (UnsafeHtml, "the text isn't safe HTML"))
+
+    def test_types(self):
+        for value in (None, 7, b"a", ["a"]):
+            self.assertRaises(TypeError, is_safe_html, value)
+            self.assertRaises(TypeError, SafeHtml.from_checked, value)
+
+    def test_a_subclass_changes_nothing(self):
+        class Text(str):
+            def encode(self, *_):
+                return b"<p>a</p>"
+
+            def __str__(self):
+                return "<script>"
+
+        self.assertRaises(UnsafeHtml, SafeHtml.from_checked, Text("<script>"))
+        self.assertEqual(SafeHtml.from_checked(Text("<p>b</p>")), "<p>b</p>")
+
+    def test_a_database(self):
+        database = sqlite3.connect(":memory:")
+        database.execute("CREATE TABLE comments (html TEXT)")
+        made = markdown_to_html(self.DOCUMENT)
+        database.execute("INSERT INTO comments VALUES (?)", (str(made),))
+        database.execute("INSERT INTO comments VALUES (?)", (made + "<script>",))
+        (stored,), (changed,) = database.execute("SELECT html FROM comments ORDER BY rowid")
+        database.close()
+        self.assertIs(type(stored), str)
+        self.assertEqual(escaped(SafeHtml.from_checked(stored)), made)
+        self.assertRaises(UnsafeHtml, SafeHtml.from_checked, changed)
+
+    def test_parts(self):
+        made = markdown_to_html(self.DOCUMENT)
+        start, end = made.rindex("<section"), len(made.rstrip())
+        for cut in range(start, len(made)):
+            self.assertIs(is_safe_html(made[start:cut]), cut == start or cut >= end)
 
 
 class Templates(unittest.TestCase):

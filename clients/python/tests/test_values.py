@@ -202,7 +202,7 @@ class Statuses(unittest.TestCase):
                     self.assertNotEqual(str(error), "")
         answer = CAnswer(MarkdownStatus.NOT_UTF8, 0, 1, 0)
         told = markdown_error_of(answer, CMarkdownOptions(), 2)
-        self.assertEqual(repr(told), "RuntimeError(\"the Markdown isn't UTF-8\")")
+        self.assertEqual(repr(told), "RuntimeError(\"the input isn't UTF-8\")")
 
     def test_size(self):
         self.assertEqual(ctypes.sizeof(CMarkdownOptions), 192)

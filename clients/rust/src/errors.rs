@@ -38,7 +38,12 @@ pub enum Error {
     Nested,
     /// The attribute with this number is invalid; this crate passes no such attribute.
     Attribute(usize),
-    /// The Markdown exceeds the limit on its length.
+    /// The options of [`clean`](crate::clean) have a name that isn't known.
+    CleanName {
+        /// Whether it is one of the protocols, not of the tags.
+        is_protocol: bool,
+    },
+    /// The input exceeds the limit on its length.
     InputTooLong {
         /// Its length in bytes.
         length: usize,
@@ -76,6 +81,8 @@ impl fmt::Display for Error {
             }
             Error::Line(number) => write!(formatter, "line {number}: unreadable"),
             Error::Memory => write!(formatter, "out of memory"),
+            Error::CleanName { is_protocol: true } => write!(formatter, "an unknown protocol"),
+            Error::CleanName { is_protocol: false } => write!(formatter, "an unknown element"),
             Error::Unsafe => write!(formatter, "the options aren't safe"),
             Error::Nested => write!(formatter, "a link in a link"),
             Error::Attribute(number) => write!(formatter, "attribute {number}: no such value"),

@@ -3,8 +3,8 @@
 use crate::errors::{error_of, error_within};
 use crate::layouts::{
     bivdrazo_compile, bivdrazo_compile_attributed, bivdrazo_compile_unnested,
-    bivdrazo_compile_within, bivdrazo_has_nested_link, bivdrazo_run, bivdrazo_version, c_event,
-    c_reference, c_text, CAnswer, CAttributes, CLimits,
+    bivdrazo_compile_within, bivdrazo_has_nested_link, bivdrazo_is_safe_html, bivdrazo_run,
+    bivdrazo_version, c_event, c_reference, c_text, CAnswer, CAttributes, CLimits,
 };
 use crate::markdown::unescaped;
 use crate::numbers::{STATUS_NESTED, STATUS_OK, STATUS_TOO_SHORT};
@@ -82,6 +82,12 @@ pub(crate) fn has_nested_link(events: &[Event]) -> Result<bool, Error> {
         STATUS_NESTED => Ok(true),
         _ => Err(error_of(&answer)),
     }
+}
+
+/// As `crate::is_safe_html`.
+pub(crate) fn is_safe_html(text: &str) -> bool {
+    // SAFETY: the pointer and the length are those of a string.
+    unsafe { bivdrazo_is_safe_html(text.as_ptr(), text.len()) == 1 }
 }
 
 /// As `crate::compile_within`.

@@ -77,6 +77,16 @@ pub(crate) struct CMarkdownOptions {
     pub(crate) max_depth: usize,
 }
 
+#[repr(C)]
+pub(crate) struct CCleanOptions {
+    pub(crate) version: u32,
+    pub(crate) unused: [u8; 4],
+    pub(crate) tags: CText,
+    pub(crate) protocols: CText,
+    pub(crate) max_input: usize,
+    pub(crate) max_output: usize,
+}
+
 const _: () = assert!(size_of::<CAnswer>() == 24);
 const _: () = assert!(size_of::<CEvent>() == 16 && size_of::<Event>() == 16);
 const _: () = assert!(size_of::<CText>() == 24);
@@ -85,6 +95,7 @@ const _: () = assert!(size_of::<COptions>() == 128);
 const _: () = assert!(size_of::<CAttributes>() == 48);
 const _: () = assert!(size_of::<CLimits>() == 24);
 const _: () = assert!(size_of::<CMarkdownOptions>() == 192);
+const _: () = assert!(size_of::<CCleanOptions>() == 72);
 
 extern "C" {
     pub(crate) fn bivdrazo_compile(
@@ -134,6 +145,7 @@ extern "C" {
         buffer_length: usize,
     ) -> CAnswer;
     pub(crate) fn bivdrazo_has_nested_link(events: *const CEvent, events_length: usize) -> CAnswer;
+    pub(crate) fn bivdrazo_is_safe_html(text: *const u8, text_length: usize) -> u32;
     pub(crate) fn bivdrazo_run(
         script: *const u8,
         script_length: usize,
@@ -152,6 +164,13 @@ extern "C" {
         text: *const u8,
         text_length: usize,
         options: *const CMarkdownOptions,
+        buffer: *mut u8,
+        buffer_length: usize,
+    ) -> CAnswer;
+    pub(crate) fn bivdrazo_clean_into(
+        text: *const u8,
+        text_length: usize,
+        options: *const CCleanOptions,
         buffer: *mut u8,
         buffer_length: usize,
     ) -> CAnswer;

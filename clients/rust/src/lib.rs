@@ -33,6 +33,7 @@
 
 #![warn(missing_docs)]
 
+mod cleaning;
 mod document;
 mod errors;
 mod ffi;
@@ -54,6 +55,7 @@ pub use pulldown::events_of;
 #[cfg(feature = "pulldown-cmark")]
 pub use pulldown_cmark;
 
+pub use cleaning::{clean, CleanOptions, CLEAN_PROTOCOLS, CLEAN_TAGS};
 pub use document::Document;
 pub use errors::Error;
 pub use markdown::{
@@ -62,7 +64,7 @@ pub use markdown::{
 };
 pub use numbers::{Name, Rule, VERSION, VERSION_TEXT};
 pub use references::REFERENCES;
-pub use safe::SafeHtml;
+pub use safe::{is_safe_html, SafeHtml, UnsafeHtml};
 pub use values::{Attributes, Event, Heading, Kind, Limits, LineEnding, Options, Rendered};
 
 /// Compiles a list of events over a document's bytes to HTML.

@@ -8,6 +8,7 @@ use crate::{
 };
 use std::thread;
 
+mod cleaning;
 mod errors;
 mod limits;
 mod names;

@@ -84,6 +84,7 @@ module _ (events : List CEvent) (bytes : List ℕ) (options : COptions) (names :
     means = compiled.meaning compiled.grammatical.0 compiled.grammatical.1.flattened;
     one_reading =
         λ keeps. compiled.one_reading (keeps_grammar options given read.options_stand keeps);
+    printed = λ keeps. compiled.printed (keeps_grammar options given read.options_stand keeps);
     safe_links = λ keeps. compiled.safe_links (keeps_links options given read.options_stand keeps);
     safe_images =
         λ keeps. compiled.safe_images (keeps_images options given read.options_stand keeps);

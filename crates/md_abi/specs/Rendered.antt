@@ -8,7 +8,7 @@ use Rattle.md_tree.specs.Grammar.{IsGrammatical}
 use Rattle.md_tree.specs.Refusal.{IsRefusal}
 use Rattle.md_text.specs.declared.options.CompileOptions.{CompileOptions}
 use Rattle.md_meaning.specs.Meaning.{meaning}
-use Rattle.md_text.specs.Html.{any_attribute, HasOneReadingWith}
+use Rattle.md_text.specs.Html.{any_attribute, HasOneReadingWith, IsPrinted}
 use Rattle.md_text.specs.Safe.{is_safe_link, is_safe_image}
 use Rattle.md_text.specs.Ids.{HasDistinctIds}
 use Rattle.md_safe.specs.SafeTokens.{has_safe_links, has_safe_images}
@@ -27,10 +27,10 @@ use Rattle.md_abi.specs.declared.reference.CReference.{CReference}
 use Rattle.md_abi.specs.declared.option.COptions.{COptions}
 
 -- the text is the meaning of a document of the grammar with the events, options and names of the
--- input; if the options are safe, it has one reading, whose links and images all have permitted
--- protocols, and which fulfils the content model, and the HTML Standard's tokenizer emits that
--- reading, with only permitted schemes in links and images; if no link contains a link, tree
--- construction builds it; if ids are by number, no two ids are equal
+-- input; if the options are safe, it has one reading, of tags that the compiler writes, whose links
+-- and images all have permitted protocols, and which fulfils the content model, and the HTML
+-- Standard's tokenizer emits that reading, with only permitted schemes in links and images; if no
+-- link contains a link, tree construction builds it; if ids are by number, no two ids are equal
 pub record IsRendered (events : List CEvent) (bytes : List ℕ) (options : COptions)
     (names : List CReference) (text : List ℕ) : Type 0 where
   pub document : Forest
@@ -42,6 +42,7 @@ pub record IsRendered (events : List CEvent) (bytes : List ℕ) (options : COpti
   pub grammatical : IsGrammatical bytes table document
   pub means : text ≡ meaning given table bytes document
   pub one_reading : KeepsGrammar options → HasOneReadingWith any_attribute text
+  pub printed : KeepsGrammar options → IsPrinted text
   pub safe_links : KeepsLinks options → HasOneReadingWith is_safe_link text
   pub safe_images : KeepsImages options → HasOneReadingWith is_safe_image text
   pub contained : KeepsGrammar options → IsContained text

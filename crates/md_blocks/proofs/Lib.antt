@@ -4,3 +4,8 @@ pub mod Trimming
 pub mod Somewhere
 pub mod Resting
 pub mod StackLemmas
+pub mod Written
+pub mod StateLemmas
+pub mod LineLemmas
+pub mod Markers
+pub mod Fences

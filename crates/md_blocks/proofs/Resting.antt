@@ -146,6 +146,12 @@ skip_next line at c true within blank tabbed left some enough =
 wide : (c byte left : ℕ) → 0 < left → left < width c byte → byte ≡ 9
 wide c byte left some few = grind (arith, common_steps, some, few)
 
+-- a tab that is used in part isn't whole
+pub part_left : (c byte left : ℕ) → 0 < left → left < width c byte → 0 < (c + left) % 4
+part_left c byte left some few =
+    let w : width c byte ≡ 4 - c % 4 = ap (width c) (wide c byte left some few) in
+    omega (arith, some, in_tab c left (omega (arith, few, w)))
+
 pub skip_within : (line : List ℕ) (at c : ℕ) (tab : Bool) → at < length line
     → is_blank (get_or line at 0) ≡ true
     → (left : ℕ) → 0 < left → left < width c (get_or line at 0)

@@ -3,6 +3,8 @@ use Rattle.std.proofs.Common.{ℕ, Bool, List, [], ◌∷◌, zero, suc, true, f
 use Rattle.std.proofs.Common.{◌<◌, ◌≤◌, ◌-◌, ◌||◌, ◌∙◌, take, Some, None, nat_eq, length}
 use Rattle.std.proofs.Common.{drop, get_or}
 use Rattle.std.proofs.Common.{ap, refl, sym, inl, inr, arith, unwrap_or, is_none}
+use Rattle.std.proofs.Common.{◌++◌, ◌%◌}
+use Rattle.std.specs.Prelude.{replicate}
 use Rattle.std.specs.Char.{to_ascii_lowercase}
 use Rattle.std.proofs.lemmas.Bool.{cases_lt, ne_eqb, eq-eqb, eqb-false}
 use Rattle.std.proofs.lemmas.List.{at_drop_more, drop_more, drop_all, take_rest}
@@ -12,6 +14,7 @@ use Rattle.md_blocks.specs.declared.html.HtmlKind.TheVariants.{Raw, Comment, Ins
 use Rattle.md_blocks.specs.declared.html.HtmlKind.TheVariants.{Declaration, Data, Block, Tag}
 use Rattle.md_blocks.specs.HtmlBlocks.{is_end, first_of_end, somewhere}
 use Rattle.md_blocks.specs.HtmlBlocks.{is_html_end}
+use Rattle.md_blocks.specs.Rests.{text_of}
 use Rattle.memchr.specs.Find.{IsFirstByte, is_byte}
 
 -- a byte that isn't an ASCII character before the small letters isn't it in lower case either
@@ -126,3 +129,35 @@ missing kind first line is none =
     skipped kind first is line (length line) (omega arith)
     (λ k l same. none k (omega arith) l (eq-eqb _ first same))
     ∙ ap (is_html_end kind) (drop_all (length line) line (omega arith)) ∙ empty kind
+
+blank_end : (kind : HtmlKind) (byte : ℕ) (rest : List ℕ) → byte < 33 →
+    is_end kind (byte ∷ rest) ≡ false
+blank_end Raw byte rest few = other_byte Raw 60 byte rest refl (λ same. omega (arith, same, few))
+blank_end Comment byte rest few =
+    other_byte Comment 45 byte rest refl (λ same. omega (arith, same, few))
+blank_end Instruction byte rest few =
+    other_byte Instruction 63 byte rest refl (λ same. omega (arith, same, few))
+blank_end Declaration byte rest few =
+    other_byte Declaration 62 byte rest refl (λ same. omega (arith, same, few))
+blank_end Data byte rest few = other_byte Data 93 byte rest refl (λ same. omega (arith, same, few))
+blank_end Block byte rest few = refl
+blank_end Tag byte rest few = refl
+
+blank_skipped : (kind : HtmlKind) (byte : ℕ) (rest : List ℕ) → byte < 33 →
+    is_html_end kind (byte ∷ rest) ≡ is_html_end kind rest
+blank_skipped kind byte rest few = rw (blank_end kind byte rest few) refl
+
+spaces_skipped : (kind : HtmlKind) (n : ℕ) (rest : List ℕ) →
+    is_html_end kind (replicate n 32 ++ rest) ≡ is_html_end kind rest
+spaces_skipped kind zero rest = refl
+spaces_skipped kind (suc n) rest =
+    blank_skipped kind 32 (replicate n 32 ++ rest) (omega arith) ∙ spaces_skipped kind n rest
+
+-- neither a tab nor what is left of it ends HTML
+pub ends_alike : (kind : HtmlKind) (line : List ℕ) (at column : ℕ) (tab : Bool) →
+    (tab ≡ true → drop at line ≡ 9 ∷ drop (suc at) line) →
+    is_html_end kind (drop at line) ≡ is_html_end kind (text_of line at column tab)
+ends_alike kind line at column false tabbed = refl
+ends_alike kind line at column true tabbed =
+    ap (is_html_end kind) (tabbed refl) ∙ blank_skipped kind 9 (drop (suc at) line) (omega arith)
+    ∙ sym (spaces_skipped kind (4 - column % 4) (drop (suc at) line))

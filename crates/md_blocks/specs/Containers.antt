@@ -1,5 +1,5 @@
 -- Which open containers a line continues (5, and the first step of phase 1).
-use Rattle.std.specs.Prelude.{ℕ, Option, List, [], ◌∷◌, ◌==◌, ◌&&◌, not, nat_lt, suc}
+use Rattle.std.specs.Prelude.{ℕ, Option, List, [], ◌∷◌, ◌==◌, ◌&&◌, not, nat_lt, suc, false}
 use Rattle.std.specs.Prelude.{Some, None, if◌then◌else◌}
 use Rattle.std.specs.Option.{option_map_or}
 use Rattle.md_blocks.specs.declared.nesting.Open.{Open}
@@ -10,7 +10,7 @@ use Rattle.md_blocks.specs.Rests.{Rest, indent, first, is_blank_rest, skipped, p
 -- a quote goes on after at most three columns, at a `>`, and after it a column of space if any
 abbrev pub quote_continued : Rest → Option Rest
 quote_continued rest =
-    if nat_lt (indent rest) 4 && option_map_or (λ byte. byte == 62) (first rest) (nat_lt 1 0)
+    if nat_lt (indent rest) 4 && option_map_or (λ byte. byte == 62) (first rest) false
     then Some (skipped 1 (passed 1 rest)) else None
 
 -- an item with a child, or a footnote, goes on after so many columns, or if the line is blank

@@ -1,27 +1,44 @@
 //! Closes open blocks: the leaf, and the containers that a line doesn't continue.
 
-ghost use Rattle.std.specs.Prelude.{◌≡◌, ◌≤◌, ◌++◌, vec_len, OnOk, None};
+ghost use Rattle.std.specs.Prelude.{◌≡◌, ◌≤◌, ◌<◌, ◌++◌, length, vec_len, OnOk, IfOk, IsTrue, None};
+ghost use Rattle.std.specs.Prelude.{◌-◌, nat_lt, false};
+ghost use Rattle.std.specs.List.{suffix_len};
 ghost use Rattle.md_blocks.specs.BlankLines.{blank_before};
+ghost use Rattle.md_blocks.specs.Marks.{is_blank_text};
+ghost use Rattle.md_blocks.specs.declared.pass.OpenLeaf.TheVariants as leaf;
+ghost use Rattle.md_blocks.specs.Tapes.{has_info, text_of_line};
+ghost use Rattle.md_blocks.specs.States.{blank_written, closed_to, leaf_closed, paragraph_closed};
+ghost use Rattle.md_blocks.specs.States.{list_closed, room, room_for_text, with_a_child, with_leaf};
 
 use crate::block::{Block, LineRange};
-use crate::definition::read_definition;
+use crate::definition::{Definitions, read_definition};
+use crate::marker::is_blank_from;
 use crate::pass::{OpenLeaf, Pass};
-use md_lines::{Place, trim_start};
-use std::alloc::AllocError;
+use md_lines::{Line, Place};
+use std::alloc::{AllocError, Global};
 
 impl<'a> Pass<'a> {
+    ghost use Rattle.md_blocks.specs.Passes.{defined_by, leaf_lines, leaf_of, lines_to, state_of};
+
     /// Closes the open leaf and the containers beyond this depth.
     pub(crate) fn close_unmatched(&mut self, depth: usize) -> Result<(), AllocError>
-        ensures { OnOk result (vec_len self.new.nesting.stack ≤ depth) }
+        ensures shrinks { OnOk result (vec_len self.new.nesting.stack ≤ depth) }
+        ensures state { OnOk result (state_of self.new
+            ≡ closed_to (defined_by self.old self.new) depth (state_of self.old)) }
+        ensures document { self.new.bytes ≡ self.old.bytes }
     {
         self.close_leaf()?;
-        self.nesting.close_to(depth, self.at)
+        self.nesting.close_to(depth, self.at)?;
+        Ok(())
     }
 
     /// Prepares for a child that is no item: closes the containers that didn't match, and a list,
     /// and writes the blank line before the child.
     pub(crate) fn make_room(&mut self, depth: usize) -> Result<(), AllocError>
-        ensures { OnOk result (vec_len self.new.nesting.stack ≤ depth) }
+        ensures shrinks { OnOk result (vec_len self.new.nesting.stack ≤ depth) }
+        ensures state { OnOk result (state_of self.new
+            ≡ room (defined_by self.old self.new) depth (state_of self.old)) }
+        ensures document { self.new.bytes ≡ self.old.bytes }
     {
         self.make_room_for_text(depth)?;
         self.put_blank_line()
@@ -30,11 +47,27 @@ impl<'a> Pass<'a> {
     /// The same for a paragraph. The blank line before it is written with it, since it isn't a
     /// child if it has only definitions.
     pub(crate) fn make_room_for_text(&mut self, depth: usize) -> Result<(), AllocError>
-        ensures { OnOk result (vec_len self.new.nesting.stack ≤ depth) }
+        ensures shrinks { OnOk result (vec_len self.new.nesting.stack ≤ depth) }
+        ensures state { OnOk result (state_of self.new
+            ≡ room_for_text (defined_by self.old self.new) depth (state_of self.old)) }
+        ensures document { self.new.bytes ≡ self.old.bytes }
     {
         self.close_unmatched(depth)?;
+        self.add_child()
+    }
+
+    /// Adds a child that is no item to the innermost container: if that is a list, it ends.
+    #[inline(always)]
+    pub(crate) fn add_child(&mut self) -> Result<(), AllocError>
+        ensures shrinks { OnOk result
+            (vec_len self.new.nesting.stack ≤ vec_len self.old.nesting.stack) }
+        ensures state { OnOk result (state_of self.new
+            ≡ with_a_child (list_closed (state_of self.old))) }
+        ensures leaves { self.new.nesting.leaves ≡ self.old.nesting.leaves }
+        ensures document { self.new.bytes ≡ self.old.bytes }
+    {
         self.nesting.close_list(self.at)?;
-        self.nesting.note_child();
+        self.note_child();
         Ok(())
     }
 
@@ -46,6 +79,9 @@ impl<'a> Pass<'a> {
             ++ blank_before self.old.blank_line self.old.nesting.stack.items) }
         ensures none { self.new.blank_line ≡ None }
         ensures leaf { self.new.leaf ≡ self.old.leaf }
+        ensures leaves { self.new.nesting.leaves ≡ self.old.nesting.leaves }
+        ensures state { OnOk result (state_of self.new ≡ blank_written (state_of self.old)) }
+        ensures document { self.new.bytes ≡ self.old.bytes }
     {
         let Some(blank) = self.blank_line else {
             return Ok(());
@@ -59,82 +95,138 @@ impl<'a> Pass<'a> {
         Ok(())
     }
 
-    /// Removes the definitions from the beginning of the paragraph; returns whether any line
-    /// remains.
-    pub(crate) fn take_definitions(&mut self) -> Result<bool, AllocError>
-        ensures { self.new.nesting ≡ self.old.nesting }
+    /// Removes the definitions from the beginning of the paragraph, whose lines end before the
+    /// `end`th; returns whether any line remains.
+    pub(crate) fn take_definitions(&mut self, end: usize) -> Result<bool, AllocError>
+        requires start { self.old.nesting.leaves.start ≤ end }
+        requires within { end ≤ vec_len self.old.nesting.leaves.lines }
+        requires no_info { has_info self.old.leaf ≡ false }
+        ensures forward { OnOk result (self.old.nesting.leaves.start
+            ≤ self.new.nesting.leaves.start) }
+        ensures some { IfOk result (λ remains.
+            remains ≡ nat_lt self.new.nesting.leaves.start end) }
+        ensures within { OnOk result (self.new.nesting.leaves.start ≤ end) }
+        ensures tape { self.new.nesting.tape ≡ self.old.nesting.tape }
+        ensures stack { self.new.nesting.stack ≡ self.old.nesting.stack }
+        ensures lines { self.new.nesting.leaves.lines ≡ self.old.nesting.leaves.lines }
+        ensures leaf { self.new.leaf ≡ self.old.leaf }
+        ensures state { state_of self.new
+            ≡ with_leaf (leaf_of self.old.leaf (leaf_lines self.new)) (state_of self.old) }
+        ensures document { self.new.bytes ≡ self.old.bytes }
     {
-        'definitions: for _ in self.leaf_start..self.lines.len() {
-            let Some(line) = self.lines.get(self.leaf_start) else {
-                return Ok(false);
-            };
-            if self.bytes.get(line.start) != Some(&b'[') {
-                return Ok(true);
-            }
-            let start = Place {
-                line: self.leaf_start,
-                at: line.start,
-            };
-            match read_definition(
-                self.alloc,
-                self.bytes,
-                self.lines.as_slice(),
-                start,
-                &mut self.definitions,
-            )? {
-                Some(next) => self.leaf_start = next,
-                None => return Ok(true),
-            }
-        }
-        Ok(self.leaf_start < self.lines.len())
+        let nesting = &self.nesting;
+        let start = after_definitions(
+            self.alloc,
+            self.bytes,
+            &nesting.leaves.lines[..end],
+            nesting.leaves.start,
+            &mut self.definitions,
+        )?;
+        self.nesting.begin_leaf_at(start);
+        Ok(start < end)
     }
 
     /// Writes the open leaf, if there is one, and closes it.
     pub(crate) fn close_leaf(&mut self) -> Result<(), AllocError>
-        ensures { vec_len self.new.nesting.stack ≡ vec_len self.old.nesting.stack }
+        ensures stack { self.new.nesting.stack ≡ self.old.nesting.stack }
+        ensures state { OnOk result (state_of self.new
+            ≡ leaf_closed (defined_by self.old self.new) (state_of self.old)) }
+        ensures lines { self.new.nesting.leaves.lines ≡ self.old.nesting.leaves.lines }
+        ensures document { self.new.bytes ≡ self.old.bytes }
     {
         let leaf = self.leaf;
         self.leaf = OpenLeaf::None;
-        let lines = self.leaf_lines();
+        let lines = self.nesting.leaves.last();
         match leaf {
             OpenLeaf::None => Ok(()),
-            OpenLeaf::Paragraph => self.close_paragraph(),
-            OpenLeaf::Fenced(_) => self.nesting.put(Block::FencedCode(lines)),
-            OpenLeaf::Math(_) => self.nesting.put(Block::Math(lines)),
+            OpenLeaf::Paragraph => self.close_paragraph(lines.end),
+            OpenLeaf::Fenced(_) => self.put(Block::FencedCode(lines)),
+            OpenLeaf::Math(_) => self.put(Block::Math(lines)),
             OpenLeaf::Indented => {
-                let lines = self.without_blank_end(lines);
-                self.nesting.put(Block::IndentedCode(lines))
+                let all = &self.nesting.leaves.lines[lines.start..];
+                let end = lines.start + without_blank_end(self.bytes, all);
+                self.put(Block::IndentedCode(LineRange::new(lines.start, end)))
             }
-            OpenLeaf::Html(_) => self.nesting.put(Block::Html(lines)),
-            OpenLeaf::Table { .. } => self.nesting.put(Block::Table(lines)),
+            OpenLeaf::Html(_) => self.put(Block::Html(lines)),
+            OpenLeaf::Table { .. } => self.put(Block::Table(lines)),
         }
     }
 
-    /// Writes a paragraph, without the definitions at its beginning.
-    fn close_paragraph(&mut self) -> Result<(), AllocError>
-        ensures { vec_len self.new.nesting.stack ≡ vec_len self.old.nesting.stack }
+    /// Writes a paragraph, whose lines end before the `end`th, without the definitions at its
+    /// beginning.
+    pub(crate) fn close_paragraph(&mut self, end: usize) -> Result<(), AllocError>
+        requires no_leaf { self.old.leaf ≡ leaf.None }
+        requires start { self.old.nesting.leaves.start ≤ end }
+        requires within { end ≤ vec_len self.old.nesting.leaves.lines }
+        ensures stack { self.new.nesting.stack ≡ self.old.nesting.stack }
+        ensures state { OnOk result (state_of self.new ≡ paragraph_closed
+            (defined_by self.old self.new) (lines_to end self.old) (state_of self.old)) }
+        ensures leaf { self.new.leaf ≡ self.old.leaf }
+        ensures lines { self.new.nesting.leaves.lines ≡ self.old.nesting.leaves.lines }
+        ensures document { self.new.bytes ≡ self.old.bytes }
     {
-        if self.take_definitions()? {
+        if self.take_definitions(end)? {
             self.put_blank_line()?;
-            let lines = self.leaf_lines();
-            return self.nesting.put(Block::Paragraph(lines));
+            let lines = LineRange::new(self.nesting.leaves.start, end);
+            return self.put(Block::Paragraph(lines));
         }
-        let at = match self.lines.last() {
+        let at = match self.nesting.leaves.lines[..end].last() {
             Some(line) => line.end,
             None => self.at,
         };
-        self.nesting.put(Block::Definitions { at })
+        self.put(Block::Definitions { at })
     }
+}
 
-    /// Lines without blank lines at their end.
-    fn without_blank_end(&self, lines: LineRange) -> LineRange {
-        let mut end = lines.end;
-        while end > lines.start {
-            match self.lines.get(end - 1) {
-                Some(line) if trim_start(self.bytes, line.start, line.end) >= line.end => end -= 1,
-                _ => break,
-            }
+/// Reads the definitions that begin with a line of a paragraph, which ends with `lines`. Returns
+/// the index of the line after them.
+fn after_definitions(
+    alloc: Global,
+    bytes: &[u8],
+    lines: &[Line],
+    from: usize,
+    definitions: &mut Definitions,
+) -> Result<usize, AllocError>
+    requires { from ≤ length lines.now }
+    ensures after { IfOk result (λ at. from ≤ at) }
+    ensures within { IfOk result (λ at. at ≤ length lines.now) }
+{
+    let mut at = from;
+    'definitions: while at < lines.len() && bytes.get(lines[at].start) == Some(&b'[') {
+        let start = Place {
+            line: at,
+            at: lines[at].start,
+        };
+        match read_definition(alloc, bytes, lines, start, definitions)? {
+            Some(next) => at = next.max(at + 1).min(lines.len()),
+            None => return Ok(at),
         }
-        LineRange::new(lines.start, end)
+    }
+    Ok(at)
+}
+
+/// How many lines there are without the blank ones at their end.
+fn without_blank_end(bytes: &[u8], lines: &[Line]) -> usize
+    ensures within { result ≤ length lines.now }
+    ensures value { result ≡ length lines.now
+        - suffix_len (λ line. is_blank_text (text_of_line bytes.now line)) lines.now }
+{
+    let mut end = lines.len();
+    while end > 0 && is_blank(bytes, lines[end - 1]) {
+        end -= 1;
+    }
+    end
+}
+
+/// Whether a line has only spaces and tabs. If a tab belongs in part to the prefixes, only spaces
+/// are left of it.
+fn is_blank(bytes: &[u8], line: Line) -> bool
+    ensures { result ≡ is_blank_text (text_of_line bytes.now line) }
+{
+    let text = &bytes[..line.end.min(bytes.len())];
+    if line.columns == 0 {
+        is_blank_from(text, line.start)
+    } else {
+        is_blank_from(text, line.start.saturating_add(1))
     }
 }

@@ -1,6 +1,9 @@
 //! Fences, and the leaves that accept any line.
 
-ghost use Rattle.std.specs.Prelude.{◌≡◌, ◌+◌, ◌&&◌, drop, nat_lt, is_some, IfSome};
+ghost use Rattle.std.specs.Prelude.{◌≡◌, ◌+◌, ◌⊎◌, ◌&&◌, false, drop, nat_lt, is_some, IfSome};
+ghost use Rattle.std.specs.Prelude.{IfOk, OnOk};
+ghost use Rattle.md_blocks.specs.declared.pass.OpenLeaf.TheVariants as leaf;
+ghost use Rattle.md_blocks.specs.LeafBlocks.{fenced_read, html_read, if_begun};
 ghost use Rattle.md_blocks.specs.Marks.{run_of};
 ghost use Rattle.md_blocks.specs.Leaves.{opens_fence, opens_code, opens_math, closes_fence};
 ghost use Rattle.md_blocks.specs.Leaves.{blanks, word_length};
@@ -105,17 +108,27 @@ pub(crate) fn first_word(line: &[u8], from: usize) -> Span
 }
 
 impl<'a> Pass<'a> {
+    ghost use Rattle.md_blocks.specs.Passes.{state_of};
+    ghost use Rattle.md_blocks.specs.Positions.{IsIn, ending_of, rest_of};
+
     /// Reads a line inside a fenced leaf.
     pub(crate) fn continue_fenced(
         &mut self,
         fence: Fence,
         position: &mut Position<'_>,
-    ) -> Result<(), AllocError> {
+    ) -> Result<(), AllocError>
+        requires in_document { IsIn self.old.bytes.now position.old }
+        requires is_fenced { (self.old.leaf ≡ leaf.Fenced fence)
+            ⊎ (self.old.leaf ≡ leaf.Math fence) }
+        ensures state { OnOk result (state_of self.new ≡ fenced_read fence (rest_of position.old)
+            (ending_of self.old.bytes.now position.old) (state_of self.old)) }
+        ensures document { self.new.bytes ≡ self.old.bytes }
+    {
         if fence.is_closed_by(position) {
             return self.close_leaf();
         }
         position.advance(fence.indent);
-        self.lines.push(position.rest())?;
+        self.push_line(position.rest())?;
         Ok(())
     }
 
@@ -124,11 +137,20 @@ impl<'a> Pass<'a> {
         &mut self,
         kind: HtmlKind,
         position: &Position<'_>,
-    ) -> Result<bool, AllocError> {
+    ) -> Result<bool, AllocError>
+        requires in_document { IsIn self.old.bytes.now position.now }
+        requires is_html { self.old.leaf ≡ leaf.Html kind }
+        ensures state { IfOk result (λ goes_on. html_read kind (rest_of position.now)
+            (ending_of self.old.bytes.now position.now) (state_of self.old)
+            ≡ if_begun goes_on (state_of self.new)) }
+        ensures same { IfOk result (λ goes_on.
+            goes_on ≡ false → state_of self.new ≡ state_of self.old) }
+        ensures document { self.new.bytes ≡ self.old.bytes }
+    {
         if position.is_blank() && kind.ends_at_blank_line() {
             return Ok(false);
         }
-        self.lines.push(position.rest())?;
+        self.push_line(position.rest())?;
         if kind.is_ended_by(&position.line[position.at..]) {
             self.close_leaf()?;
         }

@@ -1,6 +1,7 @@
 //! Blocks of HTML.
 
-ghost use Rattle.std.specs.Prelude.{◌≡◌, ◌≤◌, true, false, length, is_some, IfSome};
+ghost use Rattle.md_blocks.specs.LeafBlocks.{kind_begun};
+ghost use Rattle.std.specs.Prelude.{◌≡◌, ◌≤◌, Bool, true, false, length, is_some, IfSome};
 ghost use Rattle.std.specs.Str.{str_eq_ignore_ascii_case};
 ghost use Rattle.md_blocks.specs.declared.html.HtmlKind.TheVariants.{Tag};
 ghost use Rattle.md_blocks.specs.HtmlBlocks.{html_kind, tag_kind, name_length, is_raw_name};
@@ -38,6 +39,8 @@ impl HtmlKind {
         ensures first { is_some (html_kind text.now) ≡ true → result ≡ html_kind text.now }
         ensures tag { is_some (html_kind text.now) ≡ false
             → IfSome result (λ kind. (kind ≡ Tag) × (may_be_tag ≡ true)) }
+        ensures value { (is_alone : Bool) × (may_be_tag ≡ false → is_alone ≡ false)
+            × (result ≡ kind_begun is_alone text.now) }
     {
         match HtmlKind::of_beginning(text) {
             None if may_be_tag && is_tag_alone(text) => Some(HtmlKind::Tag),

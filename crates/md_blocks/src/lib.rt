@@ -11,6 +11,7 @@ mod containers;
 mod definition;
 mod html;
 mod label;
+mod leaves;
 mod marker;
 mod matching;
 mod nesting;

@@ -5,6 +5,7 @@ ghost use Rattle.std.specs.Prelude.{not, get_or, is_some, IfSome};
 ghost use Rattle.md_blocks.specs.Marks.{run_of, is_apart, opens_heading, number_length};
 ghost use Rattle.md_blocks.specs.Marks.{is_blank_text, opens_item, may_interrupt, opens_task};
 ghost use Rattle.md_blocks.specs.Marks.{ends_marker};
+ghost use Rattle.md_blocks.specs.OwnBlocks.{is_in_label, is_label, label_length, opens_footnote};
 ghost use Rattle.md_blocks.specs.Leaves.{is_underline, without_blanks, without_number_signs};
 ghost use Rattle.md_blocks.specs.Leaves.{heading_content};
 
@@ -201,27 +202,68 @@ fn digits_end(line: &[u8], at: usize) -> usize
 /// The label of a footnote's definition that begins at an index, at its `[`: the text between `[^`
 /// and `]:`.
 pub(crate) fn footnote_label(line: &[u8], at: usize) -> Option<Span>
-    ensures { IfSome result (λ label. (at ≤ label.start) × (label.end + 2 ≤ length line.now)) }
+    ensures within { IfSome result (λ label.
+        (at ≤ label.start) × (label.end + 2 ≤ length line.now)) }
+    ensures there { is_some result ≡ opens_footnote (drop at line.now) }
+    ensures start { IfSome result (λ label. label.start ≡ at + 2) }
+    ensures end { IfSome result (λ label.
+        label.end ≡ at + 2 + label_length (drop 2 (drop at line.now))) }
 {
-    if line.get(at..at.saturating_add(2)) != Some(b"[^") {
-        return None;
-    }
+    let text = line.get(at..)?;
+    let count = label_after_caret(text)?;
     let start = at + 2;
-    let mut end = start;
-    while end < line.len() && end - start < MOST_IN_LABEL && !ends_label(line[end]) {
-        end += 1;
-    }
-    if end > start && line.get(end..end + 2) == Some(b"]:") {
-        Some(Span::new(start, end))
-    } else {
-        None
+    Some(Span::new(start, start + count))
+}
+
+/// The length of the label of a footnote's definition that begins a text.
+#[inline(always)]
+fn label_after_caret(text: &[u8]) -> Option<usize>
+    ensures within { IfSome result (λ count. count + 4 ≤ length text.now) }
+    ensures there { is_some result ≡ opens_footnote text.now }
+    ensures value { IfSome result (λ count. count ≡ label_length (drop 2 text.now)) }
+{
+    match text.get(..2) {
+        Some([b'[', b'^']) => label_before_colon(&text[2..]),
+        _ => None,
     }
 }
 
-/// Whether a byte can't occur in a footnote's label.
+/// The length of a label that begins a text, if a bracket and a colon follow it.
 #[inline(always)]
-fn ends_label(byte: u8) -> bool {
-    byte == b']' || byte == b'[' || byte == b' ' || byte == b'\t' || byte == 0
+fn label_before_colon(text: &[u8]) -> Option<usize>
+    ensures within { IfSome result (λ count. count + 2 ≤ length text.now) }
+    ensures there { is_some result ≡ is_label text.now }
+    ensures value { IfSome result (λ count. count ≡ label_length text.now) }
+{
+    let end = label_end(text);
+    if end == 0 {
+        return None;
+    }
+    match text.get(end..end + 2) {
+        Some([b']', b':']) => Some(end),
+        _ => None,
+    }
+}
+
+/// The end of the label that begins a text, of which at most `MOST_IN_LABEL` bytes are read.
+#[inline(always)]
+fn label_end(text: &[u8]) -> usize
+    ensures within { result ≤ length text.now }
+    ensures value { result ≡ label_length text.now }
+{
+    let mut end = 0;
+    while end < text.len() && end < MOST_IN_LABEL && is_in_label(text[end]) {
+        end += 1;
+    }
+    end
+}
+
+/// Whether a byte may be in a footnote's label.
+#[inline(always)]
+fn is_in_label(byte: u8) -> bool
+    ensures { result ≡ is_in_label byte }
+{
+    !matches!(byte, b']' | b'[' | b' ' | b'\t' | 0)
 }
 
 /// The checkbox at an index: `Some(true)` if it is checked.

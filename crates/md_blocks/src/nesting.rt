@@ -6,9 +6,13 @@ ghost use Rattle.md_blocks.specs.BlankLines.{in_list};
 ghost use Rattle.md_blocks.specs.Tape.{leads, enters, exits};
 ghost use Rattle.std.specs.Prelude.{IsTrue, ◌≡◌, ◌≤◌, ◌<◌, ◌+◌, ◌-◌, ◌++◌, ◌∷◌, ◌||◌, [], vec_len};
 ghost use Rattle.std.specs.Prelude.{drop, length, take, OnOk, IsSome, slice_get, true, false};
-ghost use Rattle.std.specs.List.{list_any};
+ghost use Rattle.std.specs.Prelude.{List, ℕ};
+ghost use Rattle.std.specs.List.{list_any, All};
+ghost use Rattle.md_blocks.specs.Tapes.{lines_end, entries_of};
 
 use crate::block::{Block, ContainerKind};
+use crate::leaves::Leaves;
+use md_lines::Line;
 use std::alloc::{AllocError, Global};
 
 /// The maximum depth of nested containers. A marker that would begin a deeper one is text. This
@@ -48,22 +52,25 @@ impl Open {
     }
 }
 
-/// The tape, and the open containers, the outermost first.
+/// The tape, the open containers, the outermost first, and the lines of the leaves.
 #[derive(Drop)]
 pub(crate) struct Nesting {
     pub(crate) tape: Vec<Block>,
     pub(crate) stack: Vec<Open>,
+    pub(crate) leaves: Leaves,
     ghost shallow: { vec_len stack ≤ 96 },
     ghost nested: { IsTrue (leads 0 tape.items (vec_len stack)) },
+    ghost kept: { All (λ block. lines_end block ≤ vec_len leaves.lines) tape.items },
 }
 
 impl Nesting {
-    /// An empty tape with capacity for `room` blocks.
-    pub(crate) fn new(alloc: Global, room: usize) -> Result<Self, AllocError> {
-        let tape = Vec::with_capacity(alloc, room)?;
+    /// An empty tape, with capacity for some blocks and for some lines of leaves.
+    pub(crate) fn new(alloc: Global, blocks: usize, lines: usize) -> Result<Self, AllocError> {
+        let tape = Vec::with_capacity(alloc, blocks)?;
         Ok(Nesting {
             tape,
             stack: Vec::new(alloc),
+            leaves: Leaves::new(alloc, lines)?,
         })
     }
 
@@ -91,6 +98,7 @@ impl Nesting {
         ensures grows { vec_len self.new.stack ≤ vec_len self.old.stack + 1 }
         ensures tape { OnOk result (self.new.tape.items ≡ self.old.tape.items ++ block ∷ []) }
         ensures stack { OnOk result (self.new.stack.items ≡ self.old.stack.items ++ opened ∷ []) }
+        ensures leaves { self.new.leaves ≡ self.old.leaves }
     {
         let depth = self.stack.len();
         self.stack.push(opened)?;
@@ -108,10 +116,52 @@ impl Nesting {
     pub(crate) fn put(&mut self, block: Block) -> Result<(), AllocError>
         requires enters_none { enters block ≡ false }
         requires exits_none { exits block ≡ false }
+        requires kept { lines_end block ≤ vec_len self.old.leaves.lines }
         ensures stack { self.new.stack ≡ self.old.stack }
         ensures tape { OnOk result (self.new.tape.items ≡ self.old.tape.items ++ block ∷ []) }
+        ensures leaves { self.new.leaves ≡ self.old.leaves }
     {
         self.tape.push(block)?;
+        Ok(())
+    }
+
+    /// Begins a leaf. The lines that are pushed next belong to it.
+    #[inline(always)]
+    pub(crate) fn begin_leaf(&mut self)
+        ensures tape { self.new.tape ≡ self.old.tape }
+        ensures stack { self.new.stack ≡ self.old.stack }
+        ensures lines { self.new.leaves.lines ≡ self.old.leaves.lines }
+        ensures start { self.new.leaves.start ≡ vec_len self.old.leaves.lines }
+    {
+        self.leaves.start = self.leaves.lines.len();
+    }
+
+    /// Begins a leaf at a line that is already pushed.
+    #[inline(always)]
+    pub(crate) fn begin_leaf_at(&mut self, start: usize)
+        requires { start ≤ vec_len self.old.leaves.lines }
+        ensures tape { self.new.tape ≡ self.old.tape }
+        ensures stack { self.new.stack ≡ self.old.stack }
+        ensures lines { self.new.leaves.lines ≡ self.old.leaves.lines }
+        ensures start { self.new.leaves.start ≡ start }
+    {
+        self.leaves.start = start;
+    }
+
+    /// Pushes a line of the last leaf.
+    #[inline(always)]
+    pub(crate) fn push_line(&mut self, line: Line) -> Result<(), AllocError>
+        ensures tape { self.new.tape ≡ self.old.tape }
+        ensures stack { self.new.stack ≡ self.old.stack }
+        ensures start { self.new.leaves.start ≡ self.old.leaves.start }
+        ensures lines { OnOk result (self.new.leaves.lines.items
+            ≡ self.old.leaves.lines.items ++ line ∷ []) }
+        ensures grows { vec_len self.old.leaves.lines ≤ vec_len self.new.leaves.lines }
+        ensures entries { OnOk result ((bytes : List ℕ) →
+            entries_of bytes self.new.leaves.lines.items self.new.tape.items
+            ≡ entries_of bytes self.old.leaves.lines.items self.old.tape.items) }
+    {
+        self.leaves.lines.push(line)?;
         Ok(())
     }
 
@@ -121,6 +171,7 @@ impl Nesting {
         ensures len { vec_len self.new.stack ≡ vec_len self.old.stack }
         ensures stack { self.new.stack.items ≡ with_child self.old.stack.items }
         ensures tape { self.new.tape ≡ self.old.tape }
+        ensures leaves { self.new.leaves ≡ self.old.leaves }
     {
         if let Some(open) = self.stack.last_mut() {
             open.has_child = true;
@@ -134,6 +185,7 @@ impl Nesting {
         ensures stack { OnOk result (self.new.stack.items ≡ take depth self.old.stack.items) }
         ensures tape { OnOk result (self.new.tape.items
             ≡ self.old.tape.items ++ ends_of at (drop depth self.old.stack.items)) }
+        ensures leaves { self.new.leaves ≡ self.old.leaves }
     {
         while self.stack.len() > depth {
             self.exit(at)?;
@@ -150,6 +202,7 @@ impl Nesting {
             ≡ take (length self.old.stack.items - 1) self.old.stack.items) }
         ensures tape { OnOk result (self.new.tape.items ≡ self.old.tape.items
             ++ ends_of at (drop (length self.old.stack.items - 1) self.old.stack.items)) }
+        ensures leaves { self.new.leaves ≡ self.old.leaves }
     {
         let depth = self.stack.len() - 1;
         let open = self.stack[depth];
@@ -169,6 +222,7 @@ impl Nesting {
             ≡ take (without_list self.old.stack.items) self.old.stack.items) }
         ensures tape { OnOk result (self.new.tape.items ≡ self.old.tape.items
             ++ ends_of at (drop (without_list self.old.stack.items) self.old.stack.items)) }
+        ensures leaves { self.new.leaves ≡ self.old.leaves }
     {
         if !self.is_at_list() {
             return Ok(());

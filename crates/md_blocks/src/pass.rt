@@ -1,15 +1,19 @@
 //! The pass over the lines of a document.
 
-ghost use Rattle.std.specs.Prelude.{◌≡◌, ◌≤◌, false, length, vec_len, OnOk};
+ghost use Rattle.std.specs.Prelude.{◌≡◌, ◌≤◌, ◌<◌, ◌+◌, ◌++◌, ◌∷◌, []};
+ghost use Rattle.std.specs.Prelude.{false, true, length, vec_len, List, OnOk, IfOk, IsTrue, nat_lt};
+ghost use Rattle.md_blocks.specs.Tape.{enters, exits};
+ghost use Rattle.md_blocks.specs.Tapes.{has_info};
 
-use crate::block::{Block, LineRange};
+use crate::block::Block;
 use crate::blocks::Blocks;
 use crate::breaks::Breaks;
 use crate::code::Fence;
 use crate::definition::Definitions;
 use crate::html::HtmlKind;
+use crate::leaves::Leaves;
 use crate::matching::match_containers;
-use crate::nesting::Nesting;
+use crate::nesting::{Nesting, Open};
 use crate::options::MarkdownOptions;
 use crate::position::Position;
 use crate::preamble::{front_matter, start_of};
@@ -44,6 +48,32 @@ pub(crate) enum OpenLeaf {
     Table { columns: usize },
 }
 
+impl OpenLeaf {
+    ghost use Rattle.md_blocks.specs.Entries as entries;
+    ghost use Rattle.md_blocks.specs.States.{is_in_paragraph};
+    ghost use Rattle.md_blocks.specs.declared.pass.OpenLeaf.TheVariants as leaf;
+    ghost use Rattle.md_blocks.specs.LeafBlocks.{is_indented};
+    ghost use Rattle.md_blocks.specs.Passes.{leaf_of};
+
+    /// Whether it is a paragraph.
+    #[inline(always)]
+    pub(crate) fn is_paragraph(self) -> bool
+        ensures state { (lines : List entries.Line) →
+            result ≡ is_in_paragraph (leaf_of self lines) }
+        ensures is { IsTrue result → self ≡ leaf.Paragraph }
+    {
+        matches!(self, OpenLeaf::Paragraph)
+    }
+
+    /// Whether it is indented code.
+    #[inline(always)]
+    pub(crate) fn is_indented(self) -> bool
+        ensures { (lines : List entries.Line) → result ≡ is_indented (leaf_of self lines) }
+    {
+        matches!(self, OpenLeaf::Indented)
+    }
+}
+
 /// A pending blank line, written before the next child of an item, or between two items.
 #[derive(Clone, Copy)]
 pub(crate) struct BlankLine {
@@ -60,11 +90,8 @@ pub(crate) struct Pass<'a> {
     pub(crate) bytes: &'a [u8],
     pub(crate) options: &'a MarkdownOptions,
     pub(crate) nesting: Nesting,
-    pub(crate) lines: Vec<Line>,
     pub(crate) definitions: Definitions,
     pub(crate) leaf: OpenLeaf,
-    /// The index of the open leaf's first line.
-    pub(crate) leaf_start: usize,
     /// How many cells the rows of all tables lack so far.
     pub(crate) missing_cells: usize,
     pub(crate) blank_line: Option<BlankLine>,
@@ -75,9 +102,17 @@ pub(crate) struct Pass<'a> {
     pub(crate) at: usize,
     pub(crate) breaks: Breaks,
     ghost short: { length bytes.now ≤ 1152921504606846976 },
+    ghost info: { has_info leaf ≡ true
+        → nesting.leaves.start < vec_len nesting.leaves.lines },
 }
 
 impl<'a> Pass<'a> {
+    ghost use Rattle.md_blocks.specs.LeafBlocks.{blank_read, blank_waits, line_added};
+    ghost use Rattle.md_blocks.specs.Passes.{defined_by, leaf_of, state_of};
+    ghost use Rattle.md_blocks.specs.Positions.{IsIn, ending_of, rest_of};
+    ghost use Rattle.md_blocks.specs.States.{opened_in, with_a_child, with_entries, with_leaf};
+    ghost use Rattle.md_blocks.specs.Tapes.{entry_of, line_of, lines_end};
+
     /// The state before a document's first line. A document of more than `MOST_BYTES` bytes is
     /// refused as memory that ran out.
     pub(crate) fn new(
@@ -88,17 +123,18 @@ impl<'a> Pass<'a> {
         if bytes.len() > MOST_BYTES {
             return Err(AllocError);
         }
-        let nesting = Nesting::new(alloc, bytes.len() / BYTES_PER_BLOCK + LEAST_ROOM)?;
-        let lines = Vec::with_capacity(alloc, bytes.len() / BYTES_PER_LINE + LEAST_ROOM)?;
+        let nesting = Nesting::new(
+            alloc,
+            bytes.len() / BYTES_PER_BLOCK + LEAST_ROOM,
+            bytes.len() / BYTES_PER_LINE + LEAST_ROOM,
+        )?;
         Ok(Pass {
             alloc,
             bytes,
             options,
             nesting,
-            lines,
             definitions: Definitions::new(alloc),
             leaf: OpenLeaf::None,
-            leaf_start: 0,
             missing_cells: 0,
             blank_line: None,
             is_after_blank: false,
@@ -113,11 +149,11 @@ impl<'a> Pass<'a> {
     {
         let Pass {
             nesting,
-            lines,
             definitions,
             ..
         } = self;
-        let Nesting { tape, .. } = nesting;
+        let Nesting { tape, leaves, .. } = nesting;
+        let Leaves { lines, .. } = leaves;
         Blocks {
             tape,
             lines,
@@ -146,13 +182,14 @@ impl<'a> Pass<'a> {
     fn read_front_matter(&mut self) -> Result<usize, AllocError>
         ensures off { self.old.options.now.front_matter ≡ false
             → OnOk result (self.new ≡ self.old) }
+        ensures document { self.new.bytes ≡ self.old.bytes }
     {
         if !self.options.front_matter {
             return Ok(start_of(self.bytes));
         }
         match front_matter(self.bytes) {
             Some(found) => {
-                self.nesting.put(Block::FrontMatter {
+                self.put(Block::FrontMatter {
                     ending: found.ending,
                 })?;
                 Ok(found.ending.end)
@@ -162,7 +199,11 @@ impl<'a> Pass<'a> {
     }
 
     /// Reads a line.
-    fn read_line(&mut self, position: &mut Position<'_>) -> Result<(), AllocError> {
+    #[inline(always)]
+    fn read_line(&mut self, position: &mut Position<'_>) -> Result<(), AllocError>
+        requires in_document { IsIn self.old.bytes.now position.old }
+        ensures document { self.new.bytes ≡ self.old.bytes }
+    {
         if self.is_after_blank {
             if position.is_blank() {
                 self.at = position.at;
@@ -182,7 +223,11 @@ impl<'a> Pass<'a> {
 
     /// Reads a line in a leaf that accepts any line; returns whether the open leaf is one.
     #[inline(always)]
-    fn continue_leaf(&mut self, position: &mut Position<'_>) -> Result<bool, AllocError> {
+    fn continue_leaf(&mut self, position: &mut Position<'_>) -> Result<bool, AllocError>
+        requires in_document { IsIn self.old.bytes.now position.old }
+        ensures document { self.new.bytes ≡ self.old.bytes }
+        ensures same { IfOk result (λ goes_on. goes_on ≡ false → position.new ≡ position.old) }
+    {
         match self.leaf {
             OpenLeaf::Fenced(fence) | OpenLeaf::Math(fence) => {
                 self.continue_fenced(fence, position)?;
@@ -199,36 +244,136 @@ impl<'a> Pass<'a> {
         position: &mut Position<'_>,
         matched: usize,
         is_whole: bool,
-    ) -> Result<(), AllocError> {
-        if is_whole && self.leaf == OpenLeaf::Indented {
+    ) -> Result<(), AllocError>
+        requires in_document { IsIn self.old.bytes.now position.old }
+        ensures state { OnOk result (state_of self.new ≡ blank_waits (nat_lt 0 position.old.ending)
+            (blank_read (defined_by self.old self.new) matched is_whole (rest_of position.old)
+            (ending_of self.old.bytes.now position.old) (state_of self.old))) }
+        ensures document { self.new.bytes ≡ self.old.bytes }
+    {
+        self.close_at_blank_line(position, matched, is_whole)?;
+        self.is_after_blank = self.may_skip_blank_lines();
+        self.note_blank_line(position.text_line());
+        Ok(())
+    }
+
+    /// Whether more blank lines change nothing: no leaf and no quote is open.
+    #[inline(always)]
+    fn may_skip_blank_lines(&self) -> bool {
+        self.leaf == OpenLeaf::None && !self.nesting.has_quote()
+    }
+
+    /// Adds a blank line to indented code, or closes the leaf and the containers that it doesn't
+    /// continue.
+    #[inline(always)]
+    fn close_at_blank_line(
+        &mut self,
+        position: &mut Position<'_>,
+        matched: usize,
+        is_whole: bool,
+    ) -> Result<(), AllocError>
+        requires in_document { IsIn self.old.bytes.now position.old }
+        ensures state { OnOk result (state_of self.new ≡ blank_read
+            (defined_by self.old self.new) matched is_whole (rest_of position.old)
+            (ending_of self.old.bytes.now position.old) (state_of self.old)) }
+        ensures document { self.new.bytes ≡ self.old.bytes }
+        ensures line { position.new.line ≡ position.old.line }
+        ensures ending { position.new.ending ≡ position.old.ending }
+    {
+        if is_whole && self.leaf.is_indented() {
             position.advance(CODE_INDENT);
-            self.lines.push(position.rest())?;
-        } else {
-            self.close_unmatched(matched)?;
+            return self.push_line(position.rest());
         }
-        self.is_after_blank = self.leaf == OpenLeaf::None && !self.nesting.has_quote();
-        let line = position.text_line();
+        self.close_unmatched(matched)
+    }
+
+    /// Lets a blank line wait, if it has a line ending.
+    #[inline(always)]
+    fn note_blank_line(&mut self, line: Line)
+        ensures state { state_of self.new ≡ blank_waits (nat_lt 0 line.ending) (state_of self.old) }
+        ensures leaves { self.new.nesting.leaves ≡ self.old.nesting.leaves }
+        ensures document { self.new.bytes ≡ self.old.bytes }
+    {
         if line.ending > 0 {
             self.blank_line = Some(BlankLine {
                 depth: self.nesting.depth_of_quote(),
                 ending: Span::new(line.end, line.next()),
             });
         }
+    }
+
+    /// Opens a leaf with its first line.
+    #[inline(always)]
+    pub(crate) fn begin(&mut self, leaf: OpenLeaf, line: Line) -> Result<(), AllocError>
+        ensures state { OnOk result (state_of self.new ≡ with_leaf
+            (leaf_of leaf (line_of self.old.bytes.now line ∷ [])) (state_of self.old)) }
+        ensures leaf { OnOk result (self.new.leaf ≡ leaf) }
+        ensures stack { self.new.nesting.stack ≡ self.old.nesting.stack }
+        ensures document { self.new.bytes ≡ self.old.bytes }
+    {
+        self.leaf = OpenLeaf::None;
+        self.nesting.begin_leaf();
+        self.nesting.push_line(line)?;
+        self.leaf = leaf;
         Ok(())
     }
 
-    /// Opens a leaf. The lines that are pushed next belong to it.
+    /// Pushes a line of the open leaf.
     #[inline(always)]
-    pub(crate) fn begin(&mut self, leaf: OpenLeaf)
-        ensures { self.new.nesting ≡ self.old.nesting }
+    pub(crate) fn push_line(&mut self, line: Line) -> Result<(), AllocError>
+        ensures state { OnOk result (state_of self.new
+            ≡ line_added (line_of self.old.bytes.now line) (state_of self.old)) }
+        ensures start { self.new.nesting.leaves.start ≡ self.old.nesting.leaves.start }
+        ensures leaf { self.new.leaf ≡ self.old.leaf }
+        ensures stack { self.new.nesting.stack ≡ self.old.nesting.stack }
+        ensures document { self.new.bytes ≡ self.old.bytes }
     {
-        self.leaf = leaf;
-        self.leaf_start = self.lines.len();
+        self.nesting.push_line(line)?;
+        Ok(())
     }
 
-    /// The lines of the open leaf.
+    /// Writes an entry that neither begins nor ends a container.
     #[inline(always)]
-    pub(crate) fn leaf_lines(&self) -> LineRange {
-        LineRange::new(self.leaf_start, self.lines.len())
+    pub(crate) fn put(&mut self, block: Block) -> Result<(), AllocError>
+        requires enters_none { enters block ≡ false }
+        requires exits_none { exits block ≡ false }
+        requires kept { lines_end block ≤ vec_len self.old.nesting.leaves.lines }
+        ensures state { OnOk result (state_of self.new ≡ with_entries
+            (entry_of self.old.bytes.now self.old.nesting.leaves.lines.items block ∷ [])
+            (state_of self.old)) }
+        ensures stack { self.new.nesting.stack ≡ self.old.nesting.stack }
+        ensures leaves { self.new.nesting.leaves ≡ self.old.nesting.leaves }
+        ensures leaf { self.new.leaf ≡ self.old.leaf }
+        ensures document { self.new.bytes ≡ self.old.bytes }
+    {
+        self.nesting.put(block)?;
+        Ok(())
+    }
+
+    /// Records that the innermost container has a child.
+    #[inline(always)]
+    pub(crate) fn note_child(&mut self)
+        ensures state { state_of self.new ≡ with_a_child (state_of self.old) }
+        ensures shrinks { vec_len self.new.nesting.stack ≤ vec_len self.old.nesting.stack }
+        ensures leaves { self.new.nesting.leaves ≡ self.old.nesting.leaves }
+        ensures document { self.new.bytes ≡ self.old.bytes }
+    {
+        self.nesting.note_child();
+    }
+
+    /// Enters a container; `block` is its beginning.
+    #[inline(always)]
+    pub(crate) fn enter(&mut self, block: Block, opened: Open) -> Result<(), AllocError>
+        requires shallow { vec_len self.old.nesting.stack < 96 }
+        requires enters { enters block ≡ true }
+        ensures grows { vec_len self.new.nesting.stack ≤ vec_len self.old.nesting.stack + 1 }
+        ensures state { OnOk result (state_of self.new ≡ opened_in opened (with_entries
+            (entry_of self.old.bytes.now self.old.nesting.leaves.lines.items block ∷ [])
+            (state_of self.old))) }
+        ensures leaves { self.new.nesting.leaves ≡ self.old.nesting.leaves }
+        ensures document { self.new.bytes ≡ self.old.bytes }
+    {
+        self.nesting.enter(block, opened)?;
+        Ok(())
     }
 }

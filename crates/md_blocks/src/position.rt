@@ -1,7 +1,7 @@
 //! A position in a line, by bytes and by columns.
 
 ghost use Rattle.std.specs.Prelude.{◌≡◌, ◌+◌, ◌*◌, ◌≤◌, ◌<◌, ◌%◌, ◌∷◌, suc, length, drop};
-ghost use Rattle.std.specs.Prelude.{get_or, IsSome, true};
+ghost use Rattle.std.specs.Prelude.{get_or, IsSome, true, ℕ, List, []};
 ghost use Rattle.md_blocks.specs.Rests.{text_of, rest_at, columns_at, skipped, skipped_at};
 ghost use Rattle.md_blocks.specs.Leaves.{blanks};
 ghost use Rattle.md_blocks.specs.Rests.{passed, width, is_blank_rest, first};
@@ -36,10 +36,12 @@ pub(crate) struct Position<'a> {
     ghost in_tab: { is_in_tab ≡ true → drop at line.now ≡ 9 ∷ drop (suc at) line.now },
     ghost indents: { indent ≡ columns_at column (text_of line.now at column is_in_tab) },
     ghost text_there: { text ≡ at + blanks (drop at line.now) },
+    ghost part_of_tab: { is_in_tab ≡ true → 0 < column % 4 },
 }
 
 impl<'a> Position<'a> {
-    ghost use Rattle.md_blocks.specs.Positions.{rest_of};
+    ghost use Rattle.md_blocks.specs.Positions.{IsIn, rest_line, rest_of, text_line};
+    ghost use Rattle.md_blocks.specs.Tapes.{line_of};
 
     /// The position at the beginning of a line, which extends from `at` to the end of `line`.
     #[inline(always)]
@@ -47,6 +49,7 @@ impl<'a> Position<'a> {
         requires within { at ≤ length line.now }
         requires short { length line.now ≤ 1152921504606846976 }
         ensures at { result.at ≡ at }
+        ensures line { result.line.now ≡ line.now }
         ensures rest { rest_of result ≡ rest_at 0 (drop at line.now) }
     {
         let (text, indent) = text_after(line, at, 0);
@@ -94,6 +97,7 @@ impl<'a> Position<'a> {
     pub(crate) fn advance(&mut self, columns: usize)
         ensures at { self.old.at ≤ self.new.at }
         ensures line { self.new.line ≡ self.old.line }
+        ensures ending { self.new.ending ≡ self.old.ending }
         ensures rest { rest_of self.new ≡ skipped columns (rest_of self.old) }
     {
         let left = columns.min(self.indent);
@@ -116,6 +120,7 @@ impl<'a> Position<'a> {
         requires { self.old.text + width ≤ length self.old.line.now }
         ensures at { self.new.at ≡ self.old.text + width }
         ensures line { self.new.line ≡ self.old.line }
+        ensures ending { self.new.ending ≡ self.old.ending }
         ensures rest { rest_of self.new ≡ passed width (rest_of self.old) }
     {
         let at = self.text + width;
@@ -134,6 +139,7 @@ impl<'a> Position<'a> {
         ensures at { self.new.at ≡ self.old.text }
         ensures indent { self.new.indent ≡ 0 }
         ensures line { self.new.line ≡ self.old.line }
+        ensures ending { self.new.ending ≡ self.old.ending }
         ensures rest { rest_of self.new ≡ passed 0 (rest_of self.old) }
     {
         self.at = self.text;
@@ -148,6 +154,7 @@ impl<'a> Position<'a> {
         requires { self.old.text < length self.old.line.now }
         ensures at { self.old.at < self.new.at }
         ensures line { self.new.line ≡ self.old.line }
+        ensures ending { self.new.ending ≡ self.old.ending }
         ensures rest { rest_of self.new ≡ skipped 1 (passed 1 (rest_of self.old)) }
     {
         self.pass(1);
@@ -158,6 +165,8 @@ impl<'a> Position<'a> {
     pub(crate) fn finish(&mut self)
         ensures at { self.old.at ≤ self.new.at }
         ensures line { self.new.line ≡ self.old.line }
+        ensures ending { self.new.ending ≡ self.old.ending }
+        ensures rest { rest_of self.new ≡ rest_at (rest_of self.old).column [] }
     {
         self.text = self.line.len();
         self.at = self.text;
@@ -169,6 +178,8 @@ impl<'a> Position<'a> {
     #[inline(always)]
     pub(crate) fn rest(&self) -> Line
         ensures columns { self.now.is_in_tab ≡ true → result.columns ≡ self.now.column % 4 }
+        ensures line { (bytes : List ℕ) → IsIn bytes self.now
+            → line_of bytes result ≡ rest_line bytes self.now }
     {
         let columns = if self.is_in_tab {
             (self.column % TAB_STOP) as u8
@@ -185,7 +196,12 @@ impl<'a> Position<'a> {
 
     /// The line from the text.
     #[inline(always)]
-    pub(crate) fn text_line(&self) -> Line {
+    pub(crate) fn text_line(&self) -> Line
+        ensures end { result.end ≡ length self.now.line.now }
+        ensures ending { result.ending ≡ self.now.ending }
+        ensures line { (bytes : List ℕ) → IsIn bytes self.now
+            → line_of bytes result ≡ text_line bytes self.now }
+    {
         Line {
             start: self.text,
             end: self.line.len(),
@@ -210,6 +226,7 @@ fn skip_columns(
     requires short { length line.now ≤ 1152921504606846976 }
     requires text { text ≡ from + blanks (drop from line.now) }
     requires tab { within ≡ true → drop from line.now ≡ 9 ∷ drop (suc from) line.now }
+    requires part { within ≡ true → 0 < start % 4 }
     requires enough { columns ≤ columns_at start (text_of line.now from start within) }
     requires few { start + columns_at start (text_of line.now from start within) ≤ 4 * text + 3 }
     ensures after { from ≤ result.0 }
@@ -218,6 +235,7 @@ fn skip_columns(
     ensures indent { columns_at result.1 (text_of line.now result.0 result.1 result.2) + columns
         ≡ columns_at start (text_of line.now from start within) }
     ensures column { result.1 ≡ start + columns }
+    ensures part { result.2 ≡ true → 0 < result.1 % 4 }
     ensures rest { rest_at result.1 (text_of line.now result.0 result.1 result.2)
         ≡ skipped_at columns start (text_of line.now from start within) }
 {

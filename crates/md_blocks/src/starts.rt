@@ -1,12 +1,25 @@
 //! Begins leaves.
 
+ghost use Rattle.std.specs.Prelude.{◌≡◌, ◌<◌, ◌∷◌, [], true, false, ℕ, Bool, IfOk, OnOk};
+ghost use Rattle.std.specs.Prelude.{IfSome, is_some, length, vec_len};
+ghost use Rattle.md_blocks.specs.LeafBlocks.{break_begun, code_begun, heading_begun, if_begun};
+ghost use Rattle.md_blocks.specs.Entries.{last_line};
+ghost use Rattle.md_blocks.specs.LeafBlocks.{definitions_taken, heading_underlined, html_begun};
+ghost use Rattle.md_blocks.specs.LeafBlocks.{indented_read, is_table, kind_begun, lacking_after};
+ghost use Rattle.md_blocks.specs.LeafBlocks.{paragraph_split, row_read, table_begun, text_read};
+ghost use Rattle.md_blocks.specs.Leaves.{delimiters};
+ghost use Rattle.md_blocks.specs.OwnBlocks.{math_begun};
+ghost use Rattle.md_blocks.specs.States.{is_in_paragraph};
+ghost use Rattle.md_blocks.specs.declared.pass.OpenLeaf.TheVariants as leaf;
+
 use crate::block::Block;
 use crate::code::{Fence, first_word};
 use crate::html::HtmlKind;
+use crate::leaves::part;
 use crate::marker::{heading_content, heading_marks, run_end, underline};
 use crate::pass::{CODE_INDENT, OpenLeaf, Pass};
 use crate::position::Position;
-use crate::table::{count_cells, delimiter_columns};
+use crate::table::{cells_of_line, count_cells, delimiter_columns};
 use md_lines::{Class, Line, Span, is, trim_start};
 use std::alloc::AllocError;
 
@@ -14,6 +27,9 @@ use std::alloc::AllocError;
 const MOST_MISSING: usize = 1 << 19;
 
 impl<'a> Pass<'a> {
+    ghost use Rattle.md_blocks.specs.Passes.{defined_by, leaf_lines, state_of};
+    ghost use Rattle.md_blocks.specs.Positions.{IsIn, ending_of, rest_of, text_at, text_line};
+
     /// Reads a line after the prefixes of `matched` open blocks, if no leaf accepted it; `is_whole`
     /// says that these are all open blocks.
     pub(crate) fn begin_blocks(
@@ -21,11 +37,14 @@ impl<'a> Pass<'a> {
         position: &mut Position<'_>,
         matched: usize,
         is_whole: bool,
-    ) -> Result<(), AllocError> {
+    ) -> Result<(), AllocError>
+        requires in_document { IsIn self.old.bytes.now position.old }
+        ensures document { self.new.bytes ≡ self.old.bytes }
+    {
         let mut depth = matched;
         let mut has_begun = false;
         'parts: while let Some(byte) = position.byte() {
-            if position.indent >= CODE_INDENT && self.leaf != OpenLeaf::Paragraph {
+            if position.indent >= CODE_INDENT && !self.leaf.is_paragraph() {
                 return self.read_indented(position, depth, is_whole);
             }
             if position.indent >= CODE_INDENT || is_text(byte) {
@@ -36,7 +55,7 @@ impl<'a> Pass<'a> {
                 return Ok(());
             }
             if !self.begin_container(byte, position, depth, is_whole)? {
-                if is_whole && self.leaf == OpenLeaf::Paragraph && self.begin_table(position)? {
+                if is_whole && self.leaf.is_paragraph() && self.begin_table(position)? {
                     return Ok(());
                 }
                 return self.read_text(position, depth, is_whole);
@@ -58,8 +77,11 @@ impl<'a> Pass<'a> {
         position: &Position<'_>,
         depth: usize,
         is_whole: bool,
-    ) -> Result<bool, AllocError> {
-        let in_paragraph = is_whole && self.leaf == OpenLeaf::Paragraph;
+    ) -> Result<bool, AllocError>
+        requires in_document { IsIn self.old.bytes.now position.now }
+        ensures document { self.new.bytes ≡ self.old.bytes }
+    {
+        let in_paragraph = is_whole && self.leaf.is_paragraph();
         match byte {
             b'#' => self.begin_heading(position, depth),
             b'`' | b'~' => self.begin_fenced(byte, position, depth),
@@ -78,13 +100,21 @@ impl<'a> Pass<'a> {
     }
 
     /// Reads a heading with number signs.
-    fn begin_heading(&mut self, position: &Position<'_>, depth: usize) -> Result<bool, AllocError> {
+    fn begin_heading(&mut self, position: &Position<'_>, depth: usize) -> Result<bool, AllocError>
+        requires in_document { IsIn self.old.bytes.now position.now }
+        ensures state { IfOk result (λ has_begun.
+            heading_begun (defined_by self.old self.new) depth (text_at position.now)
+            (state_of self.old) ≡ if_begun has_begun (state_of self.new)) }
+        ensures same { IfOk result (λ has_begun.
+            has_begun ≡ false → state_of self.new ≡ state_of self.old) }
+        ensures document { self.new.bytes ≡ self.old.bytes }
+    {
         let Some(marks) = heading_marks(position.line, position.text) else {
             return Ok(false);
         };
         self.make_room(depth)?;
         let content = heading_content(&position.line[marks.end..]);
-        self.nesting.put(Block::AtxHeading {
+        self.put(Block::AtxHeading {
             level: (marks.end - marks.start) as u8,
             span: Span::new(marks.start, marks.end + content.len()),
         })?;
@@ -97,30 +127,45 @@ impl<'a> Pass<'a> {
         mark: u8,
         position: &Position<'_>,
         depth: usize,
-    ) -> Result<bool, AllocError> {
+    ) -> Result<bool, AllocError>
+        requires in_document { IsIn self.old.bytes.now position.now }
+        ensures state { IfOk result (λ has_begun. (defined : ℕ)
+            × (code_begun defined mark depth (rest_of position.now) (state_of self.old)
+            ≡ if_begun has_begun (state_of self.new))) }
+        ensures same { IfOk result (λ has_begun.
+            has_begun ≡ false → state_of self.new ≡ state_of self.old) }
+        ensures document { self.new.bytes ≡ self.old.bytes }
+    {
         let Some(fence) = Fence::of_code(position, mark) else {
             return Ok(false);
         };
         self.make_room(depth)?;
         let info = first_word(position.line, run_end(position.line, position.text, mark));
-        self.begin(OpenLeaf::Fenced(fence));
-        self.lines.push(Line::part(info.start, info.end))?;
+        self.begin(OpenLeaf::Fenced(fence), part(info))?;
         Ok(true)
     }
 
     /// Begins math after a line of dollar signs.
-    fn begin_math(&mut self, position: &Position<'_>, depth: usize) -> Result<bool, AllocError> {
+    fn begin_math(&mut self, position: &Position<'_>, depth: usize) -> Result<bool, AllocError>
+        requires in_document { IsIn self.old.bytes.now position.now }
+        ensures state { IfOk result (λ has_begun. (defined : ℕ)
+            × (math_begun defined depth (rest_of position.now)
+            (ending_of self.old.bytes.now position.now) (state_of self.old)
+            ≡ if_begun has_begun (state_of self.new))) }
+        ensures same { IfOk result (λ has_begun.
+            has_begun ≡ false → state_of self.new ≡ state_of self.old) }
+        ensures document { self.new.bytes ≡ self.old.bytes }
+    {
         let Some(fence) = Fence::of_math(position) else {
             return Ok(false);
         };
         self.make_room(depth)?;
-        self.begin(OpenLeaf::Math(fence));
         let after = run_end(position.line, position.text, b'$');
-        self.lines.push(Line::part(position.text, after))?;
+        self.begin(OpenLeaf::Math(fence), part(Span::new(position.text, after)))?;
         let end = position.line.len();
         let start = trim_start(position.line, after, end);
         if start < end {
-            self.lines.push(Line {
+            self.push_line(Line {
                 start,
                 end,
                 columns: 0,
@@ -136,14 +181,23 @@ impl<'a> Pass<'a> {
         position: &Position<'_>,
         depth: usize,
         in_paragraph: bool,
-    ) -> Result<bool, AllocError> {
+    ) -> Result<bool, AllocError>
+        requires in_document { IsIn self.old.bytes.now position.now }
+        ensures state { IfOk result (λ has_begun. (is_alone : Bool) × (defined : ℕ)
+            × (in_paragraph ≡ true → is_alone ≡ false)
+            × (html_begun defined depth (kind_begun is_alone (text_at position.now))
+            (rest_of position.now) (ending_of self.old.bytes.now position.now) (state_of self.old)
+            ≡ if_begun has_begun (state_of self.new))) }
+        ensures same { IfOk result (λ has_begun.
+            has_begun ≡ false → state_of self.new ≡ state_of self.old) }
+        ensures document { self.new.bytes ≡ self.old.bytes }
+    {
         let text = &position.line[position.text..];
         let Some(kind) = HtmlKind::begun_by(text, !in_paragraph) else {
             return Ok(false);
         };
         self.make_room(depth)?;
-        self.begin(OpenLeaf::Html(kind));
-        self.lines.push(position.rest())?;
+        self.begin(OpenLeaf::Html(kind), position.rest())?;
         if kind.is_ended_by(text) {
             self.close_leaf()?;
         }
@@ -151,18 +205,29 @@ impl<'a> Pass<'a> {
     }
 
     /// Changes the open paragraph to a heading, if this line underlines it.
-    fn begin_underlined(&mut self, mark: u8, position: &Position<'_>) -> Result<bool, AllocError> {
+    fn begin_underlined(&mut self, mark: u8, position: &Position<'_>) -> Result<bool, AllocError>
+        requires in_document { IsIn self.old.bytes.now position.now }
+        requires is_paragraph { self.old.leaf ≡ leaf.Paragraph }
+        ensures state { IfOk result (λ has_begun. heading_underlined
+            (defined_by self.old self.new) mark (text_at position.now) (leaf_lines self.old)
+            (state_of self.old) ≡ if_begun has_begun (state_of self.new)) }
+        ensures rest { IfOk result (λ has_begun. has_begun ≡ false → state_of self.new
+            ≡ definitions_taken (defined_by self.old self.new) (leaf_lines self.old)
+            (state_of self.old)) }
+        ensures document { self.new.bytes ≡ self.old.bytes }
+    {
         let Some(marks) = underline(position.line, position.text, mark) else {
             return Ok(false);
         };
-        if !self.take_definitions()? {
+        let end = self.nesting.leaves.lines.len();
+        if !self.take_definitions(end)? {
             return Ok(false);
         }
         self.put_blank_line()?;
-        self.lines.push(Line::part(marks.start, marks.end))?;
+        self.push_line(part(marks))?;
         self.leaf = OpenLeaf::None;
-        let lines = self.leaf_lines();
-        self.nesting.put(Block::SetextHeading(lines))?;
+        let lines = self.nesting.leaves.last();
+        self.put(Block::SetextHeading(lines))?;
         Ok(true)
     }
 
@@ -172,13 +237,20 @@ impl<'a> Pass<'a> {
         mark: u8,
         position: &Position<'_>,
         depth: usize,
-    ) -> Result<bool, AllocError> {
+    ) -> Result<bool, AllocError>
+        ensures state { IfOk result (λ has_begun.
+            break_begun (defined_by self.old self.new) mark depth (text_at position.now)
+            (state_of self.old) ≡ if_begun has_begun (state_of self.new)) }
+        ensures same { IfOk result (λ has_begun.
+            has_begun ≡ false → state_of self.new ≡ state_of self.old) }
+        ensures document { self.new.bytes ≡ self.old.bytes }
+    {
         if !self.breaks.begins_at(mark, position.line, position.text) {
             return Ok(false);
         }
         self.make_room(depth)?;
         let span = Span::new(position.text, position.line.len());
-        self.nesting.put(Block::ThematicBreak(span))?;
+        self.put(Block::ThematicBreak(span))?;
         Ok(true)
     }
 
@@ -188,15 +260,23 @@ impl<'a> Pass<'a> {
         position: &mut Position<'_>,
         depth: usize,
         is_whole: bool,
-    ) -> Result<(), AllocError> {
-        if !is_whole || self.leaf != OpenLeaf::Indented {
-            self.make_room(depth)?;
-            self.begin(OpenLeaf::Indented);
-        }
-        self.blank_line = None;
+    ) -> Result<(), AllocError>
+        requires in_document { IsIn self.old.bytes.now position.old }
+        requires no_paragraph { is_in_paragraph (state_of self.old).leaf ≡ false }
+        ensures state { OnOk result (state_of self.new ≡ indented_read depth is_whole
+            (rest_of position.old) (ending_of self.old.bytes.now position.old)
+            (state_of self.old)) }
+        ensures document { self.new.bytes ≡ self.old.bytes }
+    {
         position.advance(CODE_INDENT);
-        self.lines.push(position.rest())?;
-        Ok(())
+        let line = position.rest();
+        if is_whole && self.leaf.is_indented() {
+            self.blank_line = None;
+            return self.push_line(line);
+        }
+        self.make_room(depth)?;
+        self.blank_line = None;
+        self.begin(OpenLeaf::Indented, line)
     }
 
     /// Reads a line of text: it continues a paragraph, is a row of a table, or begins a paragraph.
@@ -205,58 +285,120 @@ impl<'a> Pass<'a> {
         position: &Position<'_>,
         depth: usize,
         is_whole: bool,
-    ) -> Result<(), AllocError> {
-        let leaf = self.leaf;
-        match leaf {
-            OpenLeaf::Paragraph => {}
-            OpenLeaf::Table { columns } if is_whole && self.takes_row(columns, position) => {}
-            _ => {
-                self.make_room_for_text(depth)?;
-                self.begin(OpenLeaf::Paragraph);
-            }
+    ) -> Result<(), AllocError>
+        requires in_document { IsIn self.old.bytes.now position.now }
+        ensures state { OnOk result (state_of self.new ≡ text_read (defined_by self.old self.new)
+            depth is_whole (text_line self.old.bytes.now position.now) (state_of self.old)) }
+        ensures document { self.new.bytes ≡ self.old.bytes }
+    {
+        if self.leaf.is_paragraph() {
+            return self.push_line(position.text_line());
         }
-        self.lines.push(position.text_line())?;
-        Ok(())
+        if is_whole && self.read_row(position)? {
+            return Ok(());
+        }
+        self.make_room_for_text(depth)?;
+        self.begin(OpenLeaf::Paragraph, position.text_line())
     }
 
-    /// Whether a line is a row of the open table. A lone bar isn't.
-    fn takes_row(&mut self, columns: usize, position: &Position<'_>) -> bool {
-        let cells = count_cells(position.line, position.text_line());
-        let missing = self
-            .missing_cells
-            .saturating_add(columns.saturating_sub(cells));
-        if cells == 0 || missing > MOST_MISSING {
-            return false;
-        }
+    /// Reads a row of the open table; returns whether the line is one.
+    #[inline(always)]
+    fn read_row(&mut self, position: &Position<'_>) -> Result<bool, AllocError>
+        requires in_document { IsIn self.old.bytes.now position.now }
+        ensures state { IfOk result (λ is_row.
+            row_read (text_line self.old.bytes.now position.now) (state_of self.old)
+            ≡ if_begun is_row (state_of self.new)) }
+        ensures same { IfOk result (λ is_row. is_row ≡ false → self.new ≡ self.old) }
+        ensures document { self.new.bytes ≡ self.old.bytes }
+    {
+        let OpenLeaf::Table { columns } = self.leaf else {
+            return Ok(false);
+        };
+        let cells = count_cells(position.bytes());
+        let Some(missing) = missing_after(columns, cells, self.missing_cells) else {
+            return Ok(false);
+        };
         self.missing_cells = missing;
-        true
+        self.push_line(position.text_line())?;
+        Ok(true)
     }
 
     /// Begins a table whose head is the paragraph's last line, if this line is a delimiter row;
     /// returns whether it is.
-    fn begin_table(&mut self, position: &Position<'_>) -> Result<bool, AllocError> {
-        if !self.options.tables {
-            return Ok(false);
-        }
-        let Some(columns) = delimiter_columns(position.bytes()) else {
+    fn begin_table(&mut self, position: &Position<'_>) -> Result<bool, AllocError>
+        requires in_document { IsIn self.old.bytes.now position.now }
+        requires is_paragraph { self.old.leaf ≡ leaf.Paragraph }
+        ensures state { IfOk result (λ has_begun. (defined : ℕ)
+            × (table_begun self.old.options.now.tables defined (text_at position.now)
+            (ending_of self.old.bytes.now position.now) (leaf_lines self.old) (state_of self.old)
+            ≡ if_begun has_begun (state_of self.new))) }
+        ensures same { IfOk result (λ has_begun. has_begun ≡ false → self.new ≡ self.old) }
+        ensures document { self.new.bytes ≡ self.old.bytes }
+    {
+        let Some(columns) = self.columns_begun(position) else {
             return Ok(false);
         };
-        let Some(head) = self.lines.last().copied() else {
-            return Ok(false);
-        };
-        if self.leaf_start >= self.lines.len() || count_cells(self.bytes, head) != columns {
-            return Ok(false);
-        }
-        if self.leaf_start < self.lines.len() - 1 {
-            self.lines.pop();
-            self.close_leaf()?;
-            self.begin(OpenLeaf::None);
-            self.lines.push(head)?;
-        }
+        self.split_paragraph()?;
         self.put_blank_line()?;
         self.leaf = OpenLeaf::Table { columns };
-        self.lines.push(position.text_line())?;
+        self.push_line(position.text_line())?;
         Ok(true)
+    }
+
+    /// The number of columns of the table that this line begins after the paragraph's last line.
+    #[inline(always)]
+    fn columns_begun(&self, position: &Position<'_>) -> Option<usize>
+        ensures there { is_some result ≡ is_table self.now.options.now.tables
+            (text_at position.now) (leaf_lines self.now) }
+        ensures columns { IfSome result (λ columns.
+            columns ≡ length (delimiters (text_at position.now))) }
+        ensures head { IfSome result (λ _.
+            self.now.nesting.leaves.start < vec_len self.now.nesting.leaves.lines) }
+    {
+        if !self.options.tables {
+            return None;
+        }
+        let columns = delimiter_columns(position.bytes())?;
+        let lines = &self.nesting.leaves.lines[self.nesting.leaves.start..];
+        let head = *lines.last()?;
+        if cells_of_line(self.bytes, head) == columns {
+            Some(columns)
+        } else {
+            None
+        }
+    }
+
+    /// Closes the paragraph before its last line, if it has other lines.
+    fn split_paragraph(&mut self) -> Result<(), AllocError>
+        requires is_paragraph { self.old.leaf ≡ leaf.Paragraph }
+        requires some { self.old.nesting.leaves.start < vec_len self.old.nesting.leaves.lines }
+        ensures state { OnOk result ((defined : ℕ) × (state_of self.new
+            ≡ paragraph_split defined (leaf_lines self.old) (state_of self.old))) }
+        ensures lines { OnOk result (leaf_lines self.new ≡ last_line (leaf_lines self.old) ∷ []) }
+        ensures document { self.new.bytes ≡ self.old.bytes }
+    {
+        let last = self.nesting.leaves.lines.len() - 1;
+        if self.nesting.leaves.start < last {
+            self.leaf = OpenLeaf::None;
+            self.close_paragraph(last)?;
+            self.leaf = OpenLeaf::Paragraph;
+            self.nesting.begin_leaf_at(last);
+        }
+        Ok(())
+    }
+}
+
+/// How many cells the rows of all tables lack after a row; `None` if it has no cell, as a lone bar,
+/// or if they would lack too many.
+#[inline(always)]
+fn missing_after(columns: usize, cells: usize, missing: usize) -> Option<usize>
+    ensures { result ≡ lacking_after columns cells missing }
+{
+    let missing = missing.saturating_add(columns.saturating_sub(cells));
+    if cells > 0 && missing <= MOST_MISSING {
+        Some(missing)
+    } else {
+        None
     }
 }
 

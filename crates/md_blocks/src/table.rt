@@ -1,44 +1,109 @@
 //! Rows of tables.
 
-ghost use Rattle.std.specs.Prelude.{◌≡◌, ◌≤◌, ◌<◌, ◌∷◌, length, is_some, IfSome};
+ghost use Rattle.std.specs.Prelude.{◌≡◌, ◌≤◌, ◌<◌, ◌+◌, ◌∷◌, length, is_some, IfSome};
+ghost use Rattle.std.specs.Prelude.{◌-◌, ◌==◌, ◌&&◌, drop, false, get_or, max, nat_lt, take};
 ghost use Rattle.md_blocks.specs.Leaves.{is_delimiter_row, delimiters, is_delimiter};
 ghost use Rattle.md_blocks.specs.Leaves.{cells, cell_length, without_first, may_begin_delimiter};
+ghost use Rattle.md_blocks.specs.Tables.{bar_at, cells_after, ends_cell, inside_row, row_cells};
+ghost use Rattle.md_blocks.specs.Tapes.{text_of_line};
 
 use crate::marker::{is_blank_from, run_end, without_blanks};
-use md_lines::{Line, trim_end, trim_start};
+use md_lines::{Line, trim_start};
 
-/// The end of the cell that begins at an index: the next bar without a backslash before it, or
-/// `end`.
+/// The end of the cell that begins at an index: the next bar without a backslash before it in the
+/// cell, or `end`.
 #[inline]
 pub fn next_cell(bytes: &[u8], at: usize, end: usize) -> usize
     ensures after { at ≤ result }
     ensures within { at ≤ end → result ≤ end }
+    ensures value { result ≡ at + bar_at false (drop at (take end bytes.now)) }
+{
+    cell_end(&bytes[..end.min(bytes.len())], at)
+}
+
+/// The end of the cell of a row that begins at an index.
+#[inline(always)]
+fn cell_end(row: &[u8], at: usize) -> usize
+    ensures after { at ≤ result }
+    ensures within { result ≤ max at (length row.now) }
+    ensures value { result ≡ at + bar_at false (drop at row.now) }
 {
     let mut to = at;
-    while to < end {
-        match bytes.get(to) {
-            Some(b'|') if to == at || bytes.get(to - 1) != Some(&b'\\') => break,
-            None => break,
-            Some(_) => to += 1,
-        }
+    while to < row.len() && !ends_cell(row, at, to) {
+        to += 1;
     }
     to
 }
 
+/// Whether the byte at an index ends the cell that begins at `at`: a bar without a backslash before
+/// it.
+#[inline(always)]
+fn ends_cell(row: &[u8], at: usize, to: usize) -> bool
+    requires { to < length row.now }
+    ensures { result ≡ ends_cell (nat_lt at to && get_or row.now (to - 1) 0 == 92)
+        (get_or row.now to 0) }
+{
+    row[to] == b'|' && !(at < to && row[to - 1] == b'\\')
+}
+
+/// The number of cells in a line. Only spaces are left of a tab that belongs in part to the
+/// prefixes.
+pub(crate) fn cells_of_line(bytes: &[u8], line: Line) -> usize
+    ensures { result ≡ length (row_cells (text_of_line bytes.now line)) }
+{
+    let text = &bytes[..line.end.min(bytes.len())];
+    if line.columns == 0 {
+        count_cells(text_from(text, line.start))
+    } else {
+        count_cells(text_from(text, line.start.saturating_add(1)))
+    }
+}
+
+/// The text of a line from an index.
+#[inline(always)]
+fn text_from(line: &[u8], from: usize) -> &[u8]
+    ensures { result.now ≡ drop from line.now }
+{
+    match line.get(from..) {
+        Some(text) => text,
+        None => &[],
+    }
+}
+
 /// The number of cells in a row. A cell begins after the leading bar or the previous bar, and ends
 /// at a bar or at the end of the row.
-pub(crate) fn count_cells(bytes: &[u8], line: Line) -> usize {
-    let end = trim_end(bytes, line.start, line.end);
-    let mut at = trim_start(bytes, line.start, end);
-    if at < end && bytes.get(at) == Some(&b'|') {
-        at += 1;
-    }
-    let mut count: usize = 0;
-    while at < end {
-        at = next_cell(bytes, at, end).saturating_add(1);
-        count = count.saturating_add(1);
+pub(crate) fn count_cells(row: &[u8]) -> usize
+    ensures { result ≡ length (row_cells row.now) }
+{
+    let mut rest = inside_row(row);
+    let mut count = 0;
+    while !rest.is_empty() {
+        rest = after_cell(rest);
+        count += 1;
     }
     count
+}
+
+/// A row without the spaces and tabs around it, and without its leading bar.
+#[inline(always)]
+fn inside_row(row: &[u8]) -> &[u8]
+    ensures value { result.now ≡ inside_row row.now }
+    ensures within { length result.now ≤ length row.now }
+{
+    let start = trim_start(row, 0, row.len());
+    without_first(without_blanks(&row[start..]), b'|')
+}
+
+/// The rest of a row that isn't empty, after its first cell and the bar that ends it.
+#[inline(always)]
+fn after_cell(row: &[u8]) -> &[u8]
+    requires { 0 < length row.now }
+    ensures cells { cells_after false row.now
+        ≡ take (bar_at false row.now) row.now ∷ cells_after false result.now }
+    ensures shorter { length result.now < length row.now }
+{
+    let next = (cell_end(row, 0) + 1).min(row.len());
+    &row[next..]
 }
 
 /// The number of columns of a delimiter row, to its end; `None` if the text isn't one.

@@ -9,8 +9,8 @@ use Rattle.std.proofs.lemmas.Bool.{and_parts, or_cases}
 use Rattle.std.proofs.lemmas.List.Folds.{list_all-append}
 use Rattle.md_base.proofs.Lies.{lie}
 use Rattle.md_text.specs.Html.{Forest, Empty, Text, Void, Element, Attribute, written}
-use Rattle.md_text.specs.Html.{written_attributes, are_attributes, elements, void_tags, is_tag}
-use Rattle.md_text.specs.Html.{is_forest, IsReading}
+use Rattle.md_text.specs.Html.{written_attributes, are_attributes, is_tag, is_forest, is_printed}
+use Rattle.md_text.specs.Html.{printed_elements, printed_void_tags, IsReading}
 use Rattle.md_text.proofs.HtmlNames.{no_angle, escaped-angle, element-tidy, void-tidy}
 use Rattle.md_text.proofs.HtmlAngles.{name-angle, tag-angle}
 use Rattle.md_depth.specs.Levels.{levels}
@@ -58,37 +58,41 @@ tag name attributes end rest l t level top after h = grind (
   past,
 )
 
--- the text of a forest opens as many elements as nest in it, and closes them
-pub opens : (forest : Forest) → is_forest forest ≡ true → (l t : ℕ) → l ≤ t →
-    run (at l t) (written forest) ≡ at l (max t (l + levels forest))
-opens Empty h l t low = grind arith
-opens (Text bytes rest) h l t low =
+-- the text of a forest of what the compiler writes opens as many elements as nest in it, and closes
+-- them
+pub opens : (forest : Forest) → is_forest forest ≡ true → is_printed forest ≡ true → (l t : ℕ) →
+    l ≤ t → run (at l t) (written forest) ≡ at l (max t (l + levels forest))
+opens Empty h f l t low = grind arith
+opens (Text bytes rest) h f l t low =
     let p = and_parts _ _ h in
     let r = and_parts _ _ (and_parts _ _ p.0).0 in
-    past bytes (written rest) l t (escaped-angle bytes r.1) ∙ opens rest p.1 l t low
-opens (Void name attributes rest) h l t low =
+    past bytes (written rest) l t (escaped-angle bytes r.1) ∙ opens rest p.1 f l t low
+opens (Void name attributes rest) h f l t low =
     let p = and_parts _ _ h in
+    let u = and_parts _ _ f in
     let end : List ℕ = 32 ∷ 47 ∷ 62 ∷ [] in
-    tag name attributes end (written rest) l t l (max t (suc l)) (of-tag Voids void_tags name
-    attributes (grind arith) p.0 l t) (tag-angle name attributes end (void-tidy name attributes p.0)
-    refl) ∙ opens rest p.1 l (max t (suc l)) (omega arith) ∙ ap (λ top. at l top) (omega arith)
-opens (Element name attributes inner rest) h l t low =
+    tag name attributes end (written rest) l t l (max t (suc l)) (of-tag Voids printed_void_tags name
+    attributes (grind arith) u.0 l t) (tag-angle name attributes end (void-tidy name attributes p.0)
+    refl) ∙ opens rest p.1 u.1 l (max t (suc l)) (omega arith) ∙ ap (λ top. at l top) (omega arith)
+opens (Element name attributes inner rest) h f l t low =
     let p = and_parts _ _ h in
     let q = and_parts _ _ p.0 in
+    let u = and_parts _ _ f in
+    let v = and_parts _ _ u.0 in
     let tidy = element-tidy name attributes q.0 in
     let end : List ℕ = 62 ∷ [] in
     let close : List ℕ = 60 ∷ 47 ∷ (name ++ (62 ∷ written rest)) in
     let letters : list_all no_angle name ≡ true = name-angle name (and_parts _ _ tidy.0).1 in
     let top : ℕ = max (max t (suc l)) (suc l + levels inner) in
     tag name attributes end (written inner ++ close) l t (suc l) (max t (suc l)) (of-tag Opens
-    elements name attributes (grind arith) q.0 l t) (tag-angle name attributes end tidy refl) ∙
+    printed_elements name attributes (grind arith) v.0 l t) (tag-angle name attributes end tidy refl) ∙
     run-append (at (suc l) (max t (suc l))) (written inner) close ∙ ap (λ s. run s close) (opens
-    inner q.1 (suc l) (max t (suc l)) (omega arith)) ∙ past name (62 ∷ written rest) l top letters ∙
-    opens rest p.1 l top (omega arith) ∙ ap (λ top. at l top) (omega arith)
+    inner q.1 v.1 (suc l) (max t (suc l)) (omega arith)) ∙ past name (62 ∷ written rest) l top letters ∙
+    opens rest p.1 u.1 l top (omega arith) ∙ ap (λ top. at l top) (omega arith)
 
 -- a text in which no more are open has a reading that nests no deeper
-pub levels-kept : (n : ℕ) (x : List ℕ) (forest : Forest) → IsReading x forest → Leads 0 0 n x →
-    levels forest ≤ n
-levels-kept n x forest reading f =
-    let all = opens forest reading.in_grammar 0 n (omega arith) in
+pub levels-kept : (n : ℕ) (x : List ℕ) (forest : Forest) → IsReading x forest →
+    is_printed forest ≡ true → Leads 0 0 n x → levels forest ≤ n
+levels-kept n x forest reading printed f =
+    let all = opens forest reading.in_grammar printed 0 n (omega arith) in
     grind (arith, f.leads 0 n, reading.written_so, all)

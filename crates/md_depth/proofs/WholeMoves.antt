@@ -16,6 +16,7 @@ use Rattle.md_content.proofs.Grammatical.{grammatical-built}
 use Rattle.md_safe.specs.Options.{KeepsGrammar}
 use Rattle.md_safe.proofs.Costs.{Document, read_in}
 use Rattle.md_safe.proofs.Prepared.{outermost-ready, reads-whole, document_of}
+use Rattle.md_safe.proofs.Whole.{whole-printed}
 use Rattle.md_depth.specs.Depth.{height}
 use Rattle.md_depth.specs.Levels.{NestsWithin}
 use Rattle.md_depth.proofs.Machine.{Leads, leads-quiet}
@@ -52,4 +53,4 @@ elements-nest bytes names options document grammatical keeps tree reading =
     grammatical-built bytes names document grammatical in
     let d : Document = document_of bytes names options document built keeps in
     levels-kept (2 * height document + 5) (meaning options names bytes document) tree reading
-    (document-leads d document built keeps)
+    (whole-printed bytes names options document built keeps tree reading) (document-leads d document built keeps)

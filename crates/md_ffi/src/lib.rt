@@ -2,5 +2,7 @@
 //! library.
 #![tactic(auto)]
 
+mod clean;
 mod export;
+mod safe;
 mod slugged;

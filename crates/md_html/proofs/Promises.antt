@@ -8,7 +8,7 @@ use Rattle.md_facts.proofs.FoundLemmas.{grammatical-there}
 use Rattle.md_content.proofs.Grammatical.{grammatical-built}
 use Rattle.md_content.proofs.Underlines.{grammatical-underlined}
 use Rattle.md_safe.specs.Options.{KeepsGrammar}
-use Rattle.md_safe.proofs.Whole.{one-reading, safe-links, safe-images}
+use Rattle.md_safe.proofs.Whole.{one-reading, whole-printed, safe-links, safe-images}
 use Rattle.md_safe.proofs.WholeIds.{distinct-ids}
 use Rattle.md_safe.proofs.ContainedWhole.{meaning-contained, meaning-unnested}
 use Rattle.md_safe.proofs.Tokenized.{read-tokenized, link-tokens, image-tokens}
@@ -33,6 +33,7 @@ promises options given text read few meant =
       grammatical-underlined,
       any_attribute,
       one-reading,
+      whole-printed,
       is_safe_link,
       safe-links,
       is_safe_image,

@@ -1,7 +1,7 @@
 -- What the calls promise of a text, and of a `SafeHtml` beside what its type says.
 use Rattle.std.specs.Prelude.{◌≡◌, ℕ, true, false, List}
 use Rattle.md_base.specs.Tree.{Forest, flatten}
-use Rattle.md_text.specs.Html.{any_attribute, HasOneReadingWith}
+use Rattle.md_text.specs.Html.{any_attribute, HasOneReadingWith, IsPrinted}
 use Rattle.md_text.specs.Ids.{HasDistinctIds}
 use Rattle.md_text.specs.Safe.{is_safe_link, is_safe_image}
 use Rattle.md_text.specs.declared.options.CompileOptions.{CompileOptions}
@@ -20,6 +20,7 @@ pub record Promises (options : CompileOptions) (given : Handed) (text : List ℕ
   pub meaning : (document : Forest) → flatten document ≡ given.events →
       text ≡ meaning options given.names given.bytes document
   pub one_reading : KeepsGrammar options → HasOneReadingWith any_attribute text
+  pub printed : KeepsGrammar options → IsPrinted text
   pub safe_links : KeepsLinks options → HasOneReadingWith is_safe_link text
   pub safe_images : KeepsImages options → HasOneReadingWith is_safe_image text
   pub contained : KeepsGrammar options → IsContained text
@@ -37,6 +38,7 @@ pub record SafePromises (options : CompileOptions) (given : Handed) (text : List
   pub meaning : (document : Forest) → flatten document ≡ given.events →
       text ≡ meaning options given.names given.bytes document
   pub tokens : IsSafelyTokenized text
+  pub printed : IsPrinted text
   pub contained : IsContained text
   pub tree : (document : Forest) → flatten document ≡ given.events →
       has_nested_link false document ≡ false → IsBuiltAsRead text

@@ -7,7 +7,7 @@ ghost use Rattle.md_base.specs.Tree.{Forest, flatten};
 ghost use Rattle.md_tree.specs.Grammar.{IsChecked, handed};
 ghost use Rattle.md_tree.specs.Refusal.{IsOutside, IsOrder, IsMdx, IsOfNode, IsLost, IsRefusal};
 ghost use Rattle.md_meaning.specs.Meaning.{meaning};
-ghost use Rattle.md_text.specs.Html.{any_attribute, HasOneReadingWith};
+ghost use Rattle.md_text.specs.Html.{any_attribute, HasOneReadingWith, IsPrinted};
 ghost use Rattle.md_text.specs.Safe.{is_safe_link, is_safe_image};
 ghost use Rattle.md_text.specs.Ids.{HasDistinctIds};
 ghost use Rattle.md_safe.specs.SafeTokens.{has_safe_links, has_safe_images};
@@ -78,6 +78,8 @@ pub fn compile(
         string_bytes text ≡ meaning options.now (name_table names.now) bytes.now document) }
     ensures one_reading { IfOk result (λ text. KeepsGrammar options.now
         → HasOneReadingWith any_attribute (string_bytes text)) }
+    ensures printed { IfOk result
+        (λ text. KeepsGrammar options.now → IsPrinted (string_bytes text)) }
     ensures safe_links { IfOk result (λ text. KeepsLinks options.now
         → HasOneReadingWith is_safe_link (string_bytes text)) }
     ensures safe_images { IfOk result (λ text. KeepsImages options.now

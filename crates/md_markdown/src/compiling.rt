@@ -7,6 +7,7 @@ ghost use Rattle.md_base.specs.Tree.{Forest};
 ghost use Rattle.md_depth.specs.Levels.{NestsWithin};
 ghost use Rattle.md_meaning.specs.Meaning.{meaning};
 ghost use Rattle.md_safe.specs.Contents.{IsContained};
+ghost use Rattle.md_text.specs.Html.{IsPrinted};
 ghost use Rattle.md_safe.specs.Built.{IsBuiltAsRead};
 ghost use Rattle.md_safe.specs.Options.{KeepsImages};
 ghost use Rattle.md_safe.specs.Tokenized.{IsSafelyTokenized};
@@ -63,6 +64,7 @@ pub fn markdown(
 ) -> Result<SafeHtml, AllocError>
     ensures made { IfOk result (IsMadeOf options.now text.now) }
     ensures tokens { IfOk result IsSafelyTokenized }
+    ensures printed { IfOk result IsPrinted }
     ensures contained { IfOk result IsContained }
     ensures tree { IfOk result IsBuiltAsRead }
     ensures nesting { IfOk result (NestsWithin (2 * most_depth + 5)) }
@@ -109,6 +111,7 @@ pub fn markdown_within(
     ensures within { IfOk result (λ html. length html ≤ limits.text) }
     ensures made { IfOk result (IsMadeOf options.now text.now) }
     ensures tokens { IfOk result IsSafelyTokenized }
+    ensures printed { IfOk result IsPrinted }
     ensures contained { IfOk result IsContained }
     ensures tree { IfOk result IsBuiltAsRead }
     ensures nesting { IfOk result (NestsWithin (2 * most_depth + 5)) }
@@ -172,6 +175,7 @@ fn compile_or_plain(
         → AreChosenFor markdown options.now
         → IsMadeOfEither markdown parsed.now.bytes.now text.now html) }
     ensures tokens { IfOk result IsSafelyTokenized }
+    ensures printed { IfOk result IsPrinted }
     ensures contained { IfOk result IsContained }
     ensures tree { IfOk result IsBuiltAsRead }
     ensures nesting { IfOk result (NestsWithin (2 * most_depth + 5)) }
@@ -210,6 +214,7 @@ fn compile_or_plain_within(
         → AreChosenFor markdown within.now.options.now
         → IsMadeOfEither markdown parsed.now.bytes.now text.now html) }
     ensures tokens { IfOk result IsSafelyTokenized }
+    ensures printed { IfOk result IsPrinted }
     ensures contained { IfOk result IsContained }
     ensures tree { IfOk result IsBuiltAsRead }
     ensures nesting { IfOk result (NestsWithin (2 * most_depth + 5)) }
@@ -229,7 +234,7 @@ fn compile_or_plain_within(
 }
 
 /// The resolved URLs to append to a document, which has the base against which they were resolved.
-fn resolved<'a>(writer: &'a Writer, options: &MarkdownOptions) -> &'a [u8]
+pub(crate) fn resolved<'a>(writer: &'a Writer, options: &MarkdownOptions) -> &'a [u8]
     ensures { AreAdded (option_map string_bytes options.now.base) result.now }
 {
     match (writer.added.base(), &options.base) {
@@ -239,14 +244,19 @@ fn resolved<'a>(writer: &'a Writer, options: &MarkdownOptions) -> &'a [u8]
 }
 
 /// The line ending to append to a document, if it needs one.
-fn ending(writer: &Writer) -> &'static [u8]
+pub(crate) fn ending(writer: &Writer) -> &'static [u8]
     ensures { IsEnding result.now }
 {
     if writer.has_ending { b"\n" } else { b"" }
 }
 
 /// The bytes of a document, and those appended to it.
-fn joined(alloc: Global, document: &[u8], urls: &[u8], ending: &[u8]) -> Result<Vec<u8>, AllocError>
+pub(crate) fn joined(
+    alloc: Global,
+    document: &[u8],
+    urls: &[u8],
+    ending: &[u8],
+) -> Result<Vec<u8>, AllocError>
     ensures { IfOk result
         (λ whole. whole.items ≡ document.now ++ (urls.now ++ ending.now)) }
 {

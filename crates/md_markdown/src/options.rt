@@ -3,7 +3,7 @@
 ghost use Rattle.std.specs.Prelude.{◌≡◌, IfOk, option_map, string_bytes};
 ghost use Rattle.md_markdown.specs.Chosen.{AreChosenFor};
 
-use md_blocks::MarkdownOptions;
+use md_blocks::{DocumentHtml, MarkdownOptions};
 use md_text::{CompileOptions, LineEnding};
 use std::alloc::{AllocError, Global};
 
@@ -30,6 +30,28 @@ pub(crate) fn for_compiler(
         gfm_footnote_label: label,
         gfm_footnote_label_attributes: None,
         gfm_footnote_label_tag_name: None,
+    })
+}
+
+/// These options, with which HTML is read as text.
+pub(crate) fn with_html(
+    alloc: Global,
+    options: &MarkdownOptions,
+) -> Result<MarkdownOptions, AllocError> {
+    let base = copy_text(alloc, &options.base)?;
+    Ok(MarkdownOptions {
+        math: options.math,
+        front_matter: options.front_matter,
+        footnotes: options.footnotes,
+        tables: options.tables,
+        bare_links: options.bare_links,
+        hard_breaks: options.hard_breaks,
+        html: DocumentHtml::Text,
+        base,
+        footnote_prefix: None,
+        number_ids: options.number_ids,
+        footnote_label: None,
+        footnote_back_label: None,
     })
 }
 

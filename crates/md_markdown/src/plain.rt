@@ -4,6 +4,7 @@ ghost use Rattle.std.specs.Prelude.{◌≡◌, ◌≤◌, ◌+◌, ◌*◌, IfOk
 ghost use Rattle.md_base.specs.Tree.{flatten};
 ghost use Rattle.md_safe.specs.Built.{IsBuiltAsRead};
 ghost use Rattle.md_safe.specs.Contents.{IsContained};
+ghost use Rattle.md_text.specs.Html.{IsPrinted};
 ghost use Rattle.md_safe.specs.Options.{KeepsImages};
 ghost use Rattle.md_safe.specs.Tokenized.{IsSafelyTokenized};
 ghost use Rattle.md_text.specs.Ids.{HasDistinctIds};
@@ -43,6 +44,7 @@ pub(crate) fn compile_plain(
     ensures made { IfOk result (λ html. (markdown : MarkdownOptions)
         → AreChosenFor markdown options.now → IsMadeOver markdown text.now html) }
     ensures tokens { IfOk result IsSafelyTokenized }
+    ensures printed { IfOk result IsPrinted }
     ensures contained { IfOk result IsContained }
     ensures tree { IfOk result IsBuiltAsRead }
     ensures nesting { IfOk result (NestsWithin (2 * most_depth + 5)) }
@@ -74,6 +76,7 @@ pub(crate) fn compile_plain_within(
     ensures made { IfOk result (λ html. (markdown : MarkdownOptions)
         → AreChosenFor markdown within.now.options.now → IsMadeOver markdown text.now html) }
     ensures tokens { IfOk result IsSafelyTokenized }
+    ensures printed { IfOk result IsPrinted }
     ensures contained { IfOk result IsContained }
     ensures tree { IfOk result IsBuiltAsRead }
     ensures nesting { IfOk result (NestsWithin (2 * most_depth + 5)) }

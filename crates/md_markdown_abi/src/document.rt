@@ -10,7 +10,7 @@ use crate::failure::MarkdownFailure;
 /// # Errors
 ///
 /// Reports how many bytes it has if these are more, or from which byte it isn't UTF-8.
-pub(crate) fn read_document(bytes: &[u8], most: usize) -> Result<&str, MarkdownFailure>
+pub fn read_document(bytes: &[u8], most: usize) -> Result<&str, MarkdownFailure>
     ensures ok { IfOk result (λ text. (text.now ≡ bytes.now) × IsUtf8 bytes.now) }
     ensures fits { IfOk result (λ _. length bytes.now ≤ most) }
     ensures err { IfErr result (IsDocumentFault bytes.now most) }

@@ -14,7 +14,7 @@ use md_markdown::{DocumentHtml, Limits, MarkdownOptions};
 use std::alloc::Global;
 
 /// The version of the C interface for Markdown: the options' layout, and every number.
-const VERSION: u32 = 4;
+pub const VERSION: u32 = 4;
 
 /// The work limit that selects [`work_by_length`].
 const BY_LENGTH: usize = 18_446_744_073_709_551_614;

@@ -113,7 +113,8 @@ written-safe text links images =
       pieces = pieces_of f [];
       sound = plain-sound f [] (forest-plain f h) refl refl;
       written_so = whole-written f ∙ links.reading.written_so;
-      listed = grind (arith, forest-passes, all-weaker, beside, forest-listed);
+      listed = forest-passes is_listed_beside f refl
+          (all-weaker is_listed is_listed_beside beside (tokens f) (forest-listed f h));
       safe_links = grind (arith, forest-passes, all-tokens, links-pass);
       safe_images = grind (arith, forest-passes, all-tokens, images-pass);
     }

@@ -63,12 +63,12 @@ page-emitted title body w x h =
       only = λ other k. one_run Data (with_line_feeds text) other emits k runs;
       safe_links =
           all-append has_safe_links (map Character (shown title)) (after_title x)
-          (all-characters has_safe_links is_safe_link links-pass (shown title))
+          (all-characters has_safe_links links-pass.characters (shown title))
           (on-all has_safe_links x after_body
           (subst (λ y. list_all has_safe_links y ≡ true) (sym same) w.safe_links) refl);
       safe_images =
           all-append has_safe_images (map Character (shown title)) (after_title x)
-          (all-characters has_safe_images is_safe_image images-pass (shown title))
+          (all-characters has_safe_images images-pass.characters (shown title))
           (on-all has_safe_images x after_body
           (subst (λ y. list_all has_safe_images y ≡ true) (sym same) w.safe_images) refl);
     }

@@ -59,7 +59,7 @@ are_plain (a ∷ rest) = is_name a.name && (is_escaped a.value
 
 -- the names of void tags
 abbrev pub void_names : List (List ℕ)
-void_names = codes "br" ∷ codes "hr" ∷ codes "img" ∷ codes "input" ∷ []
+void_names = codes "br" ∷ codes "hr" ∷ codes "img" ∷ codes "input" ∷ codes "wbr" ∷ []
 
 -- the first piece is a text
 abbrev pub begins_with_words : List Piece → Bool

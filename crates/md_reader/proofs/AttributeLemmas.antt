@@ -1,8 +1,9 @@
 -- Attributes, one after another.
-use Rattle.std.proofs.Common.{arith, ◌≡◌, ◌≢◌, ℕ, suc, ◌<◌, ◌==◌, Bool, true, false, not, ◌||◌, ◌&&◌}
+use Rattle.std.proofs.Common.{arith, ◌≡◌, ◌≢◌, ℕ, suc, ◌<◌, ◌==◌, Bool, true, false, not, ◌||◌}
+use Rattle.std.proofs.Common.{◌&&◌}
 use Rattle.std.proofs.Common.{List, [], ◌∷◌, ◌++◌, length, refl, sym, ap, ◌∙◌, subst, append_assoc}
 use Rattle.std.proofs.Common.{inl, inr, ◌⊎◌, Some, None, Option, option_map, bytes_eq, get_or}
-use Rattle.std.proofs.Common.{eqb-true, zero, take, map, MatchOption}
+use Rattle.std.proofs.Common.{eqb-true, zero, take, map, MatchOption, is_some}
 use denote.Ref.{Bor}
 use Rattle.std.specs.List.{list_all, list_any}
 use Rattle.std.specs.Option.{option_map_or}
@@ -20,8 +21,9 @@ use Rattle.md_reader.specs.Attributes.{index_of, is_unseen, without, are_left, E
 use Rattle.md_reader.specs.Attributes.{AreAttributes, IsAttribute, IsAttributeAt}
 use Rattle.md_reader.specs.Names.{listed}
 use Rattle.md_reader.specs.declared.names.Listed.{Listed}
-use Rattle.md_reader.specs.declared.names.Listed.TheVariants.{Nothing, OfCode, OfList, OfItem}
-use Rattle.md_reader.specs.declared.names.Listed.TheVariants.{OfSecond, OfCell, OfSection, OfLink}
+use Rattle.md_reader.specs.declared.names.Listed.TheVariants.{Shared, OfBlock, OfRow, OfCell}
+use Rattle.md_reader.specs.declared.names.Listed.TheVariants.{OfTable, OfCode, OfList, OfSecond}
+use Rattle.md_reader.specs.declared.names.Listed.TheVariants.{OfDetails, OfSection, OfLink}
 use Rattle.md_reader.specs.declared.names.Listed.TheVariants.{OfImage, OfInput}
 use Rattle.md_reader.specs.Runs.{IsRun}
 use Rattle.md_reader.specs.SplitNames.{begins_name, IsSplitName}
@@ -434,12 +436,15 @@ twice names seen name i is was e =
     lie (sym (ap (λ o. option_map_or (λ i. not (get_or seen i false)) o false) is ∙ ap not was) ∙ e)
 
 pub listed-named : (list : Listed) → list_all (list_all is_name_byte) (listed list) ≡ true
-listed-named Nothing = refl
+listed-named Shared = refl
+listed-named OfBlock = refl
+listed-named OfRow = refl
+listed-named OfCell = refl
+listed-named OfTable = refl
 listed-named OfCode = refl
 listed-named OfList = refl
-listed-named OfItem = refl
 listed-named OfSecond = refl
-listed-named OfCell = refl
+listed-named OfDetails = refl
 listed-named OfSection = refl
 listed-named OfLink = refl
 listed-named OfImage = refl
@@ -525,3 +530,16 @@ index-none (n ∷ names) name none =
     let parts = or-parts (bytes_eq name n.now)
     (list_any (λ other. bytes_eq name other.now) names) none in
     rw parts.0 (ap (λ o. option_map (λ j. suc j) o) (index-none names name parts.1))
+
+-- a name has an index exactly if it is listed
+pub index-some : (names : List (List ℕ)) (name : List ℕ) →
+    is_some (index_of names name) ≡ is_one_of names name
+index-some [] name = refl
+index-some (n ∷ names) name = elim (cases_Bool (bytes_eq name n)) [
+  | inl e ↦ rw e refl
+  | inr e ↦ rw e (later (index_of names name) ∙ index-some names name)
+]
+  where
+    later : (o : Option ℕ) → is_some (option_map (λ j. suc j) o) ≡ is_some o
+    later None = refl
+    later (Some j) = refl

@@ -11,7 +11,7 @@ use Rattle.md_text.specs.Bytes.{is_one_of}
 use Rattle.md_text.specs.References.{is_escaped}
 use Rattle.md_text.specs.Html.{Attribute, Forest, Empty, Text, Void, Element, written}
 use Rattle.md_text.specs.Html.{written_attributes, is_forest, is_tag, are_attributes, elements}
-use Rattle.md_text.specs.Html.{void_tags, begins_with_text, all_attributes}
+use Rattle.md_text.specs.Html.{void_tags, begins_with_text}
 use Rattle.md_text.specs.HtmlName.{is_name_byte, is_name}
 use Rattle.md_text.proofs.HtmlNames.{no_angle}
 use Rattle.md_text.proofs.HtmlSplit.{stops, split}
@@ -24,6 +24,7 @@ use Rattle.md_reader.specs.Attributes.{AreAttributes}
 use Rattle.md_reader.specs.Names.{has_rule}
 use Rattle.md_reader.specs.SplitNames.{IsSplitName}
 use Rattle.md_reader.specs.Levels.{EndsText, IsEnd, IsLevel}
+use Rattle.md_reader.specs.Tests.{Test, all_pass}
 use Rattle.md_reader.proofs.Runs.{same-run}
 use Rattle.md_reader.proofs.AttributeLemmas.{left-listed, stops-name}
 
@@ -67,9 +68,9 @@ text-alone (Void name attributes more) rest end inside is ends = refl
 text-alone (Element name attributes inner more) rest end inside is ends = refl
 
 -- ---- no node
-pub level-none : (p : Attribute → Bool) (content : contents.Content) (depth : ℕ) (text : List ℕ) →
-    IsLevel p content depth text text
-level-none p content depth text = record {
+pub level-none : (t : Test) (content : contents.Content) (depth : ℕ) (text : List ℕ) →
+    IsLevel t content depth text text
+level-none t content depth text = record {
   forest = Empty;
   is = refl;
   inside = refl;
@@ -84,9 +85,9 @@ tag-not-end : (name tail text : List ℕ) → is_name name ≡ true → IsEnd te
 tag-not-end name tail text named ends e = grind arith
 
 -- what stands at the end of a level has no node
-pub level-end : (p : Attribute → Bool) (content : contents.Content) (depth : ℕ)
-    (text end : List ℕ) → IsEnd text → IsLevel p content depth text end → text ≡ end
-level-end p content depth text end ends level = at level.forest level.is level.inside
+pub level-end : (t : Test) (content : contents.Content) (depth : ℕ)
+    (text end : List ℕ) → IsEnd text → IsLevel t content depth text end → text ≡ end
+level-end t content depth text end ends level = at level.forest level.is level.inside
   where
     begins : (name more : List ℕ) → is_name name ≡ true →
         text ≡ (60 ∷ (name ++ more)) ++ end → text ≡ end
@@ -109,11 +110,11 @@ level-end p content depth text end ends level = at level.forest level.is level.i
         ∷ (name ++ (62 ∷ written more)))))) parts.tidy.0 is
 
 -- ---- a text
-pub level-text : (p : Attribute → Bool) (content : contents.Content) (depth : ℕ)
+pub level-text : (t : Test) (content : contents.Content) (depth : ℕ)
     (text front rest end : List ℕ) → IsRun text front rest → is_nonempty front ≡ true →
-    may_say content front ≡ true → EndsText rest → IsLevel p content depth rest end →
-    IsLevel p content depth text end
-level-text p content depth text front rest end run filled says ends level =
+    may_say content front ≡ true → EndsText rest → IsLevel t content depth rest end →
+    IsLevel t content depth text end
+level-text t content depth text front rest end run filled says ends level =
     let alone = text-alone level.forest rest end level.inside level.is ends in
     record {
       forest = Text front level.forest;
@@ -129,23 +130,23 @@ level-text p content depth text front rest end run filled says ends level =
       shallow = level.shallow;
     }
 
-pub record TextFacts (p : Attribute → Bool) (content : contents.Content) (depth : ℕ)
+pub record TextFacts (t : Test) (content : contents.Content) (depth : ℕ)
     (front rest end : List ℕ) : Type 0 where
   pub filled : is_nonempty front ≡ true
   pub says : may_say content front ≡ true
   pub ends : EndsText rest
-  pub level : IsLevel p content depth rest end
+  pub level : IsLevel t content depth rest end
 
-pub text-facts : (p : Attribute → Bool) (content : contents.Content) (depth : ℕ)
+pub text-facts : (t : Test) (content : contents.Content) (depth : ℕ)
     (text front rest end : List ℕ) → IsRun text front rest → (IsEnd text → ⊥) →
-    ((tag : List ℕ) → text ≡ 60 ∷ tag → ⊥) → IsEnd end → IsLevel p content depth text end →
-    TextFacts p content depth front rest end
-text-facts p content depth text front rest end run on no_tag ends level =
+    ((tag : List ℕ) → text ≡ 60 ∷ tag → ⊥) → IsEnd end → IsLevel t content depth text end →
+    TextFacts t content depth front rest end
+text-facts t content depth text front rest end run on no_tag ends level =
     at level.forest level.is level.inside level.contained level.passes level.shallow
   where
     at : (f : Forest) → text ≡ written f ++ end → is_forest f ≡ true →
-        is_contained false content f ≡ true → all_attributes p f ≡ true → levels f ≤ depth →
-        TextFacts p content depth front rest end
+        is_contained false content f ≡ true → all_pass t f ≡ true → levels f ≤ depth →
+        TextFacts t content depth front rest end
     at Empty is inside contained passes shallow = absurd (on (subst IsEnd (sym is) ends))
     at (Void name attributes more) is inside contained passes shallow = absurd (no_tag _ is)
     at (Element name attributes inner more) is inside contained passes shallow =
@@ -177,18 +178,19 @@ text-facts p content depth text front rest end run on no_tag ends level =
         }
 
 -- ---- tags
-pub record VoidFacts (p : Attribute → Bool) (content : contents.Content) (depth : ℕ)
+pub record VoidFacts (t : Test) (content : contents.Content) (depth : ℕ)
     (name text end : List ℕ) : Type 0 where
   pub attributes : List Attribute
   pub later : List ℕ
   pub is : text ≡ written_attributes attributes ++ (32 ∷ 47 ∷ 62 ∷ later)
   pub tag : is_tag void_tags name attributes ≡ true
-  pub passes : list_all p attributes ≡ true
+  pub named : t.tag name ≡ true
+  pub passes : list_all t.attribute attributes ≡ true
   pub allowed : is_one_of (voids_in content) name ≡ true
   pub deep : 1 ≤ depth
-  pub level : IsLevel p content depth later end
+  pub level : IsLevel t content depth later end
 
-pub record ElementFacts (p : Attribute → Bool) (content : contents.Content) (depth : ℕ)
+pub record ElementFacts (t : Test) (content : contents.Content) (depth : ℕ)
     (name text end : List ℕ) : Type 0 where
   pub attributes : List Attribute
   pub children : List ℕ
@@ -196,11 +198,12 @@ pub record ElementFacts (p : Attribute → Bool) (content : contents.Content) (d
   pub held : contents.Content
   pub is : text ≡ written_attributes attributes ++ (62 ∷ children)
   pub tag : is_tag elements name attributes ≡ true
-  pub passes : list_all p attributes ≡ true
+  pub named : t.tag name ≡ true
+  pub passes : list_all t.attribute attributes ≡ true
   pub allowed : held_in false content name ≡ Some held
   pub deep : 1 ≤ depth
-  pub inner : IsLevel p held (depth - 1) children (60 ∷ 47 ∷ (name ++ (62 ∷ later)))
-  pub level : IsLevel p content depth later end
+  pub inner : IsLevel t held (depth - 1) children (60 ∷ 47 ∷ (name ++ (62 ∷ later)))
+  pub level : IsLevel t content depth later end
 
 after_open : (x y : List ℕ) → 60 ∷ x ≡ 60 ∷ y → x ≡ y
 after_open x y e = cc
@@ -218,17 +221,17 @@ some-passes : {A : Type 0} (f : A → Bool) (o : Option A) → option_map_or f o
 some-passes f None h = lie h
 some-passes f (Some x) h = (x, refl, h)
 
-pub tag-facts : (p : Attribute → Bool) (content : contents.Content) (depth : ℕ)
+pub tag-facts : (t : Test) (content : contents.Content) (depth : ℕ)
     (name text end : List ℕ) → IsSplitName (name ++ text) name text →
     (IsEnd (60 ∷ (name ++ text)) → ⊥) → IsEnd end →
-    IsLevel p content depth (60 ∷ (name ++ text)) end →
-    VoidFacts p content depth name text end ⊎ ElementFacts p content depth name text end
-tag-facts p content depth name text end cut on ends level =
+    IsLevel t content depth (60 ∷ (name ++ text)) end →
+    VoidFacts t content depth name text end ⊎ ElementFacts t content depth name text end
+tag-facts t content depth name text end cut on ends level =
     at level.forest level.is level.inside level.contained level.passes level.shallow
   where
     at : (f : Forest) → 60 ∷ (name ++ text) ≡ written f ++ end → is_forest f ≡ true →
-        is_contained false content f ≡ true → all_attributes p f ≡ true → levels f ≤ depth →
-        VoidFacts p content depth name text end ⊎ ElementFacts p content depth name text end
+        is_contained false content f ≡ true → all_pass t f ≡ true → levels f ≤ depth →
+        VoidFacts t content depth name text end ⊎ ElementFacts t content depth name text end
     at Empty is inside contained passes shallow = absurd (on (subst IsEnd (sym is) ends))
     at (Text bytes more) is inside contained passes shallow =
         let parts = text_parts bytes more inside in
@@ -244,13 +247,16 @@ tag-facts p content depth name text end cut on ends level =
         let tags = and_parts (is_tag void_tags other attributes) (is_forest more) inside in
         let places = and_parts (is_one_of (voids_in content) other)
         (is_contained false content more) contained in
-        let tests = and_parts (list_all p attributes) (all_attributes p more) passes in
+        let tests = and_parts (t.tag other && list_all t.attribute attributes) (all_pass t more)
+        passes in
+        let own = and_parts (t.tag other) (list_all t.attribute attributes) tests.0 in
         inl (record {
           attributes = attributes;
           later = later;
           is = same.1;
           tag = subst (λ n. is_tag void_tags n attributes ≡ true) (sym same.0) tags.0;
-          passes = tests.0;
+          named = subst (λ n. t.tag n ≡ true) (sym same.0) own.0;
+          passes = own.1;
           allowed = subst (λ n. is_one_of (voids_in content) n ≡ true) (sym same.0) places.0;
           deep = omega (arith, shallow);
           level = record {
@@ -277,9 +283,11 @@ tag-facts p content depth name text end cut on ends level =
         (held_in false content other) false) (is_contained false content more) contained in
         let held = some-passes (λ held. is_contained false held inner)
         (held_in false content other) places.0 in
-        let tests = and_parts (list_all p attributes && all_attributes p inner)
-        (all_attributes p more) passes in
-        let own = and_parts (list_all p attributes) (all_attributes p inner) tests.0 in
+        let tests = and_parts (t.tag other && list_all t.attribute attributes && all_pass t inner)
+        (all_pass t more) passes in
+        let within = and_parts (t.tag other && list_all t.attribute attributes)
+        (all_pass t inner) tests.0 in
+        let own = and_parts (t.tag other) (list_all t.attribute attributes) within.0 in
         inr (record {
           attributes = attributes;
           children = written inner ++ (60 ∷ 47 ∷ (other ++ (62 ∷ later)));
@@ -287,7 +295,8 @@ tag-facts p content depth name text end cut on ends level =
           held = held.0;
           is = same.1;
           tag = subst (λ n. is_tag elements n attributes ≡ true) (sym same.0) tags.0;
-          passes = own.0;
+          named = subst (λ n. t.tag n ≡ true) (sym same.0) own.0;
+          passes = own.1;
           allowed = subst (λ n. held_in false content n ≡ Some held.0) (sym same.0) held.1;
           deep = omega (arith, shallow);
           inner = record {
@@ -295,7 +304,7 @@ tag-facts p content depth name text end cut on ends level =
             is = ap (λ n. written inner ++ (60 ∷ 47 ∷ (n ++ (62 ∷ later)))) (sym same.0);
             inside = tags.1;
             contained = held.2;
-            passes = own.1;
+            passes = within.1;
             shallow = omega (arith, shallow);
           };
           level = record {
@@ -319,19 +328,19 @@ tag-rule (rule ∷ rules) name x h = elim (cases_Bool (bytes_eq rule.0 name)) [
 ]
 
 -- the attributes that a tag may have
-pub listed-are : (p : Attribute → Bool) (list : List (List ℕ)) (x : List Attribute)
+pub listed-are : (t : Test) (list : List (List ℕ)) (x : List Attribute)
     (text end : List ℕ) → text ≡ written_attributes x ++ end → are_attributes list x ≡ true →
-    list_all p x ≡ true → AreAttributes p (is_one_of list) text end
-listed-are p list x text end is listed passes =
+    list_all t.attribute x ≡ true → AreAttributes t.attribute (is_one_of list) text end
+listed-are t list x text end is listed passes =
     record { attributes = x; is = is; fresh = left-listed list x ∙ listed; passes = passes }
 
-pub level-void : (p : Attribute → Bool) (content : contents.Content) (depth : ℕ)
+pub level-void : (t : Test) (content : contents.Content) (depth : ℕ)
     (list : List (List ℕ)) (name text later end : List ℕ) →
-    is_one_of (voids_in content) name ≡ true → 1 ≤ depth →
+    is_one_of (voids_in content) name ≡ true → 1 ≤ depth → t.tag name ≡ true →
     ((x : List Attribute) → are_attributes list x ≡ true → is_tag void_tags name x ≡ true) →
-    AreAttributes p (is_one_of list) text (32 ∷ 47 ∷ 62 ∷ later) →
-    IsLevel p content depth later end → IsLevel p content depth (60 ∷ (name ++ text)) end
-level-void p content depth list name text later end allowed deep tag are level =
+    AreAttributes t.attribute (is_one_of list) text (32 ∷ 47 ∷ 62 ∷ later) →
+    IsLevel t content depth later end → IsLevel t content depth (60 ∷ (name ++ text)) end
+level-void t content depth list name text later end allowed deep named tag are level =
     let x = are.attributes in
     record {
       forest = Void name x level.forest;
@@ -342,19 +351,20 @@ level-void p content depth list name text later end allowed deep tag are level =
           (tag x (sym (left-listed list x) ∙ are.fresh)) level.inside;
       contained = and_from (is_one_of (voids_in content) name)
           (is_contained false content level.forest) allowed level.contained;
-      passes = and_from (list_all p x) (all_attributes p level.forest) are.passes level.passes;
+      passes = and_from (t.tag name && list_all t.attribute x) (all_pass t level.forest)
+          (and_from (t.tag name) (list_all t.attribute x) named are.passes) level.passes;
       shallow = omega (arith, deep, level.shallow);
     }
 
-pub level-element : (p : Attribute → Bool) (content held : contents.Content) (depth : ℕ)
+pub level-element : (t : Test) (content held : contents.Content) (depth : ℕ)
     (list : List (List ℕ)) (name text children later end : List ℕ) →
-    held_in false content name ≡ Some held → 1 ≤ depth →
+    held_in false content name ≡ Some held → 1 ≤ depth → t.tag name ≡ true →
     ((x : List Attribute) → are_attributes list x ≡ true → is_tag elements name x ≡ true) →
-    AreAttributes p (is_one_of list) text (62 ∷ children) →
-    IsLevel p held (depth - 1) children (60 ∷ 47 ∷ (name ++ (62 ∷ later))) →
-    IsLevel p content depth later end → IsLevel p content depth (60 ∷ (name ++ text)) end
-level-element p content held depth list name text children later end allowed deep tag are inner
-    level =
+    AreAttributes t.attribute (is_one_of list) text (62 ∷ children) →
+    IsLevel t held (depth - 1) children (60 ∷ 47 ∷ (name ++ (62 ∷ later))) →
+    IsLevel t content depth later end → IsLevel t content depth (60 ∷ (name ++ text)) end
+level-element t content held depth list name text children later end allowed deep named tag are
+    inner level =
     let x = are.attributes in
     record {
       forest = Element name x inner.forest level.forest;
@@ -369,8 +379,9 @@ level-element p content held depth list name text children later end allowed dee
           (held_in false content name) false) (is_contained false content level.forest)
           (ap (λ o. option_map_or (λ held. is_contained false held inner.forest) o false) allowed
           ∙ inner.contained) level.contained;
-      passes = and_from (list_all p x && all_attributes p inner.forest)
-          (all_attributes p level.forest) (and_from (list_all p x) (all_attributes p inner.forest)
-          are.passes inner.passes) level.passes;
+      passes = and_from (t.tag name && list_all t.attribute x && all_pass t inner.forest)
+          (all_pass t level.forest) (and_from (t.tag name && list_all t.attribute x)
+          (all_pass t inner.forest) (and_from (t.tag name) (list_all t.attribute x) named
+          are.passes) inner.passes) level.passes;
       shallow = omega (arith, deep, inner.shallow, level.shallow);
     }

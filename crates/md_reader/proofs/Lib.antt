@@ -1,6 +1,9 @@
 pub mod AttributeLemmas
+pub mod ContentLemmas
 pub mod LevelLemmas
 pub mod NodeLemmas
 pub mod Permitting
+pub mod PieceLemmas
 pub mod Runs
 pub mod SafeLemmas
+pub mod ScannedIds

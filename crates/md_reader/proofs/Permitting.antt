@@ -1,6 +1,8 @@
 -- A permitted protocol, one listed name after another.
-use Rattle.std.proofs.Common.{arith, ◌≡◌, ℕ, ◌==◌, Bool, true, false, not, ◌||◌, ◌&&◌, List, [], ◌∷◌}
-use Rattle.std.proofs.Common.{refl, ap, ◌∙◌, inl, inr, Some, None, Option, option_map, bytes_eq, map}
+use Rattle.std.proofs.Common.{arith, ◌≡◌, ℕ, ◌==◌, Bool, true, false, not, ◌||◌, ◌&&◌, List, []}
+use Rattle.std.proofs.Common.{◌∷◌}
+use Rattle.std.proofs.Common.{refl, ap, ◌∙◌, inl, inr, Some, None, Option, option_map, bytes_eq}
+use Rattle.std.proofs.Common.{map}
 use denote.Ref.{Bor}
 use Rattle.std.specs.Prelude.{is_some}
 use Rattle.std.specs.Option.{option_map_or}

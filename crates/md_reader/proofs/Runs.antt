@@ -1,13 +1,17 @@
 -- Escaped text is split in one way into its longest beginning and a rest.
 use Rattle.std.proofs.Common.{arith, ◌≡◌, ℕ, ◌==◌, Bool, true, false, not, ◌||◌}
 use Rattle.std.proofs.Common.{List, [], ◌∷◌, ◌++◌, refl, sym, ap, ◌∙◌, subst}
-use Rattle.std.proofs.Common.{append_assoc, inl, inr, codes}
+use Rattle.std.proofs.Common.{append_assoc, inl, inr, codes, take, drop}
+use Rattle.std.proofs.lemmas.List.{take-append-drop}
+use Rattle.std.specs.List.{prefix_len}
 use Rattle.std.proofs.Common.{if◌then◌else◌}
 use Rattle.std.proofs.lemmas.Bool.{or_from, or_parts, and_parts, and_from, cases_Bool}
 use Rattle.md_base.proofs.Lies.{lie}
 use Rattle.md_text.specs.References.{is_escaped, is_escaped_byte, begins_with, read_back}
 use Rattle.md_text.proofs.EscapedLemmas.{completes_reference, completes-any, escaped-append}
-use Rattle.md_reader.specs.Runs.{is_plain, begins_escaped, IsEscapedBefore, IsReference}
+use Rattle.md_text.proofs.KeptLemmas.{next}
+use Rattle.md_reader.specs.Runs.{begins_plain, is_plain, begins_escaped, IsEscapedBefore}
+use Rattle.md_reader.specs.Runs.{IsReference}
 
 -- ---- bytes
 pub escaped-plain : (b : ℕ) (front : List ℕ) → is_plain b ≡ true → is_escaped_byte b front ≡ true
@@ -21,6 +25,25 @@ escaped-plain b front e = by-tests (b == 0) (b == 60) (b == 62) (b == 34) (b == 
     by-tests false false false true t u e = lie e
     by-tests false false false false true u e = lie e
     by-tests false false false false false u e = refl
+
+-- the plain bytes that a text begins with are escaped, and no plain byte follows them
+plain-front : (text : List ℕ) → is_escaped (take (prefix_len is_plain text) text) ≡ true
+plain-front [] = refl
+plain-front (b ∷ rest) = elim (cases_Bool (is_plain b)) [
+  | inl e ↦
+      let front = take (prefix_len is_plain rest) rest in
+      rw e (rw (← next (prefix_len is_plain rest))
+      (and_from (is_escaped_byte b front) _ (escaped-plain b front e) (plain-front rest)))
+  | inr e ↦ rw e refl
+]
+
+pub plain-stops : (text : List ℕ) →
+    begins_plain (drop (prefix_len is_plain text) text) ≡ false
+plain-stops [] = refl
+plain-stops (b ∷ rest) = elim (cases_Bool (is_plain b)) [
+  | inl e ↦ rw e (rw (← next (prefix_len is_plain rest)) (plain-stops rest))
+  | inr e ↦ rw e e
+]
 
 -- ---- what follows
 begins-append : (start text more : List ℕ) → begins_with start text ≡ true →
@@ -71,12 +94,12 @@ before-then text rest later first next = record {
   escaped = escaped-append first.front next.front first.escaped next.escaped;
 }
 
-pub before-plain : (text : List ℕ) (b : ℕ) (rest : List ℕ) → text ≡ b ∷ rest →
-    is_plain b ≡ true → IsEscapedBefore text rest
-before-plain text b rest is e = record {
-  front = b ∷ [];
-  is = is;
-  escaped = and_from (is_escaped_byte b []) true (escaped-plain b [] e) refl;
+-- the plain bytes that a text begins with
+pub before-plain : (text : List ℕ) → IsEscapedBefore text (drop (prefix_len is_plain text) text)
+before-plain text = record {
+  front = take (prefix_len is_plain text) text;
+  is = sym (take-append-drop (prefix_len is_plain text) text);
+  escaped = plain-front text;
 }
 
 pub before-reference : (text after : List ℕ) (character : ℕ) (rest : List ℕ) →

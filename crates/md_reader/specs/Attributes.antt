@@ -14,7 +14,8 @@ index_of (first ∷ names) name =
 
 -- a list has a name at an index at which none was seen
 abbrev pub is_unseen : List (List ℕ) → List Bool → List ℕ → Bool
-is_unseen names seen name = option_map_or (λ i. not (get_or seen i false)) (index_of names name) false
+is_unseen names seen name = option_map_or (λ i. not (get_or seen i false))
+    (index_of names name) false
 
 -- the names that are left once this one was read
 abbrev pub without : (List ℕ → Bool) → List ℕ → List ℕ → Bool

@@ -1,10 +1,15 @@
 pub mod Allowed
 pub mod Attributes
+pub mod Authors
 pub mod Begun
+pub mod Chosen
 pub mod Levels
 pub mod Named
 pub mod Names
 pub mod Permitted
+pub mod Pieces
 pub mod Runs
 pub mod Safe
+pub mod ScannedIds
 pub mod SplitNames
+pub mod Tests

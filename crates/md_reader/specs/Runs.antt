@@ -6,6 +6,10 @@ use Rattle.md_text.specs.References.{is_escaped, is_escaped_byte, read_back}
 abbrev pub is_plain : ℕ → Bool
 is_plain b = not ((b == 0) || (b == 60) || (b == 62) || (b == 34) || (b == 38))
 
+-- a text begins with such a byte
+abbrev pub begins_plain : List ℕ → Bool
+begins_plain text = elim text [ b ∷ rest ↦ is_plain b | _ ↦ false ]
+
 -- the first byte of a text is escaped, given the bytes after it
 abbrev pub begins_escaped : List ℕ → Bool
 begins_escaped text = elim text [ b ∷ rest ↦ is_escaped_byte b rest | _ ↦ false ]

@@ -5,27 +5,23 @@ ghost use Rattle.std.specs.Prelude.{true, false};
 ghost use Rattle.md_text.specs.Bytes.{is_one_of};
 ghost use Rattle.md_text.specs.HtmlName.{is_name_byte};
 ghost use Rattle.md_reader.specs.Names.{listed};
-ghost use Rattle.md_reader.specs.Permitted.{permits};
+ghost use Rattle.md_reader.specs.Tests.{test_of};
 ghost use Rattle.md_reader.specs.Attributes.{AreAttributes, EndsAttributes, IsAttribute};
 ghost use Rattle.md_reader.specs.Attributes.{IsAttributeAt, is_unseen};
 ghost use Rattle.md_reader.specs.SplitNames.{IsSplitName};
 
 use crate::names::Listed;
 use crate::places::{MOST, place};
-use crate::protocol::{Protocols, is_permitted};
+use crate::rules::{Rules, may_have_attribute};
 use crate::run::{past, split_escaped};
 
 /// The text after a tag's attributes.
-pub(crate) fn past_attributes<'a>(
-    protocols: Protocols,
-    list: Listed,
-    text: &'a [u8],
-) -> Option<&'a [u8]>
+pub(crate) fn past_attributes<'a>(rules: &Rules, list: Listed, text: &'a [u8]) -> Option<&'a [u8]>
     ensures are { IfSome result (λ rest.
-        AreAttributes (permits protocols.entry) (is_one_of (listed list)) text.now rest.now) }
+        AreAttributes (test_of rules.now).attribute (is_one_of (listed list)) text.now rest.now) }
     ensures ends { IfSome result (λ rest. EndsAttributes rest.now) }
     ensures only { (end : List ℕ) → EndsAttributes end
-        → AreAttributes (permits protocols.entry) (is_one_of (listed list)) text.now end
+        → AreAttributes (test_of rules.now).attribute (is_one_of (listed list)) text.now end
         → MatchOption result ⊥ (λ rest. rest.now ≡ end) }
     ensures shorter { IfSome result (λ rest. length rest.now ≤ length text.now) }
 {
@@ -36,7 +32,7 @@ pub(crate) fn past_attributes<'a>(
             return Some(rest);
         }
         let after = past(b" ", rest)?;
-        let (place, later) = past_attribute(protocols, list, &seen, after)?;
+        let (place, later) = past_attribute(rules, list, &seen, after)?;
         seen[place] = true;
         rest = later;
     }
@@ -54,18 +50,20 @@ fn is_end(text: &[u8]) -> bool
 /// The index in its list of the attribute that comes next, if none was seen with this name, and the
 /// text after it.
 fn past_attribute<'a>(
-    protocols: Protocols,
+    rules: &Rules,
     list: Listed,
     seen: &[bool; MOST],
     text: &'a [u8],
 ) -> Option<(usize, &'a [u8])>
     ensures is { MatchOption result
         ((name rest : List ℕ)
-        → IsAttribute (permits protocols.entry) (is_unseen (listed list) seen.now) name text.now rest
+        → IsAttribute (test_of rules.now).attribute (is_unseen
+        (listed list) seen.now) name text.now rest
         → ⊥)
-        (λ found. IsAttributeAt (permits protocols.entry) (listed list) seen.now found.0 text.now
+        (λ found. IsAttributeAt (test_of rules.now).attribute
+        (listed list) seen.now found.0 text.now
         found.1.now) }
-    ensures within { IfSome result (λ found. found.0 < 8) }
+    ensures within { IfSome result (λ found. found.0 < 11) }
     ensures shorter { IfSome result (λ found. length found.1.now < length text.now) }
 {
     let (name, after) = split_name(text);
@@ -74,7 +72,7 @@ fn past_attribute<'a>(
         return None;
     }
     let (value, after_value) = split_escaped(past(b"=\"", after)?);
-    if !is_permitted(protocols, name, value) {
+    if !may_have_attribute(rules, name, value) {
         return None;
     }
     let rest = past(b"\"", after_value)?;

@@ -78,9 +78,28 @@ fn span(held: Content, name: &[u8]) -> Option<Allowed>
         (λ found. IsAllowed (spans_of (content_of held)) name.now found) }
 {
     match name {
-        b"em" | b"strong" | b"del" | b"sup" => Some(Allowed {
+        b"em"
+        | b"strong"
+        | b"del"
+        | b"sup"
+        | b"b"
+        | b"i"
+        | b"u"
+        | b"s"
+        | b"small"
+        | b"sub"
+        | b"span"
+        | b"kbd"
+        | b"samp"
+        | b"var"
+        | b"q"
+        | b"cite"
+        | b"abbr"
+        | b"dfn"
+        | b"ins"
+        | b"mark" => Some(Allowed {
             content: held,
-            list: Listed::Nothing,
+            list: Listed::Shared,
         }),
         b"code" => Some(Allowed {
             content: Content::Characters,
@@ -98,11 +117,11 @@ fn block(name: &[u8]) -> Option<Allowed>
 {
     match container(name) {
         Some(found) => Some(found),
-        None => paragraph(name),
+        None => division(name),
     }
 }
 
-/// The same for blocks that contain no spans.
+/// The same for lists, tables, preformatted code, quotes and sections.
 fn container(name: &[u8]) -> Option<Allowed>
     ensures { MatchOption result
         (held_among (take 6 block_elements) name.now ≡ None)
@@ -111,13 +130,13 @@ fn container(name: &[u8]) -> Option<Allowed>
     if is_same(name, b"blockquote") {
         return Some(Allowed {
             content: Content::Flow,
-            list: Listed::Nothing,
+            list: Listed::Shared,
         });
     }
     match name {
         b"ul" => Some(Allowed {
             content: Content::Items,
-            list: Listed::Nothing,
+            list: Listed::Shared,
         }),
         b"ol" => Some(Allowed {
             content: Content::Items,
@@ -125,11 +144,11 @@ fn container(name: &[u8]) -> Option<Allowed>
         }),
         b"pre" => Some(Allowed {
             content: Content::Preformatted,
-            list: Listed::Nothing,
+            list: Listed::Shared,
         }),
         b"table" => Some(Allowed {
             content: Content::Parts,
-            list: Listed::Nothing,
+            list: Listed::OfTable,
         }),
         b"section" => Some(Allowed {
             content: Content::Flow,
@@ -139,17 +158,51 @@ fn container(name: &[u8]) -> Option<Allowed>
     }
 }
 
-/// The same for paragraphs and headings.
-fn paragraph(name: &[u8]) -> Option<Allowed>
+/// The same for the other blocks.
+fn division(name: &[u8]) -> Option<Allowed>
     ensures { MatchOption result
         (held_among (drop 6 block_elements) name.now ≡ None)
         (λ found. IsAllowed (drop 6 block_elements) name.now found) }
+{
+    match of_authors(name) {
+        Some(found) => Some(found),
+        None => paragraph(name),
+    }
+}
+
+/// The same for blocks that authors alone write.
+fn of_authors(name: &[u8]) -> Option<Allowed>
+    ensures { MatchOption result
+        (held_among (take 5 (drop 6 block_elements)) name.now ≡ None)
+        (λ found. IsAllowed (take 5 (drop 6 block_elements)) name.now found) }
+{
+    let (content, list) = if is_same(name, b"div") {
+        (Content::Flow, Listed::OfBlock)
+    } else if is_same(name, b"details") {
+        (Content::Flow, Listed::OfDetails)
+    } else if is_same(name, b"summary") {
+        (Content::Phrasing, Listed::Shared)
+    } else if is_same(name, b"figure") {
+        (Content::Flow, Listed::Shared)
+    } else if is_same(name, b"figcaption") {
+        (Content::Flow, Listed::Shared)
+    } else {
+        return None;
+    };
+    Some(Allowed { content, list })
+}
+
+/// The same for paragraphs and headings.
+fn paragraph(name: &[u8]) -> Option<Allowed>
+    ensures { MatchOption result
+        (held_among (drop 11 block_elements) name.now ≡ None)
+        (λ found. IsAllowed (drop 11 block_elements) name.now found) }
 {
     match name {
         b"p" | b"h1" | b"h3" | b"h4" | b"h5" | b"h6" => {
             Some(Allowed {
                 content: Content::Phrasing,
-                list: Listed::Nothing,
+                list: Listed::OfBlock,
             })
         }
         b"h2" => Some(Allowed {
@@ -169,7 +222,7 @@ fn in_items(name: &[u8]) -> Option<Allowed>
     match name {
         b"li" => Some(Allowed {
             content: Content::Flow,
-            list: Listed::OfItem,
+            list: Listed::Shared,
         }),
         _ => None,
     }
@@ -182,9 +235,9 @@ fn in_parts(name: &[u8]) -> Option<Allowed>
         (λ found. IsAllowed (elements_in false (content_of Content.Parts)) name.now found) }
 {
     match name {
-        b"thead" | b"tbody" => Some(Allowed {
+        b"thead" | b"tbody" | b"tfoot" => Some(Allowed {
             content: Content::Rows,
-            list: Listed::Nothing,
+            list: Listed::OfRow,
         }),
         _ => None,
     }
@@ -199,7 +252,7 @@ fn in_rows(name: &[u8]) -> Option<Allowed>
     match name {
         b"tr" => Some(Allowed {
             content: Content::Cells,
-            list: Listed::Nothing,
+            list: Listed::OfRow,
         }),
         _ => None,
     }

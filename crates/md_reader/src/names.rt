@@ -9,6 +9,7 @@ ghost use Rattle.md_reader.specs.Names.{void_name, listed, has_rule};
 pub(crate) enum Void {
     Br,
     Hr,
+    Wbr,
     Img,
     Input,
 }
@@ -16,12 +17,15 @@ pub(crate) enum Void {
 /// The lists of attributes that a tag may have.
 #[derive(Clone, Copy)]
 pub(crate) enum Listed {
-    Nothing,
+    Shared,
+    OfBlock,
+    OfRow,
+    OfCell,
+    OfTable,
     OfCode,
     OfList,
-    OfItem,
     OfSecond,
-    OfCell,
+    OfDetails,
     OfSection,
     OfLink,
     OfImage,
@@ -37,6 +41,7 @@ pub(crate) fn void_named(name: &[u8]) -> Option<Void>
     match name {
         b"br" => Some(Void::Br),
         b"hr" => Some(Void::Hr),
+        b"wbr" => Some(Void::Wbr),
         b"img" => Some(Void::Img),
         b"input" => Some(Void::Input),
         _ => None,
@@ -52,8 +57,9 @@ pub(crate) fn listed_for_void(tag: Void) -> Listed
         → are_attributes (listed result) attributes ≡ true }
 {
     match tag {
-        Void::Br => Listed::Nothing,
-        Void::Hr => Listed::Nothing,
+        Void::Br => Listed::Shared,
+        Void::Hr => Listed::Shared,
+        Void::Wbr => Listed::Shared,
         Void::Img => Listed::OfImage,
         Void::Input => Listed::OfInput,
     }

@@ -5,29 +5,29 @@ ghost use Rattle.std.specs.Prelude.{true, false, None};
 ghost use Rattle.md_safe.specs.Contents.{elements_in};
 ghost use Rattle.md_reader.specs.Allowed.{content_of, held_among};
 ghost use Rattle.md_reader.specs.Begun.{IsBegun};
-ghost use Rattle.md_reader.specs.Permitted.{permits};
+ghost use Rattle.md_reader.specs.Tests.{test_of};
 ghost use Rattle.md_reader.specs.SplitNames.{IsSplitName};
 ghost use Rattle.md_reader.specs.Levels.{EndsText, IsEnd, IsLevel, IsNode, IsNoLevel};
 
 use crate::attributes::{past_attributes, split_name};
 use crate::content::{Allowed, Content, allows_void, child, may_say};
 use crate::names::{listed_for_void, void_named};
-use crate::protocol::Protocols;
+use crate::rules::{Rules, may_have_tag};
 use crate::run::{past, split_escaped};
 
 /// The text after the nodes of a content: the empty text, or one that begins with `</`.
 #[cycle(nodes)]
 pub(crate) fn past_nodes<'a>(
-    protocols: Protocols,
+    rules: &Rules,
     content: Content,
     depth: usize,
     text: &'a [u8],
 ) -> Option<&'a [u8]>
     ensures is { IfSome result (λ rest.
-        IsLevel (permits protocols.entry) (content_of content) depth text.now rest.now) }
+        IsLevel (test_of rules.now) (content_of content) depth text.now rest.now) }
     ensures ends { IfSome result (λ rest. IsEnd rest.now) }
     ensures only { (end : List ℕ) → IsEnd end
-        → IsLevel (permits protocols.entry) (content_of content) depth text.now end
+        → IsLevel (test_of rules.now) (content_of content) depth text.now end
         → MatchOption result ⊥ (λ rest. rest.now ≡ end) }
     ensures shorter { IfSome result (λ rest. length rest.now ≤ length text.now) }
 {
@@ -36,7 +36,7 @@ pub(crate) fn past_nodes<'a>(
         if is_end(rest) {
             return Some(rest);
         }
-        rest = past_node(protocols, content, depth, rest)?;
+        rest = past_node(rules, content, depth, rest)?;
     }
 }
 
@@ -51,58 +51,46 @@ fn is_end(text: &[u8]) -> bool
 
 /// The text after a node.
 #[cycle(nodes)]
-fn past_node<'a>(
-    protocols: Protocols,
-    content: Content,
-    depth: usize,
-    text: &'a [u8],
-) -> Option<&'a [u8]>
+fn past_node<'a>(rules: &Rules, content: Content, depth: usize, text: &'a [u8]) -> Option<&'a [u8]>
     requires { IsEnd text.now → ⊥ }
     ensures is { MatchOption result
-        (IsNoLevel (permits protocols.entry) (content_of content) depth text.now)
-        (λ rest. IsNode (permits protocols.entry) (content_of content) depth text.now rest.now) }
+        (IsNoLevel (test_of rules.now) (content_of content) depth text.now)
+        (λ rest. IsNode (test_of rules.now) (content_of content) depth text.now rest.now) }
     ensures shorter { IfSome result (λ rest. length rest.now < length text.now) }
 {
     match past(b"<", text) {
-        Some(tag) => past_tag(protocols, content, depth, tag),
-        None => past_text(protocols, content, depth, text),
+        Some(tag) => past_tag(rules, content, depth, tag),
+        None => past_text(rules, content, depth, text),
     }
 }
 
 /// The text after a void tag or an element, by the bytes after its `<`.
 #[cycle(nodes)]
-fn past_tag<'a>(
-    protocols: Protocols,
-    content: Content,
-    depth: usize,
-    tag: &'a [u8],
-) -> Option<&'a [u8]>
+fn past_tag<'a>(rules: &Rules, content: Content, depth: usize, tag: &'a [u8]) -> Option<&'a [u8]>
     requires { IsEnd (60 ∷ tag.now) → ⊥ }
     ensures is { MatchOption result
-        (IsNoLevel (permits protocols.entry) (content_of content) depth (60 ∷ tag.now))
-        (λ rest. IsNode (permits protocols.entry) (content_of content) depth (60 ∷ tag.now)
+        (IsNoLevel (test_of rules.now) (content_of content) depth (60 ∷ tag.now))
+        (λ rest. IsNode (test_of rules.now) (content_of content) depth (60 ∷ tag.now)
         rest.now) }
     ensures shorter { IfSome result (λ rest. length rest.now ≤ length tag.now) }
 {
     let (name, text) = split_name(tag);
+    if !may_have_tag(rules, name) {
+        return None;
+    }
     match child(content, name) {
-        Some(found) => past_element(protocols, content, depth, found, name, text),
-        None => past_void(protocols, content, depth, name, text),
+        Some(found) => past_element(rules, content, depth, found, name, text),
+        None => past_void(rules, content, depth, name, text),
     }
 }
 
 /// The text after a text, where no tag begins.
-fn past_text<'a>(
-    protocols: Protocols,
-    content: Content,
-    depth: usize,
-    text: &'a [u8],
-) -> Option<&'a [u8]>
+fn past_text<'a>(rules: &Rules, content: Content, depth: usize, text: &'a [u8]) -> Option<&'a [u8]>
     requires open { IsEnd text.now → ⊥ }
     requires no_tag { (tag : List ℕ) → text.now ≡ 60 ∷ tag → ⊥ }
     ensures is { MatchOption result
-        (IsNoLevel (permits protocols.entry) (content_of content) depth text.now)
-        (λ rest. IsNode (permits protocols.entry) (content_of content) depth text.now rest.now) }
+        (IsNoLevel (test_of rules.now) (content_of content) depth text.now)
+        (λ rest. IsNode (test_of rules.now) (content_of content) depth text.now rest.now) }
     ensures shorter { IfSome result (λ rest. length rest.now < length text.now) }
 {
     let (front, rest) = split_escaped(text);
@@ -126,7 +114,7 @@ fn ends_text(rest: &[u8]) -> bool
 
 /// The text after a void tag of this name, by the bytes after the name.
 fn past_void<'a>(
-    protocols: Protocols,
+    rules: &Rules,
     content: Content,
     depth: usize,
     name: &[u8],
@@ -135,10 +123,11 @@ fn past_void<'a>(
     requires split { IsSplitName (name.now ++ text.now) name.now text.now }
     requires open { IsEnd (60 ∷ (name.now ++ text.now)) → ⊥ }
     requires no_element { held_among (elements_in false (content_of content)) name.now ≡ None }
+    requires named { (test_of rules.now).tag name.now ≡ true }
     ensures is { MatchOption result
-        (IsNoLevel (permits protocols.entry) (content_of content) depth
+        (IsNoLevel (test_of rules.now) (content_of content) depth
         (60 ∷ (name.now ++ text.now)))
-        (λ rest. IsNode (permits protocols.entry) (content_of content) depth
+        (λ rest. IsNode (test_of rules.now) (content_of content) depth
         (60 ∷ (name.now ++ text.now)) rest.now) }
     ensures shorter { IfSome result (λ rest. length rest.now ≤ length text.now) }
 {
@@ -149,34 +138,35 @@ fn past_void<'a>(
     if !allows_void(content, void) {
         return None;
     }
-    let rest = past_attributes(protocols, listed_for_void(void), text)?;
+    let rest = past_attributes(rules, listed_for_void(void), text)?;
     past(b" />", rest)
 }
 
 /// The text after an element of this name, by the bytes after the name.
 #[cycle(nodes)]
 fn past_element<'a>(
-    protocols: Protocols,
+    rules: &Rules,
     content: Content,
     depth: usize,
     found: Allowed,
     name: &[u8],
     text: &'a [u8],
 ) -> Option<&'a [u8]>
-    requires { IsBegun content found name.now text.now }
+    requires begun { IsBegun content found name.now text.now }
+    requires named { (test_of rules.now).tag name.now ≡ true }
     ensures is { MatchOption result
-        (IsNoLevel (permits protocols.entry) (content_of content) depth
+        (IsNoLevel (test_of rules.now) (content_of content) depth
         (60 ∷ (name.now ++ text.now)))
-        (λ rest. IsNode (permits protocols.entry) (content_of content) depth
+        (λ rest. IsNode (test_of rules.now) (content_of content) depth
         (60 ∷ (name.now ++ text.now)) rest.now) }
     ensures shorter { IfSome result (λ rest. length rest.now ≤ length text.now) }
 {
     if depth == 0 {
         return None;
     }
-    let rest = past_attributes(protocols, found.list, text)?;
+    let rest = past_attributes(rules, found.list, text)?;
     let children = past(b">", rest)?;
-    let end = past_nodes(protocols, found.content, depth - 1, children)?;
+    let end = past_nodes(rules, found.content, depth - 1, children)?;
     past_end(name, end)
 }
 

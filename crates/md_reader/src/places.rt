@@ -7,41 +7,58 @@ ghost use Rattle.md_reader.specs.Attributes.{index_of};
 use crate::names::Listed;
 
 /// How many attributes a list has at most.
-pub(crate) const MOST: usize = 8;
+pub(crate) const MOST: usize = 11;
 
 /// The index of a name in a list of attributes.
 pub(crate) fn place(list: Listed, name: &[u8]) -> Option<usize>
     ensures is { result ≡ index_of (listed list) name.now }
-    ensures within { IfSome result (λ place. place < 8) }
+    ensures within { IfSome result (λ place. place < 11) }
 {
     match list {
-        Listed::Nothing => None,
-        Listed::OfCode => index_in(&["class"], name),
-        Listed::OfList => index_in(&["start"], name),
-        Listed::OfItem => index_in(&["id"], name),
-        Listed::OfSecond => index_in(&["id", "class"], name),
-        Listed::OfCell => index_in(&["align"], name),
+        Listed::Shared => index_in(&["id", "title", "lang", "dir"], name),
+        Listed::OfBlock => index_in(&["align", "id", "title", "lang", "dir"], name),
+        Listed::OfRow => index_in(&["align", "valign", "id", "title", "lang", "dir"], name),
+        Listed::OfCell => index_in(
+            &[
+                "colspan", "rowspan", "width", "height", "align", "valign", "id", "title", "lang",
+                "dir",
+            ],
+            name,
+        ),
+        Listed::OfTable => index_in(&["align", "width", "id", "title", "lang", "dir"], name),
+        Listed::OfCode => index_in(&["class", "id", "title", "lang", "dir"], name),
+        Listed::OfList => index_in(&["start", "id", "title", "lang", "dir"], name),
+        Listed::OfSecond => index_in(&["class", "align", "id", "title", "lang", "dir"], name),
+        Listed::OfDetails => index_in(&["open", "id", "title", "lang", "dir"], name),
         Listed::OfSection => index_in(&["data-footnotes", "class"], name),
         Listed::OfLink => index_in(
             &[
                 "href",
-                "title",
-                "id",
                 "class",
                 "data-footnote-ref",
                 "data-footnote-backref",
                 "aria-describedby",
                 "aria-label",
+                "name",
+                "id",
+                "title",
+                "lang",
+                "dir",
             ],
             name,
         ),
-        Listed::OfImage => index_in(&["src", "alt", "title"], name),
+        Listed::OfImage => index_in(
+            &[
+                "src", "alt", "width", "height", "align", "id", "title", "lang", "dir",
+            ],
+            name,
+        ),
         Listed::OfInput => index_in(&["type", "disabled", "checked"], name),
     }
 }
 
 /// The index of a name in a list.
-fn index_in(names: &[&str], name: &[u8]) -> Option<usize>
+pub(crate) fn index_in(names: &[&str], name: &[u8]) -> Option<usize>
     ensures is { result ≡ index_of (map (λ other. other.now) names.now) name.now }
     ensures within { IfSome result (λ index. index < length names.now) }
 {

@@ -1,6 +1,6 @@
 //! The protocols of links and images.
 
-ghost use Rattle.std.specs.Prelude.{◌≡◌, ◌<◌, IfSome, MatchOption, length, map, ◌∷◌, []};
+ghost use Rattle.std.specs.Prelude.{◌≡◌, ◌<◌, ◌≤◌, IfSome, MatchOption, length, map, ◌∷◌, []};
 ghost use Rattle.std.specs.Prelude.{is_some};
 ghost use Rattle.std.specs.List.{list_any};
 ghost use Rattle.md_text.specs.References.{read_back};
@@ -56,7 +56,8 @@ fn has_protocol(value: &[u8]) -> bool
 /// Whether a value, with its references read back, has one of these protocols.
 fn has_one_of(protocols: &[&str], value: &[u8]) -> bool
     ensures { result
-        ≡ list_any (λ protocol. has_this_protocol protocol.now (read_back value.now)) protocols.now }
+        ≡ list_any (λ protocol. has_this_protocol protocol.now
+        (read_back value.now)) protocols.now }
 {
     for protocol in protocols {
         if has_this_protocol(protocol.as_bytes(), value) {
@@ -105,9 +106,17 @@ fn split_character(text: &[u8]) -> Option<(u8, &[u8])>
 {
     let (byte, after) = text.split_first()?;
     if *byte == b'&' {
-        if let Some(found) = reference(after) {
-            return Some(found);
-        }
+        return Some(split_reference(after));
     }
     Some((*byte, after))
+}
+
+/// The character of a reference, or `&` if it is none, and the text after it, by the text after
+/// its `&`.
+#[inline(always)]
+fn split_reference(text: &[u8]) -> (u8, &[u8])
+    ensures is { read_back (38 ∷ text.now) ≡ result.0 ∷ read_back result.1.now }
+    ensures shorter { length result.1.now ≤ length text.now }
+{
+    reference(text).unwrap_or((b'&', text))
 }

@@ -4,7 +4,7 @@ use Rattle.std.proofs.Common.{◌++◌, refl, subst, append_assoc, codes, arith}
 use Rattle.std.specs.Prelude.{Option, option_map, string_bytes}
 use Rattle.std.specs.Fmt.{decimal}
 use Rattle.std.proofs.lemmas.Bool.{cond_both}
-use Rattle.md_text.specs.Html.{Attribute, HasReadingWith, is_tag, elements}
+use Rattle.md_text.specs.Html.{Attribute, HasReadingWith, is_tag, printed_elements}
 use Rattle.md_text.proofs.EncodeLaws.{is_escaped-encoded}
 use Rattle.md_text.proofs.EscapedLemmas.{escaped-append, sanitized-escaped}
 use Rattle.md_text.proofs.HtmlJoin.{text, join}
@@ -41,7 +41,7 @@ call_id-escaped options identifier number occurrence =
     (grind (arith, cond_both, decimal-escaped))
 
 pub a_call : (v w : List ℕ) → Escaped v → Escaped w →
-    is_tag elements (codes "a") (attribute (codes "href") (35 ∷ v)
+    is_tag printed_elements (codes "a") (attribute (codes "href") (35 ∷ v)
     ∷ attribute (codes "id") w ∷ attribute (codes "data-footnote-ref") []
     ∷ attribute (codes "aria-describedby") (codes "footnote-label") ∷ []) ≡ true
 a_call v w h g = rw (h, g) refl

@@ -9,6 +9,7 @@ use Rattle.md_base.proofs.Lies.{lie}
 use Rattle.md_text.specs.Bytes.{is_one_of}
 use Rattle.std.specs.Prelude.{unwrap_or}
 use Rattle.md_base.specs.Children.{or_else}
+pub use Rattle.md_text.proofs.HtmlNames.{one_of-passes}
 
 pub either : {A : Type 0} (a b : Bool) → (a || b) ≡ true → (a ≡ true → A) → (b ≡ true → A) → A
 either a b h f g = elim (or_cases a b h) [ inl is ↦ f is | inr is ↦ g is ]
@@ -28,14 +29,6 @@ on-later P first later f g = grind arith
 pub on-either : {A : Type 0} (P : A → Type 0) (found : Option A) (before : A) → OnSome P found →
     P before → P (unwrap_or found before)
 on-either P found before f g = grind arith
-
-pub one_of-passes : (p : List ℕ → Bool) (listed : List (List ℕ)) (name : List ℕ) →
-    list_all p listed ≡ true → is_one_of listed name ≡ true → p name ≡ true
-one_of-passes p [] name g e = lie e
-one_of-passes p (t ∷ ts) name g e =
-    let parts = and_parts _ _ g in
-    either _ _ e (λ same. subst (λ x. p x ≡ true) (sym ((bytes_decides name t).0 same)) parts.0)
-    (one_of-passes p ts name parts.1)
 
 pub all-weaker : {A : Type 0} (p q : A → Bool) → ((a : A) → p a ≡ true → q a ≡ true) →
     (xs : List A) → list_all p xs ≡ true → list_all q xs ≡ true

@@ -10,7 +10,7 @@ use name_variants.{Link}
 use Rattle.md_base.specs.declared.event.AlignKind.{AlignKind}
 use Rattle.md_base.specs.Is.{is as named}
 use Rattle.md_base.specs.NameTests.{is_call}
-use Rattle.md_text.specs.Html.{elements, is_tag, opening_tag, closing_tag}
+use Rattle.md_text.specs.Html.{printed_elements, is_tag, opening_tag, closing_tag}
 use Rattle.md_text.specs.Bytes.{is_one_of}
 use Rattle.md_text.specs.Laws.{is_line_ends}
 use Rattle.md_meaning.specs.Meaning.At.{At, text_in}
@@ -72,7 +72,7 @@ pub turned : (m : Claims) {held content : Content} {o c : List ℕ} {xs ys zs : 
 turned m hs cs turn a r b = adds-turned (m.takes _ hs) (m.takes _ cs) turn a r b
 
 pub plain_tag : (m : Claims) {held content : Content} (name : List ℕ) →
-    is_tag elements name [] ≡ true → Opens m.nested content held name →
+    is_tag printed_elements name [] ≡ true → Opens m.nested content held name →
     Turns (m.holds held) (m.holds content) (opening_tag name []) (closing_tag name)
 plain_tag m name h opens = (m.tag _ _ name opens).tag [] h refl
 

@@ -6,13 +6,12 @@ use Rattle.std.proofs.lemmas.Bool.{and_parts, and_from}
 use Rattle.md_base.proofs.Lies.{lie}
 use Rattle.md_text.specs.Laws.{is_line_ends}
 use Rattle.md_text.specs.Html.{Attribute, Forest, Empty, Text, Void, Element, is_forest, is_tag}
-use Rattle.md_text.specs.Html.{elements, written, opening_tag, closing_tag, any_attribute}
-use Rattle.md_text.proofs.HtmlReading.{all-any}
-use Rattle.std.specs.List.{list_all}
+use Rattle.md_text.specs.Html.{elements, written, opening_tag, closing_tag}
 use Rattle.md_text.proofs.HtmlPut.{IsMade, made-before}
 use Rattle.md_safe.specs.Contents.{Content, Flow, Phrasing, held_in, is_contained, Items}
 use Rattle.md_safe.proofs.Stands.{stands-join, stands-nothing, is_held, white_beside, stands-wider}
 use Rattle.md_safe.proofs.Stands.{Stands, stands-text, turns-tag, stands-tag, takes-white, IsWhite}
+use Rattle.md_safe.proofs.Stands.{stands-enclosed}
 use Rattle.std.specs.Prelude.{None}
 use Rattle.md_meaning.specs.Meaning.At.{Footnote}
 use Rattle.md_meaning.specs.Meaning.Footnotes.{body, item, section, distinct, place_among}
@@ -147,10 +146,9 @@ paragraph-takes nested before endings x h s r =
     subst (Stands nested Flow) (sym cut.made) (stands-join cut.front _ cut.front_stands (stands-join
     (open_tag ++ (written cut.children ++ (32 ∷ x)) ++ closing_tag cut.name) (written cut.rest)
     (subst (Stands nested Flow) (sym (append_assoc open_tag (written cut.children ++ (32 ∷ x))
-    (closing_tag cut.name))) (((turns-tag Phrasing {name = cut.name}
-    (ap (λ name. held_in nested Flow name) is)).tag cut.attributes cut.tag (and_parts
-    (list_all any_attribute cut.attributes) true (all-any (Void [] cut.attributes Empty))).0).turn
-    (written cut.children ++ (32 ∷ x)) (stands-join (written cut.children) (32 ∷ x) inside r)))
+    (closing_tag cut.name))) (stands-enclosed cut.name cut.attributes
+    (written cut.children ++ (32 ∷ x)) cut.tag (ap (λ name. held_in nested Flow name) is)
+    (stands-join (written cut.children) (32 ∷ x) inside r)))
     (stands-forest nested Flow cut.rest cut.rest_forest cut.rest_contained)))
 
 pub backreferences-stand : (nested : Bool) (d : Document) (identifier : List ℕ) (number count : ℕ) →

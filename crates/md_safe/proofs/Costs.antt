@@ -4,8 +4,9 @@ use Rattle.std.proofs.Common.{append_assoc, ◌≡◌, ℕ, ◌+◌, ◌≤◌, 
 use Rattle.std.proofs.Common.{◌++◌, refl, subst, arith, codes, append-nil}
 use Rattle.std.specs.Prelude.{unwrap_or}
 use Rattle.md_text.specs.References.{read_back}
-use Rattle.md_text.specs.Html.{Attribute, is_tag, elements, any_attribute}
+use Rattle.md_text.specs.Html.{Attribute, is_tag, printed_elements, any_attribute}
 use Rattle.md_text.proofs.HtmlJoin.{text, nothing}
+use Rattle.md_text.proofs.HtmlNames.{printed-element}
 use Rattle.md_text.proofs.HtmlWriting.{attributes_before, written_attributes-before}
 use Rattle.md_text.specs.Ids.{ids_in}
 use Rattle.md_text.proofs.HtmlIds.{occurs, is_without, none-attributes, Counts, counts-plain}
@@ -45,7 +46,8 @@ counting w n = record {
   after = λ x y h g. counts-more w _ _ _ (omega arith)
       (counts-join w n 0 x y h (counts-plain w y g));
   within = λ name attributes inside h a within. counts-more w _ _ _ (omega arith) (counts-element w
-      n 0 name attributes inside h (omega (none-attributes w attributes a, arith)) within);
+      n 0 name attributes inside (printed-element name attributes h)
+      (omega (none-attributes w attributes a, arith)) within);
   takes = counts-takes w n;
 }
 
@@ -79,12 +81,12 @@ texts-append w n m (x ∷ xs) ys a b = grind (arith, texts-append w a.1 m xs ys 
 -- an element, attribute by attribute
 counted-element :
     (w : List ℕ) (n m : ℕ) (name : List ℕ) (attributes : List Attribute) (inside : List ℕ) →
-    is_tag elements name attributes ≡ true → occurs w (ids_in attributes) ≤ m → Counts w n inside
-    → Counts w (m + n)
+    is_tag printed_elements name attributes ≡ true → occurs w (ids_in attributes) ≤ m
+    → Counts w n inside → Counts w (m + n)
     (60 ∷ (name ++ attributes_before attributes (62 ∷ (inside ++ (60 ∷ 47 ∷ (name ++ (62 ∷ [])))))))
 counted-element w n m name attributes inside h few within =
     subst (λ x. Counts w (m + n) (60 ∷ (name ++ x))) (grind (arith, written_attributes-before))
-    (counts-element w n m name attributes inside h few within)
+    (counts-element w n m name attributes inside (printed-element name attributes h) few within)
 
 -- a call has its own id
 pub counts-call : (w v id n : List ℕ) → Escaped v → Escaped id → Escaped n →

@@ -5,6 +5,7 @@ use Rattle.std.specs.Prelude.{Some, find}
 use Rattle.std.specs.Option.{option_map_or}
 use Rattle.std.proofs.lemmas.Bool.{or_parts, cond_both}
 use Rattle.md_text.proofs.HtmlJoin.{join}
+use Rattle.md_text.proofs.HtmlNames.{printed-element}
 use Rattle.md_base.specs.Tree.{Forest}
 use Rattle.md_text.specs.References.{read_back}
 use Rattle.md_text.proofs.HtmlIds.{occurs, occurs-append, Counts, counts-more, counts-join}
@@ -97,7 +98,8 @@ item-turn d w n v h =
     let hit : ℕ = occurs w (read_back v ∷ []) in
     record {
       turn = λ x held. simp append_assoc (simp append_assoc at (counts-enclosed w n hit
-          (codes "li") (attribute (codes "id") v ∷ []) x (li_id v h) (omega arith) held));
+          (codes "li") (attribute (codes "id") v ∷ []) x (printed-element (codes "li")
+          (attribute (codes "id") v ∷ []) (li_id v h)) (omega arith) held));
     }
 
 -- the items

@@ -29,7 +29,7 @@ use Rattle.md_meaning.specs.Meaning.Spans.{is_at}
 use Rattle.md_meaning.specs.Meaning.Tables.{cell_of}
 use Rattle.md_meaning.specs.declared.surroundings.Surroundings.{Surroundings}
 use Rattle.md_pattern.specs.Looseness.{is_loose}
-use Rattle.md_text.specs.Html.{Attribute, elements, is_tag, opening_tag}
+use Rattle.md_text.specs.Html.{Attribute, printed_elements, is_tag, opening_tag}
 use Rattle.md_safe.proofs.Cases.{either, cases}
 use Rattle.md_safe.proofs.Elements.{adds-cell_in, adds-ordered, class-passes, code_closing}
 use Rattle.md_safe.proofs.Elements.{heading_name, item-end, ranked}
@@ -64,7 +64,7 @@ turns-heading : (m : Claims) (rank : ℕ) → (1 ≤ rank) × (rank ≤ 6) → T
     (m.holds Flow) (heading_tag (codes "<h") rank) (heading_tag (codes "</h") rank)
 unfolding heading_name holds_phrasing digits
 turns-heading m rank h = plain_tag m (heading_name rank) (ranked
-    (λ rank. is_tag elements (heading_name rank) []) refl rank h) (phrasing-held
+    (λ rank. is_tag printed_elements (heading_name rank) []) refl rank h) (phrasing-held
     (held_in m.nested Flow (heading_name rank)) (ranked (λ rank. holds_phrasing
     (held_in m.nested Flow (heading_name rank))) refl rank h))
 
@@ -79,7 +79,7 @@ heading-node m rank fits a = turned m refl refl (turns-heading m rank fits)
 abbrev TurnsCode : Claims → List ℕ → Type 0
 TurnsCode m o = Turns (m.holds Characters) (m.holds Flow) o code_closing
 
-turns-code : (m : Claims) (attributes : List Attribute) → is_tag elements (codes "code") attributes
+turns-code : (m : Claims) (attributes : List Attribute) → is_tag printed_elements (codes "code") attributes
     ≡ true → list_all m.s.p.test attributes ≡ true → TurnsCode
     m (codes "<pre>" ++ opening_tag (codes "code") attributes)
 turns-code m attributes h a = turns-two (plain_tag m {held = Preformatted} {content = Flow}

@@ -59,7 +59,7 @@ page-links : (title : List ℕ) (body : Forest) → is_forest body ≡ true →
     list_all has_safe_links (page_tokens title body) ≡ true
 page-links title body h k =
     all-append has_safe_links (map Character title) (after_title body)
-    (all-characters has_safe_links is_safe_link links-pass title)
+    (all-characters has_safe_links links-pass.characters title)
     (grind (arith, all-append, all-tokens, links-pass))
 
 page-images : (title : List ℕ) (body : Forest) → is_forest body ≡ true →
@@ -67,7 +67,7 @@ page-images : (title : List ℕ) (body : Forest) → is_forest body ≡ true →
     list_all has_safe_images (page_tokens title body) ≡ true
 page-images title body h k =
     all-append has_safe_images (map Character title) (after_title body)
-    (all-characters has_safe_images is_safe_image images-pass title)
+    (all-characters has_safe_images images-pass.characters title)
     (grind (arith, all-append, all-tokens, images-pass))
 
 pub page-tokenized : (title body : List ℕ) → is_escaped title ≡ true →

@@ -110,13 +110,14 @@ pub record IsOrdinary (name : List ℕ) : Type 0 where
       start_in_body name attributes p ≡ reconstructed p (insert name attributes)
   pub ends : (p : Parser) → end_in_body name p ≡ end_other name p
 
-pub void-named : (name : List ℕ) → is_one_of (codes "br" ∷ codes "img" ∷ codes "input" ∷ []) name
-    ≡ true → IsVoid name
+pub void-named : (name : List ℕ) → is_one_of (codes "br" ∷ codes "img" ∷ codes "input" ∷ codes "wbr"
+    ∷ []) name ≡ true → IsVoid name
 void-named name h =
     let same = λ (one : List ℕ) (e : bytes_eq name one ≡ true). (bytes_eq-Decides name one).0 e in
     either _ _ h (λ e. rw (same (codes "br") e) search) (λ c. either _ _ c
     (λ e. rw (same (codes "img") e) search) (λ c. either _ _ c
-    (λ e. rw (same (codes "input") e) search) (λ none. lie none)))
+    (λ e. rw (same (codes "input") e) search) (λ c. either _ _ c
+    (λ e. rw (same (codes "wbr") e) search) (λ none. lie none))))
 
 -- ---- what is built
 

@@ -7,7 +7,7 @@ use Rattle.std.specs.Prelude.{bytes_eq, None, option_map, find, string_bytes}
 use Rattle.std.proofs.lemmas.Bool.{cond_both, and_parts, and_from}
 use Rattle.std.proofs.lemmas.List.{take-append-drop, drop-append-le}
 use Rattle.std.proofs.lemmas.Slice.Eq.{bytes_eq-Decides}
-use Rattle.md_text.specs.Html.{HasReadingWith, Attribute, is_tag, elements}
+use Rattle.md_text.specs.Html.{HasReadingWith, Attribute, is_tag, printed_elements}
 use Rattle.md_text.specs.Laws.{is_line_ends}
 use Rattle.md_text.proofs.HtmlJoin.{text, join, nothing}
 use Rattle.md_meaning.specs.Meaning.Layout.{Piece, Text, Needed, Forced}
@@ -110,7 +110,7 @@ heading-bracket s label ids h =
 
 -- an item
 pub li_id : (v : List ℕ) → Escaped v →
-    is_tag elements (codes "li") (attribute (codes "id") v ∷ []) ≡ true
+    is_tag printed_elements (codes "li") (attribute (codes "id") v ∷ []) ≡ true
 li_id v h = rw h refl
 
 abbrev pub item_tag : List ℕ → List ℕ

@@ -11,9 +11,11 @@ use Rattle.md_base.proofs.Lies.{lie}
 use Rattle.md_text.specs.Laws.{is_line_ends}
 use Rattle.md_text.specs.Bytes.{is_one_of}
 use Rattle.md_text.specs.Html.{Attribute, Forest, Empty, Text, Void, Element, is_tag, elements}
-use Rattle.md_text.specs.Html.{written_attributes, IsReading, any_attribute}
+use Rattle.md_text.specs.Html.{written_attributes, IsReading, any_attribute, opening_tag}
+use Rattle.md_text.specs.Html.{closing_tag}
 use Rattle.md_text.proofs.HtmlJoin.{joined, after_forest, opening-before}
-use Rattle.md_text.proofs.HtmlReading.{only_reading, all-any}
+use Rattle.md_text.proofs.HtmlNames.{printed-element, printed-void}
+use Rattle.md_text.proofs.HtmlReading.{one_reading, all-any}
 use Rattle.md_text.proofs.HtmlWriting.{written_attributes-before}
 use Rattle.md_text.proofs.EscapedLemmas.{escaped-append}
 use Rattle.md_safe.proofs.Texts.{Escaped, line_ends-escaped}
@@ -33,9 +35,12 @@ pub record Stands (nested : Bool) (content : Content) (x : List ℕ) : Type 0 wh
 
 -- it has no other reading
 pub contained-once : (nested : Bool) (x : List ℕ) → Stands nested Flow x → IsContainedAs nested x
-contained-once nested x h =
-    let one = only_reading any_attribute x (grind (arith, all-any)) in
-    grind arith
+contained-once nested x h = record {
+  forest = h.forest;
+  reading = h.reading;
+  contained = h.contained;
+  only = λ other also. one_reading x other h.forest also h.reading;
+}
 
 -- ---- texts in one
 
@@ -81,7 +86,7 @@ stands-void {nested} {content} {name} v = record {
       let end = written_attributes-before attributes (32 ∷ 47 ∷ 62 ∷ []) in
       rw (← end) (record {
         forest = Void name attributes Empty;
-        reading = grind (arith, and_from);
+        reading = grind (arith, and_from, printed-void name attributes h);
         contained = and_from (is_one_of (voids_in content) name) true v refl;
       });
 }
@@ -106,7 +111,7 @@ pub stands-tag : {nested : Bool} {content : Content} (held : Content) {name : Li
     (Stands nested content) name
 stands-tag held {name} opens = record {
   tag = λ attributes inside h a within. rw (← (written_attributes-before attributes _))
-      (stands-element name attributes inside h opens within);
+      (stands-element name attributes inside (printed-element name attributes h) opens within);
 }
 
 -- ---- white space
@@ -140,10 +145,23 @@ takes-white is = grind (arith, stands-join, stands-white)
 
 -- ---- the tag of an element, which changes the content to another
 
+-- the same with the tags as they are named elsewhere
+pub stands-enclosed : {nested : Bool} {content held : Content} (name : List ℕ)
+    (attributes : List Attribute) (inside : List ℕ) → is_tag elements name attributes ≡ true →
+    Opens nested content held name → Stands nested held inside →
+    Stands nested content (opening_tag name attributes ++ (inside ++ closing_tag name))
+stands-enclosed name attributes inside h opens within =
+    grind (arith, opening-before, stands-element)
+
 pub turns-tag : {nested : Bool} (held : Content) {content : Content} {name : List ℕ} →
     Opens nested content held name → TurnsTag any_attribute (Stands nested held)
     (Stands nested content) name
-turns-tag held opens = grind (arith, opening-before, stands-element)
+turns-tag held {name = name} opens = record {
+  tag = λ attributes h a. record {
+    turn = λ x within.
+        stands-enclosed name attributes x (printed-element name attributes h) opens within;
+  };
+}
 
 find-first : {A : Type 0} (test : A → Bool) (xs ys : List A) (x : A) → find test xs ≡ Some x →
     find test (xs ++ ys) ≡ Some x

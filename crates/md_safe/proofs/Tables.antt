@@ -193,9 +193,11 @@ element-put mode parent inner-mode name held is tables tabular each starts ends 
 
 parts-put : Each (Puts InTable (codes "table")) (elements_in false Parts)
 parts-put = also (element-put _ _ _ _ _ refl refl refl (also (element-put _ _ _ _ _ refl refl refl
-    (search cell-put) (λ x t. refl) (λ x t i m. refl)) tt) (λ x t. refl) (λ x t i m. refl)) (also
-    (element-put _ _ _ _ _ refl refl refl (also (element-put _ _ _ _ _ refl refl refl (search
-    cell-put) (λ x t. refl) (λ x t i m. refl)) tt) (λ x t. refl) (λ x t i m. refl)) tt)
+    (search cell-put) (λ x t. refl) (λ x t i m. refl)) tt) (λ x t. refl) (λ x t i m. refl))
+    (also (element-put _ _ _ _ _ refl refl refl (also (element-put _ _ _ _ _ refl refl refl
+    (search cell-put) (λ x t. refl) (λ x t i m. refl)) tt) (λ x t. refl) (λ x t i m. refl))
+    (also (element-put _ _ _ _ _ refl refl refl (also (element-put _ _ _ _ _ refl refl refl
+    (search cell-put) (λ x t. refl) (λ x t i m. refl)) tt) (λ x t. refl) (λ x t i m. refl)) tt))
 
 -- ---- a table
 pub table-passes : {x : Position} {attributes : List Attribute} {inner : Forest} →

@@ -4,8 +4,8 @@ use Rattle.std.specs.List.{list_all}
 use Rattle.std.proofs.Common.{◌≡◌, ℕ, Bool, true, List, [], ◌∷◌, ◌++◌, codes, false, not, ◌&&◌}
 use Rattle.std.proofs.Common.{refl, ap, subst, append_assoc, append-nil, arith}
 use Rattle.md_text.specs.Laws.{is_line_ends}
-use Rattle.md_text.specs.Html.{Attribute, HasReadingWith, is_tag, elements, written_attributes}
-use Rattle.md_text.specs.Html.{opening_tag, closing_tag, void_tags}
+use Rattle.md_text.specs.Html.{Attribute, HasReadingWith, is_tag, printed_elements, written_attributes}
+use Rattle.md_text.specs.Html.{opening_tag, closing_tag, printed_void_tags}
 use Rattle.md_text.proofs.HtmlJoin.{join, element, text, void, opening-before}
 use Rattle.md_text.proofs.HtmlPut.{paragraph_takes}
 use Rattle.std.specs.Str.{bytes_eq}
@@ -25,7 +25,7 @@ pub record Claim : Type 1 where
   pub before : (x y : List ℕ) → HasReadingWith test x → holds y → holds (x ++ y)
   pub after : (x y : List ℕ) → holds x → HasReadingWith test y → holds (x ++ y)
   pub within : (name : List ℕ) (attributes : List Attribute) (inside : List ℕ) →
-      is_tag elements name attributes ≡ true → list_all test attributes ≡ true → holds inside
+      is_tag printed_elements name attributes ≡ true → list_all test attributes ≡ true → holds inside
       → holds (60 ∷ (name
       ++ (written_attributes attributes ++ (62 ∷ (inside ++ (60 ∷ 47 ∷ (name ++ (62 ∷ []))))))))
   pub takes : (before endings inserted : List ℕ) → is_line_ends endings ≡ true →
@@ -75,7 +75,7 @@ Bracket p o c = Turns p.holds p.holds o c
 
 -- the tag of an element, with any attributes that pass, changes one claim into another
 pub record TurnsTag (test : Attribute → Bool) (Q R : List ℕ → Type 0) (name : List ℕ) : Type 0 where
-  pub tag : (attributes : List Attribute) → is_tag elements name attributes ≡ true →
+  pub tag : (attributes : List Attribute) → is_tag printed_elements name attributes ≡ true →
       list_all test attributes ≡ true → Turns Q R (opening_tag name attributes) (closing_tag name)
 
 pub bracket-tag : (p : Claim) (name : List ℕ) → TurnsTag p.test p.holds p.holds name
@@ -93,11 +93,11 @@ turns-two a b = grind (arith, append_assoc)
 -- the same of the whole element, attribute by attribute, and of a void tag
 pub record Tagged (test : Attribute → Bool) (Q R : List ℕ → Type 0) (name : List ℕ) : Type 0 where
   pub tag : (attributes : List Attribute) (inside : List ℕ) →
-      is_tag elements name attributes ≡ true → list_all test attributes ≡ true → Q inside → R (60
+      is_tag printed_elements name attributes ≡ true → list_all test attributes ≡ true → Q inside → R (60
       ∷ (name ++ attributes_before attributes (62 ∷ (inside ++ (60 ∷ 47 ∷ (name ++ (62 ∷ [])))))))
 
 pub record Single (test : Attribute → Bool) (R : List ℕ → Type 0) (name : List ℕ) : Type 0 where
-  pub tag : (attributes : List Attribute) → is_tag void_tags name attributes ≡ true →
+  pub tag : (attributes : List Attribute) → is_tag printed_void_tags name attributes ≡ true →
       list_all test attributes ≡ true → R
       (60 ∷ (name ++ attributes_before attributes (32 ∷ 47 ∷ 62 ∷ [])))
 

@@ -6,13 +6,15 @@ use Rattle.std.proofs.lemmas.Bool.{and_parts, and_from}
 use Rattle.md_text.specs.Bytes.{is_one_of}
 use Rattle.md_text.specs.Html.{Attribute, Forest, Empty, Text, Void, Element, is_forest, is_tag}
 use Rattle.md_text.specs.Html.{are_attributes, elements, void_tags, all_attributes, any_attribute}
-use Rattle.md_text.specs.Html.{HasOneReadingWith}
+use Rattle.md_text.specs.Html.{HasOneReadingWith, IsPrinted, is_printed, printed_elements}
+use Rattle.md_text.specs.Html.{printed_void_tags}
 use Rattle.md_text.proofs.HtmlReading.{all-any}
 use Rattle.md_safe.specs.Input.{with_line_feeds}
 use Rattle.md_safe.specs.Token.{Token, Character, StartTag, EndTag, EndOfFile, TokenAttribute}
 use Rattle.md_safe.specs.TokenizerStates.{Data, leaves_state}
 use Rattle.md_safe.specs.Tokenizer.{IsTokenized}
 use Rattle.md_safe.specs.Tokens.{tokens, seen, seen_attributes, is_listed, is_tag_of}
+use Rattle.md_safe.specs.Tokens.{is_printed_token}
 use Rattle.md_safe.proofs.GoodNames.{element-good, void-good, good-leaves, by_rule}
 use Rattle.md_safe.proofs.OneRun.{one_run}
 use Rattle.md_safe.proofs.Between.{reading-runs}
@@ -39,15 +41,15 @@ pub record PassesTags (p : Token → Bool) (q : Attribute → Bool) : Type 0 whe
       is_tag void_tags name attributes ≡ true →
       list_all q attributes ≡ true → p (StartTag name (seen_attributes attributes) true) ≡ true
 
-pub all-characters : (p : Token → Bool) (q : Attribute → Bool) → PassesTags p q → (x : List ℕ) →
+pub all-characters : (p : Token → Bool) → ((b : ℕ) → p (Character b) ≡ true) → (x : List ℕ) →
     list_all p (map Character x) ≡ true
-all-characters p q o [] = refl
-all-characters p q o (b ∷ x) = and_from _ _ (o.characters b) (all-characters p q o x)
+all-characters p passes [] = refl
+all-characters p passes (b ∷ x) = and_from _ _ (passes b) (all-characters p passes x)
 
 pub all-tokens : (p : Token → Bool) (q : Attribute → Bool) → PassesTags p q → (f : Forest) →
     is_forest f ≡ true → all_attributes q f ≡ true → list_all p (tokens f) ≡ true
 all-tokens p q o Empty h k = refl
-all-tokens p q o (Text bytes rest) h k = all-append p _ _ (all-characters p q o (seen bytes))
+all-tokens p q o (Text bytes rest) h k = all-append p _ _ (all-characters p o.characters (seen bytes))
     (all-tokens p q o rest (and_parts _ _ h).1 k)
 all-tokens p q o (Void name attributes rest) h k =
     grind (arith, and_parts, and_from, all-tokens p q o rest)
@@ -110,6 +112,33 @@ forest-listed f h =
 pub all_listed : (q : Attribute → Bool) (text : List ℕ) (x : List Token) →
     HasOneReadingWith q text → IsTokenized text x → list_all is_listed x ≡ true
 all_listed q text x one h = all-tokenized _ q (listed-passes q) _ x one h
+
+-- the tags of a forest of what the compiler writes
+forest-printed : (f : Forest) → is_printed f ≡ true → list_all is_printed_token (tokens f) ≡ true
+forest-printed Empty h = refl
+forest-printed (Text bytes rest) h = all-append is_printed_token (map Character (seen bytes))
+    (tokens rest) (all-characters is_printed_token (λ b. refl) (seen bytes)) (forest-printed rest h)
+forest-printed (Void name attributes rest) h =
+    let parts = and_parts (is_tag printed_void_tags name attributes) (is_printed rest) h in
+    and_from _ _ (tag-listed printed_void_tags name attributes (seen_attributes attributes) parts.0
+    (λ listed. names-listed listed attributes)) (forest-printed rest parts.1)
+forest-printed (Element name attributes children rest) h =
+    let parts = and_parts (is_tag printed_elements name attributes && is_printed children)
+    (is_printed rest) h in
+    let own = and_parts (is_tag printed_elements name attributes) (is_printed children) parts.0 in
+    and_from _ _ (tag-listed printed_elements name attributes (seen_attributes attributes) own.0
+    (λ listed. names-listed listed attributes)) (all-append is_printed_token (tokens children)
+    (EndTag name ∷ tokens rest) (forest-printed children own.1) (and_from _ _
+    (tag-listed printed_elements name attributes [] own.0 (λ listed k. refl))
+    (forest-printed rest parts.1)))
+
+pub all_printed : (q : Attribute → Bool) (text : List ℕ) (x : List Token) →
+    HasOneReadingWith q text → IsPrinted text → IsTokenized text x →
+    list_all is_printed_token x ≡ true
+all_printed q text x one printed h = subst (λ x. list_all is_printed_token x ≡ true) (one_run Data
+    (with_line_feeds text) (tokens one.forest ++ (EndOfFile ∷ [])) x (reading-runs q text one) h)
+    (all-append is_printed_token (tokens one.forest) (EndOfFile ∷ [])
+    (forest-printed one.forest (printed one.forest one.reading)) refl)
 
 abbrev is_still : List ℕ → Bool
 is_still name = not (is_running_attribute name)

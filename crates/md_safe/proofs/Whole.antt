@@ -1,10 +1,11 @@
 -- The meaning of a document has a reading in which each attribute passes a test: the theorems from
 -- the induction over forests.
-use Rattle.std.proofs.Common.{ℕ, Bool, List, ◌++◌, refl, arith}
+use Rattle.std.proofs.Common.{◌≡◌, ℕ, Bool, true, List, ◌++◌, refl, subst, arith}
 use Rattle.std.proofs.lemmas.Bool.{and_parts, not-true}
 use Rattle.md_text.specs.Html.{Attribute, any_attribute, HasReadingWith, HasOneReadingWith}
+use Rattle.md_text.specs.Html.{IsPrinted, is_printed}
 use Rattle.md_text.specs.Safe.{is_safe_link, is_safe_image}
-use Rattle.md_text.proofs.HtmlReading.{only_reading}
+use Rattle.md_text.proofs.HtmlReading.{only_reading, one_reading}
 use Rattle.md_text.proofs.ProtocolLemmas.{kept-link, kept-image}
 use Rattle.md_base.specs.Tree.{Forest}
 use Rattle.md_text.specs.Ids.{ids}
@@ -57,6 +58,15 @@ pub one-reading : (bytes : List ℕ) (names : List (List ℕ × List ℕ)) (opti
 one-reading bytes names options document built keeps = only_reading any_attribute
     (meaning options names bytes document) (meaning-reads _ _ _ _ _ (read_in
     (document_of bytes names options document built keeps)).test (λ value. refl) built keeps)
+
+pub whole-printed : (bytes : List ℕ) (names : List (List ℕ × List ℕ)) (options : CompileOptions)
+    (document : Forest) → IsBuilt bytes Blocks document → KeepsGrammar options →
+    IsPrinted (meaning options names bytes document)
+whole-printed bytes names options document built keeps other also =
+    let read = meaning-reads any_attribute bytes names options document (read_in
+    (document_of bytes names options document built keeps)).test (λ value. refl) built keeps in
+    subst (λ f. is_printed f ≡ true) (one_reading _ read.forest other read.reading also)
+    read.printed
 
 pub safe-links : (bytes : List ℕ) (names : List (List ℕ × List ℕ)) (options : CompileOptions)
     (document : Forest) → IsBuilt bytes Blocks document → KeepsLinks options →

@@ -22,7 +22,10 @@ pub data Content : Type 0 where
 -- the elements of spans except links, each with its content, if spans contain this
 abbrev pub spans_of : Content → List (List ℕ × Content)
 spans_of held = (codes "code", Characters)
-    ∷ map (λ name. (name, held)) (codes "em" ∷ codes "strong" ∷ codes "del" ∷ codes "sup" ∷ [])
+    ∷ map (λ name. (name, held)) (codes "em" ∷ codes "strong" ∷ codes "del" ∷ codes "sup"
+    ∷ codes "b" ∷ codes "i" ∷ codes "u" ∷ codes "s" ∷ codes "small" ∷ codes "sub" ∷ codes "span"
+    ∷ codes "kbd" ∷ codes "samp" ∷ codes "var" ∷ codes "q" ∷ codes "cite" ∷ codes "abbr"
+    ∷ codes "dfn" ∷ codes "ins" ∷ codes "mark" ∷ [])
 
 -- those of all spans: links may contain links if `nested`
 abbrev pub span_elements : Bool → List (List ℕ × Content)
@@ -32,7 +35,9 @@ span_elements nested = (codes "a", if nested then Phrasing else Linked) ∷ span
 abbrev pub block_elements : List (List ℕ × Content)
 block_elements =
     (codes "ul", Items) ∷ (codes "ol", Items) ∷ (codes "table", Parts) ∷ (codes "pre", Preformatted)
-    ∷ (codes "blockquote", Flow) ∷ (codes "section", Flow) ∷ map (λ name. (name, Phrasing))
+    ∷ (codes "blockquote", Flow) ∷ (codes "section", Flow) ∷ (codes "div", Flow)
+    ∷ (codes "details", Flow) ∷ (codes "summary", Phrasing) ∷ (codes "figure", Flow)
+    ∷ (codes "figcaption", Flow) ∷ map (λ name. (name, Phrasing))
     (codes "p" ∷ codes "h1" ∷ codes "h2" ∷ codes "h3" ∷ codes "h4" ∷ codes "h5" ∷ codes "h6" ∷ [])
 
 -- the elements that a content allows
@@ -41,7 +46,8 @@ elements_in nested Flow = span_elements nested ++ block_elements
 elements_in nested Phrasing = span_elements nested
 elements_in nested Linked = spans_of Linked
 elements_in nested Items = (codes "li", Flow) ∷ []
-elements_in nested Parts = (codes "thead", Rows) ∷ (codes "tbody", Rows) ∷ []
+elements_in nested Parts =
+    (codes "thead", Rows) ∷ (codes "tbody", Rows) ∷ (codes "tfoot", Rows) ∷ []
 elements_in nested Rows = (codes "tr", Cells) ∷ []
 elements_in nested Cells = (codes "th", Phrasing) ∷ (codes "td", Phrasing) ∷ []
 elements_in nested Preformatted = (codes "code", Characters) ∷ []
@@ -55,9 +61,9 @@ held_in nested content name =
 
 -- the void tags that a content allows
 abbrev pub voids_in : Content → List (List ℕ)
-voids_in Flow = codes "hr" ∷ codes "br" ∷ codes "img" ∷ codes "input" ∷ []
-voids_in Phrasing = codes "br" ∷ codes "img" ∷ codes "input" ∷ []
-voids_in Linked = codes "br" ∷ codes "img" ∷ codes "input" ∷ []
+voids_in Flow = codes "hr" ∷ codes "br" ∷ codes "img" ∷ codes "input" ∷ codes "wbr" ∷ []
+voids_in Phrasing = codes "br" ∷ codes "img" ∷ codes "input" ∷ codes "wbr" ∷ []
+voids_in Linked = codes "br" ∷ codes "img" ∷ codes "input" ∷ codes "wbr" ∷ []
 voids_in _ = []
 
 -- white space of HTML: tab, LF, FF, CR and space

@@ -47,19 +47,23 @@ headings = codes "h1" ∷ codes "h2" ∷ codes "h3" ∷ codes "h4" ∷ codes "h5
 
 -- elements of the grammar whose start and end tags are treated alike in a body
 abbrev pub blocks : List (List ℕ)
-blocks = codes "blockquote" ∷ codes "ol" ∷ codes "section" ∷ codes "ul" ∷ []
+blocks = codes "blockquote" ∷ codes "ol" ∷ codes "section" ∷ codes "ul" ∷ codes "div"
+    ∷ codes "details" ∷ codes "summary" ∷ codes "figure" ∷ codes "figcaption" ∷ []
 
 -- formatting elements of the grammar except `a`
 abbrev pub formatting : List (List ℕ)
-formatting = codes "code" ∷ codes "em" ∷ codes "strong" ∷ []
+formatting = codes "code" ∷ codes "em" ∷ codes "strong" ∷ codes "b" ∷ codes "i" ∷ codes "u"
+    ∷ codes "s" ∷ codes "small" ∷ []
 
 -- the other elements of the grammar, which have no rules of their own in a body
 abbrev pub ordinary : List (List ℕ)
-ordinary = codes "del" ∷ codes "sup" ∷ []
+ordinary = codes "del" ∷ codes "sup" ∷ codes "sub" ∷ codes "span" ∷ codes "kbd" ∷ codes "samp"
+    ∷ codes "var" ∷ codes "q" ∷ codes "cite" ∷ codes "abbr" ∷ codes "dfn" ∷ codes "ins"
+    ∷ codes "mark" ∷ []
 
 -- parts of tables
 abbrev pub sections : List (List ℕ)
-sections = codes "tbody" ∷ codes "thead" ∷ []
+sections = codes "tbody" ∷ codes "thead" ∷ codes "tfoot" ∷ []
 
 abbrev pub cells : List (List ℕ)
 cells = codes "td" ∷ codes "th" ∷ []

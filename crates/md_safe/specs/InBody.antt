@@ -71,7 +71,7 @@ start_in_body name attributes parser =
     else (if bytes_eq name (codes "table") then
     (if has_in_scope button_scope (is_named (codes "p")) parser.stack then None
     else Some (record (insert name attributes parser) { mode = InTable }))
-    else (if is_one_of (codes "br" ∷ codes "img" ∷ codes "input" ∷ []) name
+    else (if is_one_of (codes "br" ∷ codes "img" ∷ codes "input" ∷ codes "wbr" ∷ []) name
     then reconstructed parser (insert_void name attributes)
     else (if bytes_eq name (codes "hr")
     then Some (insert_void name attributes (record parser { stack = close_p parser.stack }))

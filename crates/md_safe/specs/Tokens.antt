@@ -5,6 +5,7 @@ use Rattle.std.specs.List.{list_all, list_any}
 use Rattle.md_text.specs.Bytes.{is_one_of}
 use Rattle.md_text.specs.References.{read_back}
 use Rattle.md_text.specs.Html.{Attribute, Forest, Empty, Text, Void, Element, elements, void_tags}
+use Rattle.md_text.specs.Html.{printed_elements, printed_void_tags}
 use Rattle.md_safe.specs.Input.{with_line_feeds}
 use Rattle.md_safe.specs.Token.{Token, Doctype, Character, StartTag, EndTag, EndOfFile}
 use Rattle.md_safe.specs.Token.{TokenAttribute}
@@ -33,12 +34,20 @@ is_tag_of rules name attributes =
     list_any (λ rule. bytes_eq rule.0 name && list_all (λ a. is_one_of rule.1 a.name) attributes)
     rules
 
--- a tag of the grammar's tables, the void ones with the self-closing flag, or a character,
--- or the end of file
+-- a tag of two tables, the void ones with the self-closing flag, or a character, or the end of file
+abbrev pub is_listed_in : List (List ℕ × List (List ℕ)) → List (List ℕ × List (List ℕ)) → Token →
+    Bool
+is_listed_in voids rules (StartTag name attributes flag) =
+    is_tag_of (if flag then voids else rules) name attributes
+is_listed_in voids rules (EndTag name) = is_tag_of rules name []
+is_listed_in voids rules (Doctype name) = false
+is_listed_in voids rules (Character b) = true
+is_listed_in voids rules EndOfFile = true
+
+-- the same of the grammar's tables
 abbrev pub is_listed : Token → Bool
-is_listed (StartTag name attributes flag) =
-    is_tag_of (if flag then void_tags else elements) name attributes
-is_listed (EndTag name) = is_tag_of elements name []
-is_listed (Doctype name) = false
-is_listed (Character b) = true
-is_listed EndOfFile = true
+is_listed token = is_listed_in void_tags elements token
+
+-- the same of the tables of what the compiler writes
+abbrev pub is_printed_token : Token → Bool
+is_printed_token token = is_listed_in printed_void_tags printed_elements token

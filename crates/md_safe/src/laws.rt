@@ -1,7 +1,7 @@
 //! Facts about the meaning of every document, as contracts of functions that do nothing.
 
 ghost use Rattle.std.specs.Prelude.{◌≡◌, ℕ, ◌<◌, ◌^◌, List, length, false};
-ghost use Rattle.md_text.specs.Html.{any_attribute, HasOneReadingWith};
+ghost use Rattle.md_text.specs.Html.{any_attribute, HasOneReadingWith, IsPrinted};
 ghost use Rattle.md_text.specs.Safe.{is_safe_link, is_safe_image};
 ghost use Rattle.md_text.specs.Ids.{HasDistinctIds};
 ghost use Rattle.md_base.specs.Tree.{Forest, flatten};
@@ -18,13 +18,17 @@ ghost use Rattle.md_safe.specs.Contents.{IsContained, IsUnnested};
 
 /// If each node of a document has a content that its place allows, the document's meaning is a text
 /// of the HTML grammar with exactly one reading, provided that the options write nothing unescaped.
-/// In that reading each link, and each image, has no protocol or a permitted one, if the options
-/// keep to those.
+/// Its tags are of those that the compiler writes. In that reading each link, and each image, has no
+/// protocol or a permitted one, if the options keep to those.
 pub fn safe_options_make_safe_output()
     ensures one_reading { (bytes : List ℕ) (names : List (List ℕ × List ℕ))
         (options : CompileOptions)
         (document : Forest) → IsBuilt bytes Blocks document → KeepsGrammar options
         → HasOneReadingWith any_attribute (meaning options names bytes document) }
+    ensures printed { (bytes : List ℕ) (names : List (List ℕ × List ℕ))
+        (options : CompileOptions)
+        (document : Forest) → IsBuilt bytes Blocks document → KeepsGrammar options
+        → IsPrinted (meaning options names bytes document) }
     ensures safe_links { (bytes : List ℕ) (names : List (List ℕ × List ℕ))
         (options : CompileOptions)
         (document : Forest) → IsBuilt bytes Blocks document → KeepsLinks options

@@ -5,6 +5,7 @@ pub mod cases;
 ghost use Rattle.std.specs.List.{list_all};
 ghost use Rattle.std.specs.Prelude.{◌≡◌, ℕ, Bool, false, [], ◌∷◌, ◌++◌, List, IsTrue};
 ghost use Rattle.md_text.specs.Html.{Attribute, Forest, is_forest, written, HasOneReadingWith};
+ghost use Rattle.md_text.specs.Html.{IsPrinted};
 ghost use Rattle.md_text.specs.References.{is_escaped};
 ghost use Rattle.md_text.specs.Safe.{is_safe_link, is_safe_image, is_safe_value};
 ghost use Rattle.md_text.specs.Url.{link_protocols, image_protocols};
@@ -12,7 +13,7 @@ ghost use Rattle.md_safe.specs.Input.{begins_with_line_feed};
 ghost use Rattle.md_safe.specs.Token.{Token, EndOfFile};
 ghost use Rattle.md_safe.specs.TokenizerStates.{State, leaves_state};
 ghost use Rattle.md_safe.specs.Tokenizer.{IsRun, IsTokenized};
-ghost use Rattle.md_safe.specs.Tokens.{tokens, seen, is_listed};
+ghost use Rattle.md_safe.specs.Tokens.{tokens, seen, is_listed, is_printed_token};
 ghost use Rattle.md_safe.specs.PageTokens.{page_text, page_tokens, IsTokenizedPage};
 ghost use Rattle.md_safe.specs.Tokenized.{HasTokensWith, IsTokenizedAsRead};
 ghost use Rattle.md_safe.specs.Running.{runs_nothing};
@@ -52,6 +53,14 @@ pub fn reading_is_tokenized()
 pub fn tags_are_listed()
     ensures { (p : Attribute → Bool) (text : List ℕ) (tokens : List Token)
         → HasOneReadingWith p text → IsTokenized text tokens → IsTrue (list_all is_listed tokens) }
+{}
+
+/// If the tags of a text with a reading are of those that the compiler writes, so are the tags among
+/// its tokens.
+pub fn printed_tags_are_listed()
+    ensures { (p : Attribute → Bool) (text : List ℕ) (tokens : List Token)
+        → HasOneReadingWith p text → IsPrinted text → IsTokenized text tokens
+        → IsTrue (list_all is_printed_token tokens) }
 {}
 
 /// No start tag among the tokens of a text with a reading belongs to an element that is listed as

@@ -9,7 +9,9 @@ use Rattle.md_text.specs.References.{is_escaped}
 use Rattle.md_text.specs.Html.{Attribute, Forest, Empty, Text, Void, Element, is_forest, is_tag}
 use Rattle.md_text.specs.Html.{begins_with_text, elements, void_tags, written, written_attributes}
 use Rattle.md_text.specs.Html.{opening_tag, closing_tag, HasReadingWith, all_attributes}
+use Rattle.md_text.specs.Html.{is_printed, printed_elements, printed_void_tags}
 use Rattle.md_text.proofs.EscapedLemmas.{escaped-append}
+use Rattle.md_text.proofs.HtmlNames.{printed-element, printed-void}
 
 filled-append : (x y : List ℕ) → is_nonempty x ≡ true → is_nonempty (x ++ y) ≡ true
 filled-append x y h = grind arith
@@ -43,6 +45,24 @@ all-text_before : (p : Attribute → Bool) (bytes : List ℕ) (g : Forest) → a
     all_attributes p (text_before bytes g) ≡ true
 all-text_before p bytes g h = grind arith
 
+printed-text_before : (bytes : List ℕ) (g : Forest) → is_printed g ≡ true →
+    is_printed (text_before bytes g) ≡ true
+printed-text_before bytes g h = grind arith
+
+-- one forest after another is of tags that the compiler writes, if both are
+pub printed-joined : (f g : Forest) → is_printed f ≡ true → is_printed g ≡ true →
+    is_printed (joined f g) ≡ true
+printed-joined Empty g hf hg = hg
+printed-joined (Text bytes rest) g hf hg =
+    printed-text_before bytes (joined rest g) (printed-joined rest g hf hg)
+printed-joined (Void name attributes rest) g hf hg =
+    let a = and_parts (is_tag printed_void_tags name attributes) (is_printed rest) hf in
+    and_from _ _ a.0 (printed-joined rest g a.1 hg)
+printed-joined (Element name attributes children rest) g hf hg =
+    let a = and_parts (is_tag printed_elements name attributes && is_printed children)
+    (is_printed rest) hf in
+    and_from _ _ a.0 (printed-joined rest g a.1 hg)
+
 -- ---- the closure facts
 
 pub nothing : (p : Attribute → Bool) → HasReadingWith p []
@@ -54,29 +74,37 @@ text p [] h = nothing p
 text p (b ∷ bytes) h = record {
   forest = Text (b ∷ bytes) Empty;
   reading = record { in_grammar = grind (arith, h); written_so = append-nil (b ∷ bytes) };
+  printed = refl;
   passes = refl;
 }
 
 pub void : (p : Attribute → Bool) (name : List ℕ) (attributes : List Attribute) →
-    is_tag void_tags name attributes ≡ true → list_all p attributes ≡ true →
+    is_tag printed_void_tags name attributes ≡ true → list_all p attributes ≡ true →
     HasReadingWith p (written (Void name attributes Empty))
 void p name attributes h a = record {
   forest = Void name attributes Empty;
-  reading = record { in_grammar = grind (arith, h); written_so = refl };
+  reading = record {
+    in_grammar = grind (arith, printed-void name attributes h);
+    written_so = refl;
+  };
+  printed = grind (arith, h);
   passes = grind (arith, a);
 }
 
 pub element :
     (p : Attribute → Bool) (name : List ℕ) (attributes : List Attribute) (inside : List ℕ) →
-    is_tag elements name attributes ≡ true → list_all p attributes ≡ true → HasReadingWith p inside
+    is_tag printed_elements name attributes ≡ true → list_all p attributes ≡ true
+    → HasReadingWith p inside
     → HasReadingWith p (60 ∷ (name ++ (written_attributes attributes
     ++ (62 ∷ (inside ++ (60 ∷ 47 ∷ (name ++ (62 ∷ []))))))))
 element p name attributes inside h a within = record {
   forest = Element name attributes within.forest Empty;
   reading = record {
-    in_grammar = grind (arith, h, within.reading.in_grammar);
+    in_grammar =
+        grind (arith, printed-element name attributes h, within.reading.in_grammar);
     written_so = rw within.reading.written_so refl;
   };
+  printed = grind (arith, h, within.printed);
   passes = grind (arith, a, within.passes);
 }
 
@@ -86,7 +114,8 @@ opening-before name attributes x = grind (arith, append_assoc)
 
 pub enclosed :
     (p : Attribute → Bool) (name : List ℕ) (attributes : List Attribute) (inside : List ℕ) →
-    is_tag elements name attributes ≡ true → list_all p attributes ≡ true → HasReadingWith p inside
+    is_tag printed_elements name attributes ≡ true → list_all p attributes ≡ true
+    → HasReadingWith p inside
     → HasReadingWith p (opening_tag name attributes ++ inside ++ closing_tag name)
 enclosed p name attributes inside h a within = grind (arith, append_assoc, opening-before, element)
 
@@ -130,5 +159,6 @@ join p x y hx hy =
         in_grammar = both.0;
         written_so = rw (both.1, hx.reading.written_so, hy.reading.written_so) refl;
       };
+      printed = printed-joined hx.forest hy.forest hx.printed hy.printed;
       passes = both.2;
     }

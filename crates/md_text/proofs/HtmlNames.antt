@@ -3,12 +3,14 @@
 use Rattle.md_base.proofs.Lies.{lie}
 use Rattle.std.proofs.Common.{arith, ◌≡◌, ℕ, ◌==◌, Bool, true, not, ◌&&◌, List, [], ◌∷◌, refl}
 use Rattle.std.proofs.Common.{ne_eqb}
-use Rattle.std.specs.List.{list_all}
+use Rattle.std.specs.List.{list_all, list_any}
+use Rattle.std.specs.Str.{bytes_eq}
 use Rattle.std.specs.Cmp.Lexicographic.{bytes_decides}
 use Rattle.std.proofs.lemmas.Bool.{and_parts, and_from, cases_eq}
 use Rattle.md_text.specs.Bytes.{is_one_of}
 use Rattle.md_text.specs.References.{is_escaped, is_escaped_byte}
 use Rattle.md_text.specs.Html.{Attribute, is_tag, are_attributes, elements, void_tags}
+use Rattle.md_text.specs.Html.{printed_elements, printed_void_tags}
 pub use Rattle.md_text.specs.HtmlName.{is_name_byte, is_name}
 
 abbrev pub no_angle : ℕ → Bool
@@ -49,13 +51,13 @@ escaped-quote (b ∷ rest) e =
     and_from (no_quote b) (list_all no_quote rest) (escaped_byte-quote b rest parts.0)
     (escaped-quote rest parts.1)
 
--- a listed name is a name
-listed-name : (listed : List (List ℕ)) (name : List ℕ) → list_all is_name listed ≡ true →
-    is_one_of listed name ≡ true → is_name name ≡ true
-listed-name [] name g e = cc
-listed-name (t ∷ ts) name g e =
+-- what holds of each listed name holds of one of them
+pub one_of-passes : (p : List ℕ → Bool) (listed : List (List ℕ)) (name : List ℕ) →
+    list_all p listed ≡ true → is_one_of listed name ≡ true → p name ≡ true
+one_of-passes p [] name g e = lie e
+one_of-passes p (t ∷ ts) name g e =
     let same = (bytes_decides name t).0 in
-    let later = listed-name ts name in
+    let later = one_of-passes p ts name in
     grind (arith, same, later, g, e)
 
 attributes-tidy : (listed : List (List ℕ)) (attributes : List Attribute) →
@@ -64,7 +66,7 @@ attributes-tidy : (listed : List (List ℕ)) (attributes : List Attribute) →
 attributes-tidy listed [] g e = refl
 attributes-tidy listed (a ∷ rest) g e =
     let later = attributes-tidy listed rest g in
-    grind (arith, listed-name, escaped-quote, escaped-angle, later, g, e)
+    grind (arith, one_of-passes is_name listed a.name, escaped-quote, escaped-angle, later, g, e)
 
 -- a tag of a table of names has a name, and tidy attributes
 tag-tidy : (rules : List (List ℕ × List (List ℕ))) (name : List ℕ) (attributes : List Attribute) →
@@ -85,3 +87,44 @@ pub void-tidy : (name : List ℕ) (attributes : List Attribute) →
     is_tag void_tags name attributes ≡ true →
     (is_name name ≡ true) × (are_tidy attributes ≡ true)
 void-tidy name attributes e = tag-tidy void_tags name attributes refl e
+
+-- ---- what the compiler writes is in the tables of the grammar
+
+attributes-wider : (few listed : List (List ℕ)) (x : List Attribute) →
+    list_all (is_one_of listed) few ≡ true → are_attributes few x ≡ true →
+    are_attributes listed x ≡ true
+attributes-wider few listed [] g e = refl
+attributes-wider few listed (a ∷ rest) g e =
+    let later = attributes-wider few listed rest g in
+    grind (arith, one_of-passes (is_one_of listed) few a.name, later, g, e)
+
+-- a rule for the same name lists these attributes, and perhaps others
+abbrev widens : List ℕ × List (List ℕ) → List ℕ × List (List ℕ) → Bool
+widens few rule = bytes_eq rule.0 few.0 && list_all (is_one_of rule.1) few.1
+
+abbrev is_widened : List (List ℕ × List (List ℕ)) → List ℕ × List (List ℕ) → Bool
+is_widened rules few = list_any (widens few) rules
+
+rule-wider : (few : List ℕ × List (List ℕ)) (rules : List (List ℕ × List (List ℕ)))
+    (x : List Attribute) → is_widened rules few ≡ true → are_attributes few.1 x ≡ true →
+    is_tag rules few.0 x ≡ true
+rule-wider few [] x g e = lie g
+rule-wider few (rule ∷ rules) x g e =
+    let later = rule-wider few rules x in
+    grind (arith, attributes-wider few.1 rule.1 x, later, g, e)
+
+tag-wider : (some rules : List (List ℕ × List (List ℕ))) (name : List ℕ) (x : List Attribute) →
+    list_all (is_widened rules) some ≡ true → is_tag some name x ≡ true → is_tag rules name x ≡ true
+tag-wider [] rules name x g e = lie e
+tag-wider (few ∷ some) rules name x g e =
+    let same = (bytes_decides few.0 name).0 in
+    let later = tag-wider some rules name x in
+    grind (arith, same, rule-wider few rules x, later, g, e)
+
+pub printed-element : (name : List ℕ) (x : List Attribute) →
+    is_tag printed_elements name x ≡ true → is_tag elements name x ≡ true
+printed-element name x e = tag-wider printed_elements elements name x refl e
+
+pub printed-void : (name : List ℕ) (x : List Attribute) →
+    is_tag printed_void_tags name x ≡ true → is_tag void_tags name x ≡ true
+printed-void name x e = tag-wider printed_void_tags void_tags name x refl e

@@ -10,6 +10,7 @@ use Rattle.md_text.specs.Laws.{is_line_ends}
 use Rattle.md_text.specs.Html.{Attribute, Forest, Empty, Text, Void, Element, is_forest, is_tag}
 use Rattle.md_text.specs.Html.{begins_with_text, elements, void_tags, written, written_attributes}
 use Rattle.md_text.specs.Html.{opening_tag, closing_tag, IsReading, HasReadingWith, all_attributes}
+use Rattle.md_text.specs.Html.{is_printed, printed_elements, printed_void_tags}
 use Rattle.md_text.proofs.HtmlNames.{is_name, no_angle, element-tidy, void-tidy, escaped-angle}
 use Rattle.md_text.proofs.HtmlSplit.{name-not}
 use Rattle.md_text.proofs.HtmlJoin.{text, void, enclosed, join, opening-before}
@@ -164,41 +165,57 @@ made-before made before endings inserted h is f reading =
 
 -- readings in which each attribute passes a test
 reading-made : (p : Attribute → Bool) (x : List ℕ) → HasReadingWith p x →
-    IsMade x (λ f y. all_attributes p f ≡ true → HasReadingWith p y)
+    IsMade x (λ f y. is_printed f ≡ true → all_attributes p f ≡ true → HasReadingWith p y)
 reading-made p x hx = record {
-  texts = λ bytes rest y escaped later passes. join p bytes y (text p bytes escaped) (later passes);
-  voids = λ name attributes rest y tag later passes.
+  texts = λ bytes rest y escaped later printed passes.
+      join p bytes y (text p bytes escaped) (later printed passes);
+  voids = λ name attributes rest y tag later printed passes.
       (let parts = and_parts (list_all p attributes) (all_attributes p rest) passes in
+      let of = and_parts (is_tag printed_void_tags name attributes) (is_printed rest) printed in
       join p (written (Void name attributes Empty)) y
-      (void p name attributes tag parts.0) (later parts.1));
-  rests = λ name attributes children rest y tag forest later passes.
+      (void p name attributes of.0 parts.0) (later of.1 parts.1));
+  rests = λ name attributes children rest y tag forest later printed passes.
       (let parts = and_parts (list_all p attributes && all_attributes p children)
       (all_attributes p rest) passes in
       let own = and_parts (list_all p attributes) (all_attributes p children) parts.0 in
-      join p _ y (enclosed p name attributes (written children) tag own.0
-      (as_written p children forest own.1)) (later parts.1));
-  insides = λ name attributes children rest tag forest rests passes.
+      let of = printed_parts name attributes children rest printed in
+      join p _ y (enclosed p name attributes (written children) of.0 own.0
+      (as_written p children forest of.1 own.1)) (later of.2 parts.1));
+  insides = λ name attributes children rest tag forest rests printed passes.
       (let parts = and_parts (list_all p attributes && all_attributes p children)
       (all_attributes p rest) passes in
       let own = and_parts (list_all p attributes) (all_attributes p children) parts.0 in
-      join p _ (written rest) (enclosed p name attributes (written children ++ x) tag own.0
-      (join p (written children) x (as_written p children forest own.1) hx))
-      (as_written p rest rests parts.1));
+      let of = printed_parts name attributes children rest printed in
+      join p _ (written rest) (enclosed p name attributes (written children ++ x) of.0 own.0
+      (join p (written children) x (as_written p children forest of.1 own.1) hx))
+      (as_written p rest rests of.2 parts.1));
 }
   where
     as_written : (p : Attribute → Bool) (f : Forest) → is_forest f ≡ true →
-        all_attributes p f ≡ true →
+        is_printed f ≡ true → all_attributes p f ≡ true →
         HasReadingWith p (written f)
-    as_written p f h passes = record {
+    as_written p f h printed passes = record {
       forest = f;
       reading = record { in_grammar = h; written_so = refl };
+      printed = printed;
       passes = passes;
     }
+
+    printed_parts : (name : List ℕ) (attributes : List Attribute) (children rest : Forest) →
+        is_printed (Element name attributes children rest) ≡ true →
+        (is_tag printed_elements name attributes ≡ true) × (is_printed children ≡ true)
+        × (is_printed rest ≡ true)
+    printed_parts name attributes children rest h =
+        let both = and_parts (is_tag printed_elements name attributes && is_printed children)
+        (is_printed rest) h in
+        let own = and_parts (is_tag printed_elements name attributes) (is_printed children)
+        both.0 in
+        (own.0, own.1, both.1)
 
 pub paragraph_takes : (p : Attribute → Bool) (before endings inserted : List ℕ) →
     is_line_ends endings ≡ true →
     HasReadingWith p (before ++ codes "</p>" ++ endings) → HasReadingWith p inserted
     → HasReadingWith p (before ++ inserted ++ codes "</p>" ++ endings)
 paragraph_takes p before endings inserted h hv hx =
-    made-before (λ f y. all_attributes p f ≡ true → HasReadingWith p y) before endings inserted h
-    (reading-made p inserted hx) hv.forest hv.reading hv.passes
+    made-before (λ f y. is_printed f ≡ true → all_attributes p f ≡ true → HasReadingWith p y) before
+    endings inserted h (reading-made p inserted hx) hv.forest hv.reading hv.printed hv.passes

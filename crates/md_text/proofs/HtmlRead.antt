@@ -10,12 +10,12 @@ use Rattle.std.specs.List.{list_all}
 use Rattle.std.proofs.lemmas.Bool.{and_parts, and_from}
 use Rattle.std.specs.Cmp.Lexicographic.{bytes_decides}
 use Rattle.md_text.specs.Html.{Attribute, Forest, Empty, Text, Void, Element, is_forest, written}
-use Rattle.md_text.specs.Html.{IsReading, HasReading, HasReadingWith, all_attributes}
+use Rattle.md_text.specs.Html.{IsReading, HasReading, HasReadingWith, all_attributes, is_printed}
 use Rattle.md_text.proofs.HtmlNames.{is_name, is_name_byte, no_angle, are_tidy}
 use Rattle.md_text.proofs.HtmlSplit.{EndsAttributes}
 use Rattle.md_text.proofs.HtmlWriting.{attributes_before, forest_before, written-before}
 use Rattle.md_text.proofs.HtmlReading.{IsEnd, text_parts, element_parts, void_parts, after_text}
-use Rattle.md_text.proofs.HtmlReading.{attributes_stop, all-any}
+use Rattle.md_text.proofs.HtmlReading.{attributes_stop}
 use Rattle.md_text.proofs.HtmlReader.{Left, with_left, read_run, past_name, past_space, read_run-at}
 use Rattle.md_text.proofs.HtmlReader.{read_attributes, past_tag_name, past_angle, past_text}
 use Rattle.md_text.proofs.HtmlReader.{at_node, past_attributes, read_forest}
@@ -141,7 +141,7 @@ guessed_reading text h =
     record { in_grammar = p.0; written_so = (bytes_decides (written (guessed text)) text).0 p.1 }
 
 pub readable : (text : List ℕ) → is_readable text ≡ true → HasReading text
-readable text h = grind (arith, guessed_reading, all-any)
+readable text h = record { forest = guessed text; reading = guessed_reading text h }
 
 guessed-is : (text : List ℕ) (f : Forest) → IsReading text f → guessed text ≡ f
 guessed-is text f reading =
@@ -163,8 +163,9 @@ unreadable text e h = lie (sym e ∙ reads text h)
 
 -- a text with a reading whose attributes pass, and one with a reading in which an attribute fails
 pub readable_with : (p : Attribute → Bool) (text : List ℕ) → is_readable text ≡ true →
-    all_attributes p (guessed text) ≡ true → HasReadingWith p text
-readable_with p text h passes = grind (arith, guessed_reading)
+    is_printed (guessed text) ≡ true → all_attributes p (guessed text) ≡ true
+    → HasReadingWith p text
+readable_with p text h printed passes = grind (arith, guessed_reading)
 
 pub fails_with : (p : Attribute → Bool) (text : List ℕ) → all_attributes p (guessed text) ≡ false →
     HasReadingWith p text → ⊥

@@ -1,4 +1,5 @@
--- The grammar of the HTML that the compiler writes. It doesn't refer to events.
+-- The grammar of safe HTML: what the compiler writes, and what authors may write besides. It doesn't
+-- refer to events.
 use Rattle.std.specs.Str.{bytes_eq}
 use Rattle.md_base.specs.Identifier.{is_nonempty}
 use Rattle.std.specs.Prelude.{◌≡◌, ℕ, Bool, true, false, not, IsTrue, ◌&&◌, List, [], ◌∷◌, ◌++◌}
@@ -44,9 +45,53 @@ opening_tag name attributes = 60 ∷ (name ++ (written_attributes attributes ++ 
 abbrev pub closing_tag : List ℕ → List ℕ
 closing_tag name = 60 ∷ 47 ∷ (name ++ (62 ∷ []))
 
+-- the attributes that any element of authors may have
+abbrev pub shared : List (List ℕ)
+shared = codes "id" ∷ codes "title" ∷ codes "lang" ∷ codes "dir" ∷ []
+
+-- those of parts of tables and of their rows, and besides these those of cells
+abbrev pub of_rows : List (List ℕ)
+of_rows = codes "align" ∷ codes "valign" ∷ shared
+
+abbrev pub of_cells : List (List ℕ)
+of_cells =
+    codes "colspan" ∷ codes "rowspan" ∷ codes "width" ∷ codes "height" ∷ of_rows
+
 -- the elements, each with the names of the attributes that it may have
 abbrev pub elements : List (List ℕ × List (List ℕ))
 elements =
+    map (λ name. (name, shared)) (codes "blockquote" ∷ codes "pre" ∷ codes "ul" ∷ codes "em"
+    ∷ codes "strong" ∷ codes "del" ∷ codes "sup" ∷ codes "b" ∷ codes "i" ∷ codes "u" ∷ codes "s"
+    ∷ codes "small" ∷ codes "sub" ∷ codes "span" ∷ codes "kbd" ∷ codes "samp" ∷ codes "var"
+    ∷ codes "q" ∷ codes "cite" ∷ codes "abbr" ∷ codes "dfn" ∷ codes "ins" ∷ codes "mark"
+    ∷ codes "summary" ∷ codes "figure" ∷ codes "figcaption" ∷ [])
+    ++ map (λ name. (name, codes "align" ∷ shared)) (codes "p" ∷ codes "div" ∷ codes "h1"
+    ∷ codes "h3" ∷ codes "h4" ∷ codes "h5" ∷ codes "h6" ∷ [])
+    ++ map (λ name. (name, of_rows)) (codes "thead" ∷ codes "tbody" ∷ codes "tfoot" ∷ codes "tr"
+    ∷ [])
+    ++ (codes "th", of_cells) ∷ (codes "td", of_cells)
+    ∷ (codes "table", codes "align" ∷ codes "width" ∷ shared)
+    ∷ (codes "code", codes "class" ∷ shared) ∷ (codes "ol", codes "start" ∷ shared)
+    ∷ (codes "li", shared) ∷ (codes "h2", codes "class" ∷ codes "align" ∷ shared)
+    ∷ (codes "details", codes "open" ∷ shared)
+    ∷ (codes "section", codes "data-footnotes" ∷ codes "class" ∷ [])
+    ∷ (
+      codes "a",
+      codes "href" ∷ codes "class" ∷ codes "data-footnote-ref" ∷ codes "data-footnote-backref"
+          ∷ codes "aria-describedby" ∷ codes "aria-label" ∷ codes "name" ∷ shared,
+    ) ∷ []
+
+-- the void tags, likewise
+abbrev pub void_tags : List (List ℕ × List (List ℕ))
+void_tags = (codes "br", shared) ∷ (codes "hr", shared) ∷ (codes "wbr", shared)
+    ∷ (
+      codes "img",
+      codes "src" ∷ codes "alt" ∷ codes "width" ∷ codes "height" ∷ codes "align" ∷ shared,
+    ) ∷ (codes "input", codes "type" ∷ codes "disabled" ∷ codes "checked" ∷ []) ∷ []
+
+-- the elements that the compiler writes, each with the attributes that it writes
+abbrev pub printed_elements : List (List ℕ × List (List ℕ))
+printed_elements =
     map (λ name. (name, [])) (codes "blockquote" ∷ codes "pre" ∷ codes "p" ∷ codes "ul" ∷ codes "em"
     ∷ codes "strong" ∷ codes "del" ∷ codes "sup" ∷ codes "table" ∷ codes "thead" ∷ codes "tbody"
     ∷ codes "tr"
@@ -61,9 +106,9 @@ elements =
           ∷ codes "data-footnote-backref" ∷ codes "aria-describedby" ∷ codes "aria-label" ∷ [],
     ) ∷ []
 
--- the void tags, likewise
-abbrev pub void_tags : List (List ℕ × List (List ℕ))
-void_tags = (codes "br", []) ∷ (codes "hr", [])
+-- the void tags that it writes, likewise
+abbrev pub printed_void_tags : List (List ℕ × List (List ℕ))
+printed_void_tags = (codes "br", []) ∷ (codes "hr", [])
     ∷ (codes "img", codes "src" ∷ codes "alt" ∷ codes "title" ∷ [])
     ∷ (codes "input", codes "type" ∷ codes "disabled" ∷ codes "checked" ∷ []) ∷ []
 
@@ -92,6 +137,15 @@ is_forest (Void name attributes rest) = is_tag void_tags name attributes && is_f
 is_forest (Element name attributes inner rest) =
     is_tag elements name attributes && is_forest inner && is_forest rest
 
+-- all tags are in the tables of those that the compiler writes
+abbrev pub is_printed : Forest → Bool
+is_printed Empty = true
+is_printed (Text bytes rest) = is_printed rest
+is_printed (Void name attributes rest) =
+    is_tag printed_void_tags name attributes && is_printed rest
+is_printed (Element name attributes inner rest) =
+    is_tag printed_elements name attributes && is_printed inner && is_printed rest
+
 -- each attribute of each tag passes the test
 abbrev pub all_attributes : (Attribute → Bool) → Forest → Bool
 all_attributes p Empty = true
@@ -112,16 +166,22 @@ pub record HasOneReadingWith (p : Attribute → Bool) (text : List ℕ) : Type 0
   pub passes : IsTrue (all_attributes p forest)
   pub only : (other : Forest) → IsReading text other → other ≡ forest
 
--- a text has a reading in which each attribute passes the test
+-- a text has a reading of tags that the compiler writes, in which each attribute passes the test
 pub record HasReadingWith (p : Attribute → Bool) (text : List ℕ) : Type 0 where
   pub forest : Forest
   pub reading : IsReading text forest
+  pub printed : IsTrue (is_printed forest)
   pub passes : IsTrue (all_attributes p forest)
+
+-- the tags of each reading of a text are of those that the compiler writes
+abbrev pub IsPrinted : List ℕ → Type 0
+IsPrinted text = (forest : Forest) → IsReading text forest → IsTrue (is_printed forest)
 
 -- any attribute
 abbrev pub any_attribute : Attribute → Bool
 any_attribute a = true
 
 -- a text has a reading
-abbrev pub HasReading : List ℕ → Type 0
-HasReading text = HasReadingWith any_attribute text
+pub record HasReading (text : List ℕ) : Type 0 where
+  pub forest : Forest
+  pub reading : IsReading text forest

@@ -12,8 +12,8 @@ ghost use Rattle.md_text.specs.Encode.{encoded};
 ghost use Rattle.md_text.specs.Filter.{tag_filtered};
 ghost use Rattle.md_text.specs.Html.{Attribute, Forest, Empty, Void, IsReading, HasReadingWith};
 ghost use Rattle.md_text.specs.Html.{HasOneReadingWith};
-ghost use Rattle.md_text.specs.Html.{is_tag, elements, void_tags, written, opening_tag};
-ghost use Rattle.md_text.specs.Html.{closing_tag};
+ghost use Rattle.md_text.specs.Html.{is_tag, printed_elements, printed_void_tags, written};
+ghost use Rattle.md_text.specs.Html.{opening_tag, closing_tag};
 ghost use Rattle.md_text.specs.Laws.{ChangesOnlyAngles, AreBytes, AreAscii, is_line_ends};
 ghost use Rattle.md_text.specs.Laws.{percents_begin_triples};
 ghost use Rattle.md_text.specs.LineEnding.{ending_text, ending_of};
@@ -120,17 +120,17 @@ pub fn text_has_a_reading()
         → IsTrue (is_escaped text) → HasReadingWith p text }
 {}
 
-/// A void tag of the table has a reading.
+/// A void tag that the compiler writes has a reading.
 pub fn void_tag_has_a_reading()
     ensures { (p : Attribute → Bool) (name : List ℕ) (attributes : List Attribute)
-        → IsTrue (is_tag void_tags name attributes) → IsTrue (list_all p attributes)
+        → IsTrue (is_tag printed_void_tags name attributes) → IsTrue (list_all p attributes)
         → HasReadingWith p (written (Void name attributes Empty)) }
 {}
 
-/// An element of the table has a reading if its content has one.
+/// An element that the compiler writes has a reading if its content has one.
 pub fn element_has_a_reading()
     ensures { (p : Attribute → Bool) (name : List ℕ) (attributes : List Attribute) (inside : List ℕ)
-        → IsTrue (is_tag elements name attributes) → IsTrue (list_all p attributes)
+        → IsTrue (is_tag printed_elements name attributes) → IsTrue (list_all p attributes)
         → HasReadingWith p inside
         → HasReadingWith p (opening_tag name attributes ++ inside ++ closing_tag name) }
 {}

@@ -1,6 +1,7 @@
 //! Documents, alone or in sequence.
 
-use md_markdown::{MarkdownOptions, SafeHtml, markdown};
+use crate::settings::Settings;
+use md_markdown::{markdown, markdown_keeping_html};
 use std::alloc::Global;
 use std::io::{self, Error, ErrorKind, Write};
 use std::str;
@@ -13,11 +14,11 @@ use std::str;
 pub(crate) fn write_document<W: Write>(
     alloc: Global,
     input: &[u8],
-    options: &MarkdownOptions,
+    settings: &Settings,
     writer: &mut W,
 ) -> io::Result<()> {
-    match text_of(alloc, input, options)? {
-        Some(html) => writer.write_all(html.as_str().as_bytes()),
+    match text_of(alloc, input, settings)? {
+        Some(html) => writer.write_all(html.as_bytes()),
         None => Err(Error::from(ErrorKind::InvalidData)),
     }
 }
@@ -30,7 +31,7 @@ pub(crate) fn write_document<W: Write>(
 pub(crate) fn write_frames<W: Write>(
     alloc: Global,
     input: &[u8],
-    options: &MarkdownOptions,
+    settings: &Settings,
     writer: &mut W,
 ) -> io::Result<()> {
     let mut rest = input;
@@ -39,7 +40,7 @@ pub(crate) fn write_frames<W: Write>(
             break;
         };
         rest = others;
-        match text_of(alloc, document, options)? {
+        match text_of(alloc, document, settings)? {
             Some(html) => {
                 let text = html.as_str();
                 writeln!(writer, "0 {}", text.len())?;
@@ -71,16 +72,18 @@ fn split_frame(input: &[u8]) -> io::Result<Option<(&[u8], &[u8])>> {
 }
 
 /// The text of a document, if it is UTF-8.
-fn text_of(
-    alloc: Global,
-    document: &[u8],
-    options: &MarkdownOptions,
-) -> io::Result<Option<SafeHtml>> {
+fn text_of(alloc: Global, document: &[u8], settings: &Settings) -> io::Result<Option<String>> {
     let Ok(text) = str::from_utf8(document) else {
         return Ok(None);
     };
-    match markdown(alloc, text, options) {
-        Ok(html) => Ok(Some(html)),
+    if settings.keeps_html {
+        return match markdown_keeping_html(alloc, text, &settings.options) {
+            Ok(html) => Ok(Some(html)),
+            Err(_) => Err(Error::from(ErrorKind::OutOfMemory)),
+        };
+    }
+    match markdown(alloc, text, &settings.options) {
+        Ok(html) => Ok(Some(String::from_str(alloc, html.as_str())?)),
         Err(_) => Err(Error::from(ErrorKind::OutOfMemory)),
     }
 }

@@ -4,9 +4,11 @@
 //!
 //! Options: `--math`, `--front-matter`, `--no-footnotes`, `--no-tables`, `--no-bare-links`,
 //! `--hard-breaks`, `--number-ids`, `--html=text`, `--html=left-out`, `--html=without-comments`,
-//! `--base=URL`, `--footnote-prefix=TEXT`, and `--frames`: standard input is then a sequence of
-//! documents, each after its length in bytes and a line feed, and each text comes after `0`, a
-//! space, its length and a line feed. For a document that isn't UTF-8 the output is `1 0`.
+//! `--html=kept` (HTML that authors may write is kept, all other left out), `--html=kept-or-text`
+//! (all other is printed as text, without comments), `--base=URL`, `--footnote-prefix=TEXT`, and
+//! `--frames`: standard input is then a sequence of documents, each after its length in bytes and a
+//! line feed, and each text comes after `0`, a space, its length and a line feed. For a document
+//! that isn't UTF-8 the output is `1 0`.
 //!
 //! If there is no HTML, it writes one line to standard error, and exits with status 1.
 #![tactic(auto)]
@@ -37,9 +39,9 @@ fn run<R: Env + Input + Print + AllocGlobal>(rt: &R) -> io::Result<()> {
     rt.reader().read_to_end(&mut input)?;
     let mut writer = BufWriter::new(rt.alloc(), io::writer(rt))?;
     if settings.has_frames {
-        write_frames(rt.alloc(), input.as_slice(), &settings.options, &mut writer)?;
+        write_frames(rt.alloc(), input.as_slice(), &settings, &mut writer)?;
     } else {
-        write_document(rt.alloc(), input.as_slice(), &settings.options, &mut writer)?;
+        write_document(rt.alloc(), input.as_slice(), &settings, &mut writer)?;
     }
     writer.flush()
 }

@@ -11,6 +11,8 @@ pub(crate) struct Settings {
     pub(crate) options: MarkdownOptions,
     /// Whether the input is a sequence of documents.
     pub(crate) has_frames: bool,
+    /// Whether HTML that authors write is kept.
+    pub(crate) keeps_html: bool,
 }
 
 /// Reads the arguments.
@@ -22,6 +24,7 @@ pub(crate) fn read_settings<R: Env + AllocGlobal>(rt: &R) -> io::Result<Settings
     let mut settings = Settings {
         options: MarkdownOptions::default(),
         has_frames: false,
+        keeps_html: false,
     };
     for word in env::args(rt)?.skip(1) {
         set(rt, &mut settings, word.as_str())?;
@@ -43,9 +46,17 @@ fn set<R: AllocGlobal>(rt: &R, settings: &mut Settings, word: &str) -> io::Resul
         "--html=text" => settings.options.html = DocumentHtml::Text,
         "--html=left-out" => settings.options.html = DocumentHtml::LeftOut,
         "--html=without-comments" => settings.options.html = DocumentHtml::WithoutComments,
+        "--html=kept" => keep_html(settings, DocumentHtml::LeftOut),
+        "--html=kept-or-text" => keep_html(settings, DocumentHtml::WithoutComments),
         _ => return set_text(rt, settings, word),
     }
     Ok(())
+}
+
+/// Keeps HTML that authors write. `others` is what is done with all other HTML.
+fn keep_html(settings: &mut Settings, others: DocumentHtml) {
+    settings.keeps_html = true;
+    settings.options.html = others;
 }
 
 /// Applies an argument with a text.

@@ -63,6 +63,48 @@ pub fn listed_attributes_are_allowed()
     ensures input { HasReading (codes "<input type=\"checkbox\" disabled=\"\" checked=\"\" />") }
 {}
 
+/// Each element that authors may write besides may stand alone, and the void tag.
+pub fn elements_of_authors_stand_alone()
+    ensures b { HasReading (codes "<b></b>") }
+    ensures i { HasReading (codes "<i></i>") }
+    ensures u { HasReading (codes "<u></u>") }
+    ensures s { HasReading (codes "<s></s>") }
+    ensures small { HasReading (codes "<small></small>") }
+    ensures sub { HasReading (codes "<sub></sub>") }
+    ensures span { HasReading (codes "<span></span>") }
+    ensures kbd { HasReading (codes "<kbd></kbd>") }
+    ensures samp { HasReading (codes "<samp></samp>") }
+    ensures var { HasReading (codes "<var></var>") }
+    ensures q { HasReading (codes "<q></q>") }
+    ensures cite { HasReading (codes "<cite></cite>") }
+    ensures abbr { HasReading (codes "<abbr></abbr>") }
+    ensures dfn { HasReading (codes "<dfn></dfn>") }
+    ensures ins { HasReading (codes "<ins></ins>") }
+    ensures mark { HasReading (codes "<mark></mark>") }
+    ensures div { HasReading (codes "<div></div>") }
+    ensures details { HasReading (codes "<details></details>") }
+    ensures summary { HasReading (codes "<summary></summary>") }
+    ensures figure { HasReading (codes "<figure></figure>") }
+    ensures figcaption { HasReading (codes "<figcaption></figcaption>") }
+    ensures tfoot { HasReading (codes "<tfoot></tfoot>") }
+    ensures wbr { HasReading (codes "<wbr />") }
+{}
+
+/// Authors' tags may have the attributes that the table lists for them.
+pub fn attributes_of_authors_are_allowed()
+    ensures p { HasReading
+        (codes "<p align=\"a\" id=\"b\" title=\"c\" lang=\"d\" dir=\"e\"></p>") }
+    ensures h2 { HasReading (codes "<h2 align=\"a\" title=\"b\"></h2>") }
+    ensures td { HasReading
+        (codes "<td colspan=\"1\" rowspan=\"2\" width=\"3\" height=\"4\" valign=\"a\"></td>") }
+    ensures tr { HasReading (codes "<tr align=\"a\" valign=\"b\"></tr>") }
+    ensures table { HasReading (codes "<table align=\"a\" width=\"1\"></table>") }
+    ensures details { HasReading (codes "<details open=\"\"></details>") }
+    ensures a { HasReading (codes "<a name=\"a\" lang=\"b\"></a>") }
+    ensures img { HasReading (codes "<img width=\"1\" height=\"2\" align=\"a\" id=\"b\" />") }
+    ensures br { HasReading (codes "<br id=\"a\" />") }
+{}
+
 /// A text whose special characters are references has a reading, and so has the empty text.
 pub fn texts_stand_alone()
     ensures nothing { HasReading (codes "") }
@@ -92,8 +134,8 @@ pub fn other_tags_have_no_reading()
     ensures script_pair { ¬ HasReading (codes "<script></script>") }
     ensures style { ¬ HasReading (codes "<style></style>") }
     ensures iframe { ¬ HasReading (codes "<iframe></iframe>") }
-    ensures bold { ¬ HasReading (codes "<b></b>") }
-    ensures div { ¬ HasReading (codes "<div></div>") }
+    ensures button { ¬ HasReading (codes "<button></button>") }
+    ensures form { ¬ HasReading (codes "<form></form>") }
     ensures upper_case { ¬ HasReading (codes "<P></P>") }
     ensures comment { ¬ HasReading (codes "<!-- a -->") }
     ensures doctype { ¬ HasReading (codes "<!doctype html>") }
@@ -124,6 +166,7 @@ pub fn other_attributes_have_no_reading()
     ensures handler_in_void { ¬ HasReading (codes "<img onerror=\"x\" />") }
     ensures style { ¬ HasReading (codes "<p style=\"a\"></p>") }
     ensures class_of_another { ¬ HasReading (codes "<p class=\"a\"></p>") }
+    ensures class_of_an_author { ¬ HasReading (codes "<div class=\"a\"></div>") }
     ensures href_of_an_image { ¬ HasReading (codes "<img href=\"a\" />") }
     ensures upper_case { ¬ HasReading (codes "<a HREF=\"a\"></a>") }
     ensures twice { ¬ HasReading (codes "<a href=\"a\" href=\"b\"></a>") }

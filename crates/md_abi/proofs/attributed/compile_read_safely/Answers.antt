@@ -12,6 +12,7 @@ returns-clause-ok c =
       grammatical = made.grammatical;
       meaning = made.meaning;
       one_reading = λ _. reads_once c.in_ok-html.html made.tokens.as_read;
+      printed = λ _. made.printed;
       safe_links = λ _. c.as_str-text.ensures.safe.safe_links;
       safe_images = λ _. c.as_str-text.ensures.safe.safe_images;
       contained = λ _. made.contained;

@@ -1,5 +1,5 @@
 -- What is skipped so far are columns of the spaces and tabs before the text.
-use Rattle.std.proofs.Common.{◌≡◌, ◌≤◌, ◌+◌, ◌*◌, ◌∷◌, suc, drop, true}
+use Rattle.std.proofs.Common.{◌≡◌, ◌≤◌, ◌<◌, ◌+◌, ◌%◌, ◌*◌, ◌∷◌, suc, drop, true}
 use Rattle.md_blocks.specs.Rests.{columns_at, skipped_at, text_of}
 use Rattle.md_blocks.specs.Leaves.{blanks}
 use Rattle.md_blocks.proofs.position.skip_columns.Given as goal
@@ -9,6 +9,7 @@ invariant-loop-left l = record {
   after : l.from ≤ l.at;
   text : l.text ≡ l.at + blanks (drop l.at l.line);
   tab : l.is_in_tab ≡ true → drop l.at l.line ≡ 9 ∷ drop (suc l.at) l.line;
+  part : l.is_in_tab ≡ true → 0 < l.column % 4;
   enough : l.left ≤ columns_at l.column (text_of l.line l.at l.column l.is_in_tab);
   few : l.column + columns_at l.column (text_of l.line l.at l.column l.is_in_tab) ≤ 4 * l.text + 3;
   indent : columns_at l.column (text_of l.line l.at l.column l.is_in_tab) + l.columns

@@ -1,7 +1,7 @@
 -- What follows from here follows from the beginning, and the other way round.
 use Rattle.std.proofs.Common.{ℕ, List, ◌≤◌, ◌+◌, ◌*◌, length}
 use Rattle.md_reader.specs.Allowed.{content_of}
-use Rattle.md_reader.specs.Permitted.{permits}
+use Rattle.md_reader.specs.Tests.{test_of}
 use Rattle.md_reader.specs.Levels.{IsEnd, IsLevel}
 use Rattle.md_reader.proofs.nodes.+nodes.Given as goal
 
@@ -19,11 +19,11 @@ decreases-past_element l = 4 * l.depth
 
 abbrev pub invariant-past_nodes-nodes : goal.invariant-past_nodes-nodes
 invariant-past_nodes-nodes l =
-    ((end : List ℕ) → IsLevel (permits l.protocols) (content_of l.content) l.depth l.rest end
-    → IsLevel (permits l.protocols) (content_of l.content) l.depth l.text end)
+    ((end : List ℕ) → IsLevel (test_of l.rules) (content_of l.content) l.depth l.rest end
+    → IsLevel (test_of l.rules) (content_of l.content) l.depth l.text end)
     × ((end : List ℕ) → IsEnd end
-    → IsLevel (permits l.protocols) (content_of l.content) l.depth l.text end
-    → IsLevel (permits l.protocols) (content_of l.content) l.depth l.rest end)
+    → IsLevel (test_of l.rules) (content_of l.content) l.depth l.text end
+    → IsLevel (test_of l.rules) (content_of l.content) l.depth l.rest end)
     × (length l.rest ≤ length l.text)
 
 abbrev pub decreases-past_nodes-nodes : goal.decreases-past_nodes-nodes

@@ -2,12 +2,12 @@
 use Rattle.std.proofs.Common.{◌==◌, sym, ap, ◌∙◌, eqb-true, length}
 use Rattle.md_base.proofs.Lies.{lie}
 use Rattle.md_reader.specs.Allowed.{content_of}
-use Rattle.md_reader.specs.Permitted.{permits}
+use Rattle.md_reader.specs.Tests.{test_of}
 use Rattle.md_reader.proofs.NodeLemmas.{text-node, no-text, filled, empty}
 use Rattle.md_reader.proofs.nodes.past_text.Goals as goal
 
 pub returns-then-is_empty-clause-is : goal.returns-then-is_empty-clause-is
-returns-then-is_empty-clause-is c = no-text (permits c.args.protocols) (content_of c.args.content)
+returns-then-is_empty-clause-is c = no-text (test_of c.args.rules.now) (content_of c.args.content)
     c.args.depth c.args.text.now c.split_escaped.result.0.now c.split_escaped.result.1.now
     c.split_escaped.ensures.run c.requires.open c.requires.no_tag
     (λ found says ends. empty c.split_escaped.result.0.now
@@ -15,13 +15,13 @@ returns-then-is_empty-clause-is c = no-text (permits c.args.protocols) (content_
     ∙ c.if-is_empty.true)) found)
 
 pub returns-then-not-may_say-clause-is : goal.returns-then-not-may_say-clause-is
-returns-then-not-may_say-clause-is c = no-text (permits c.args.protocols)
+returns-then-not-may_say-clause-is c = no-text (test_of c.args.rules.now)
     (content_of c.args.content) c.args.depth c.args.text.now c.split_escaped.result.0.now
     c.split_escaped.result.1.now c.split_escaped.ensures.run c.requires.open c.requires.no_tag
     (λ found says ends. lie (sym c.if-not-may_say.true ∙ c.may_say.ensures ∙ says))
 
 pub returns-then-ends_text-clause-is : goal.returns-then-ends_text-clause-is
-returns-then-ends_text-clause-is c = text-node (permits c.args.protocols)
+returns-then-ends_text-clause-is c = text-node (test_of c.args.rules.now)
     (content_of c.args.content) c.args.depth c.args.text.now c.split_escaped.result.0.now
     c.split_escaped.result.1.now c.split_escaped.ensures.run c.requires.open c.requires.no_tag
     (filled c.split_escaped.result.0.now (λ zero. lie (sym c.if-is_empty.false
@@ -30,7 +30,7 @@ returns-then-ends_text-clause-is c = text-node (permits c.args.protocols)
     (c.ends_text.ensures.ends c.if-ends_text.true)
 
 pub returns-else-ends_text-clause-is : goal.returns-else-ends_text-clause-is
-returns-else-ends_text-clause-is c = no-text (permits c.args.protocols)
+returns-else-ends_text-clause-is c = no-text (test_of c.args.rules.now)
     (content_of c.args.content) c.args.depth c.args.text.now c.split_escaped.result.0.now
     c.split_escaped.result.1.now c.split_escaped.ensures.run c.requires.open c.requires.no_tag
     (λ found says ends. c.ends_text.ensures.goes_on c.if-ends_text.false ends)

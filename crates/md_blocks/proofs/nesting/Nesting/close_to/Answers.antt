@@ -16,6 +16,7 @@ loop-self-preserved c =
       len = omega (arith, c.in_ok-exit.ensures.shrinks, c.loop-self.invariant.len);
       stack = ap (take depth) c.in_ok-exit.ensures.stack ∙ take_take depth n s.stack.items within
           ∙ c.loop-self.invariant.stack;
+      leaves = c.exit.ensures.leaves ∙ c.loop-self.invariant.leaves;
       tape = ap (λ tape. tape ++ ends_of at (drop depth c.exit.new.self.stack.items))
           c.in_ok-exit.ensures.tape
           ∙ ap (λ stack. (s.tape.items ++ ends_of at (drop n s.stack.items)) ++ ends_of at (drop depth stack))

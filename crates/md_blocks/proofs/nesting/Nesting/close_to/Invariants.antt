@@ -8,6 +8,7 @@ abbrev pub invariant-loop-self : goal.invariant-loop-self
 invariant-loop-self l = record {
   len : vec_len l.self.stack ≤ vec_len l.initial.self.stack;
   stack : take l.depth l.self.stack.items ≡ take l.depth l.initial.self.stack.items;
+  leaves : l.self.leaves ≡ l.initial.self.leaves;
   tape : l.self.tape.items ++ ends_of l.at (drop l.depth l.self.stack.items)
       ≡ l.initial.self.tape.items ++ ends_of l.at (drop l.depth l.initial.self.stack.items);
 }

@@ -19,6 +19,7 @@ invariant_of-self c =
       indents = sym (none_left p.line.now p.text (p.column + p.indent) false none
           (λ is. absurd (false≢true is)));
       text_there = omega (arith, none);
+      part_of_tab = λ is. absurd (false≢true is);
     }
 
 pub returns-clause-rest : goal.returns-clause-rest

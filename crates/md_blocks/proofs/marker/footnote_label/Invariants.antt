@@ -1,9 +1,0 @@
--- What is passed stands in the line.
-use Rattle.std.proofs.Common.{◌≤◌, ◌-◌, length}
-use Rattle.md_blocks.proofs.marker.footnote_label.Given as goal
-
-abbrev pub invariant-loop-end : goal.invariant-loop-end
-invariant-loop-end l = (l.start ≤ l.end) × (l.end ≤ length l.line)
-
-abbrev pub decreases-loop-end : goal.decreases-loop-end
-decreases-loop-end l = length l.line - l.end

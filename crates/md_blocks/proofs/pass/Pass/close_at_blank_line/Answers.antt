@@ -1,0 +1,53 @@
+-- Indented code goes on, or the leaf and containers are closed.
+use Rattle.std.proofs.Common.{Bool, ap, sym, ◌∙◌, ◌≡◌, ◌&&◌, true, false}
+use Rattle.std.specs.Prelude.{if◌then◌else◌}
+use Rattle.std.proofs.lemmas.Result.{on_ok_weaker}
+use Rattle.md_blocks.specs.LeafBlocks.{a_line, is_indented, line_added}
+use Rattle.md_blocks.specs.Passes.{defined_by, leaf_lines, state_of}
+use Rattle.md_blocks.specs.Positions.{ending_of, rest_of}
+use Rattle.md_blocks.specs.Rests.{skipped}
+use Rattle.md_blocks.specs.States.{State, closed_to}
+use Rattle.md_blocks.proofs.LineLemmas.{is_in_after, skipped_line}
+use Rattle.md_blocks.proofs.pass.Pass.close_at_blank_line.Goals as goal
+use Rattle.md_blocks.proofs.pass.Pass.close_at_blank_line.Goals.{else-is_whole-via-then-is_whole+else-is_indented}
+use Rattle.md_blocks.proofs.pass.Pass.close_at_blank_line.Goals.{else-is_whole-via-else-is_whole}
+
+abbrev either : Bool → State → State → State
+either goes_on longer closed = if goes_on then longer else closed
+
+pub returns-then-is_indented-clause-state : goal.returns-then-is_indented-clause-state
+returns-then-is_indented-clause-state c =
+    let p = c.args.self.now in
+    let place = c.args.position.now in
+    let skip = c.advance.new.self in
+    let state = state_of p in
+    let line = a_line (skipped 4 (rest_of place)).text (ending_of p.bytes.now place) in
+    let line_is = c.rest.ensures.line p.bytes.now
+    (is_in_after p.bytes.now place skip c.advance.ensures.line c.requires.in_document)
+    ∙ skipped_line p.bytes.now place skip 4 c.advance.ensures.line c.advance.ensures.ending
+    c.advance.ensures.rest in
+    let goes_on : (c.args.is_whole && is_indented state.leaf) ≡ true =
+    ap (λ whole. whole && is_indented state.leaf) c.if-is_whole.true
+    ∙ sym (c.is_indented.ensures (leaf_lines p)) ∙ c.if-is_indented.true in
+    on_ok_weaker c.push_line.result (λ is. is ∙ ap (λ l. line_added l state) line_is
+    ∙ ap (λ on. either on (line_added line state)
+    (closed_to (defined_by p c.push_line.new.self) c.args.matched state)) (sym goes_on))
+    c.push_line.ensures.state
+
+pub returns-clause-state : goal.returns-clause-state
+returns-clause-state c =
+    let p = c.args.self.now in
+    let place = c.args.position.now in
+    let state = state_of p in
+    let line = a_line (skipped 4 (rest_of place)).text (ending_of p.bytes.now place) in
+    let none : (c.args.is_whole && is_indented state.leaf) ≡ false = elim c.else-is_whole.branch [
+      | else-is_whole-via-then-is_whole+else-is_indented w ↦
+          ap (λ whole. whole && is_indented state.leaf) w.if-is_whole.true
+          ∙ sym (w.is_indented.ensures (leaf_lines p)) ∙ w.if-is_indented.false
+      | else-is_whole-via-else-is_whole w ↦
+          ap (λ whole. whole && is_indented state.leaf) w.if-is_whole.false
+    ] in
+    on_ok_weaker c.close_unmatched.result (λ is. is
+    ∙ ap (λ on. either on (line_added line state)
+    (closed_to (defined_by p c.close_unmatched.new.self) c.args.matched state)) (sym none))
+    c.close_unmatched.ensures.state

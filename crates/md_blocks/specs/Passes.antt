@@ -1,0 +1,44 @@
+-- For the code alone: the state for which a pass stands.
+use Rattle.std.specs.Prelude.{ℕ, List, ◌-◌, map, drop, take, option_map}
+use Rattle.md_blocks.specs.declared.pass.Pass.{Pass}
+use Rattle.md_blocks.specs.declared.pass.OpenLeaf.{OpenLeaf}
+use Rattle.md_blocks.specs.declared.pass.OpenLeaf.TheVariants as leaf
+use Rattle.md_blocks.specs.Entries.{Line}
+use Rattle.md_blocks.specs.Tapes.{line_of, first_text, entries_of}
+use Rattle.md_blocks.specs.States.{State, Leaf, NoLeaf, InParagraph, InIndented, InFenced}
+use Rattle.md_blocks.specs.States.{InMath, InHtml, InTable}
+
+-- the open leaf with the lines that are pushed for it
+abbrev pub leaf_of : OpenLeaf → List Line → Leaf
+leaf_of leaf.None lines = NoLeaf
+leaf_of leaf.Paragraph lines = InParagraph lines
+leaf_of leaf.Indented lines = InIndented lines
+leaf_of (leaf.Fenced fence) lines = InFenced fence (first_text lines) (drop 1 lines)
+leaf_of (leaf.Math fence) lines = InMath fence (drop 1 lines)
+leaf_of (leaf.Html kind) lines = InHtml kind lines
+leaf_of (leaf.Table columns) lines = InTable columns lines
+
+-- the lines of the open leaf
+abbrev pub leaf_lines : Pass → List Line
+leaf_lines pass =
+    let leaves = pass.nesting.leaves in
+    map (line_of pass.bytes.now) (drop leaves.start leaves.lines.items)
+
+abbrev pub state_of : Pass → State
+state_of pass = record {
+  entries = entries_of pass.bytes.now pass.nesting.leaves.lines.items pass.nesting.tape.items;
+  containers = pass.nesting.stack.items;
+  leaf = leaf_of pass.leaf (leaf_lines pass);
+  blank = option_map (λ blank. blank.depth) pass.blank_line;
+  lacking = pass.missing_cells;
+}
+
+-- the lines of the open leaf before the line with an index
+abbrev pub lines_to : ℕ → Pass → List Line
+lines_to end pass =
+    let leaves = pass.nesting.leaves in
+    map (line_of pass.bytes.now) (drop leaves.start (take end leaves.lines.items))
+
+-- how many more lines of the leaf are definitions after some step
+abbrev pub defined_by : Pass → Pass → ℕ
+defined_by before after = after.nesting.leaves.start - before.nesting.leaves.start
