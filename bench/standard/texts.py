@@ -27,7 +27,7 @@ ELEMENTS = {
     "details": ["open", *SHARED],
     "section": ["data-footnotes", "class"],
     "a": ["href", "class", "data-footnote-ref", "data-footnote-backref", "aria-describedby",
-          "aria-label", "name", *SHARED],
+          "aria-label", "rel", "name", *SHARED],
 }
 VOID = {"br": SHARED, "hr": SHARED, "wbr": SHARED,
         "img": ["src", "alt", "width", "height", "align", *SHARED],

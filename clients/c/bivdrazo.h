@@ -121,8 +121,7 @@ bivdrazo_answer bivdrazo_has_nested_link(const bivdrazo_event *events, size_t ev
  * reading as HTML with the elements and attributes of a short list, in which no link stands in a
  * link, links and images have no protocol or a permitted one, and elements nest at most 485 deep:
  * then it has no other reading. Under safe options the text of each call but bivdrazo_run() is, if
- * no link stands in a link and no `rel` was requested. The text needn't be UTF-8. No memory is
- * requested. `text` isn't null.
+ * no link stands in a link. The text needn't be UTF-8. No memory is requested. `text` isn't null.
  */
 uint32_t bivdrazo_is_safe_html(const uint8_t *text, size_t text_length);
 

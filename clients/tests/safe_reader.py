@@ -41,8 +41,8 @@ SHARED = "id title lang dir".split()
 ATTRIBUTES = collections.defaultdict(lambda: SHARED) | {
     "section": ["data-footnotes", "class"],
     "input": ["type", "disabled", "checked"],
-    "a": "href class data-footnote-ref data-footnote-backref aria-describedby aria-label name"
-         .split() + SHARED,
+    "a": ("href class data-footnote-ref data-footnote-backref aria-describedby aria-label rel "
+          "name").split() + SHARED,
     "img": "src alt width height align".split() + SHARED,
     "code": ["class"] + SHARED,
     "ol": ["start"] + SHARED,

@@ -13,7 +13,7 @@ abbrev pub own_attributes : List (List ℕ)
 own_attributes =
     codes "class" ∷ codes "data-footnotes" ∷ codes "data-footnote-ref"
     ∷ codes "data-footnote-backref" ∷ codes "aria-describedby" ∷ codes "aria-label" ∷ codes "id"
-    ∷ codes "name" ∷ []
+    ∷ codes "name" ∷ codes "rel" ∷ []
 
 -- a tag that isn't among them, with no attribute that is
 abbrev pub is_authors_tag : List ℕ → List Attribute → Bool

@@ -36,7 +36,7 @@ listed OfDetails = codes "open" ∷ shared
 listed OfSection = codes "data-footnotes" ∷ codes "class" ∷ []
 listed OfLink =
     codes "href" ∷ codes "class" ∷ codes "data-footnote-ref" ∷ codes "data-footnote-backref"
-    ∷ codes "aria-describedby" ∷ codes "aria-label" ∷ codes "name" ∷ shared
+    ∷ codes "aria-describedby" ∷ codes "aria-label" ∷ codes "rel" ∷ codes "name" ∷ shared
 listed OfImage =
     codes "src" ∷ codes "alt" ∷ codes "width" ∷ codes "height" ∷ codes "align" ∷ shared
 listed OfInput = codes "type" ∷ codes "disabled" ∷ codes "checked" ∷ []

@@ -63,7 +63,7 @@ fn past_attribute<'a>(
         (λ found. IsAttributeAt (test_of rules.now).attribute
         (listed list) seen.now found.0 text.now
         found.1.now) }
-    ensures within { IfSome result (λ found. found.0 < 11) }
+    ensures within { IfSome result (λ found. found.0 < 12) }
     ensures shorter { IfSome result (λ found. length found.1.now < length text.now) }
 {
     let (name, after) = split_name(text);

@@ -7,12 +7,12 @@ ghost use Rattle.md_reader.specs.Attributes.{index_of};
 use crate::names::Listed;
 
 /// How many attributes a list has at most.
-pub(crate) const MOST: usize = 11;
+pub(crate) const MOST: usize = 12;
 
 /// The index of a name in a list of attributes.
 pub(crate) fn place(list: Listed, name: &[u8]) -> Option<usize>
     ensures is { result ≡ index_of (listed list) name.now }
-    ensures within { IfSome result (λ place. place < 11) }
+    ensures within { IfSome result (λ place. place < 12) }
 {
     match list {
         Listed::Shared => index_in(&["id", "title", "lang", "dir"], name),
@@ -39,6 +39,7 @@ pub(crate) fn place(list: Listed, name: &[u8]) -> Option<usize>
                 "data-footnote-backref",
                 "aria-describedby",
                 "aria-label",
+                "rel",
                 "name",
                 "id",
                 "title",

@@ -116,4 +116,5 @@ fn is_own_attribute(name: &[u8]) -> bool
         || is_same(name, b"aria-label")
         || is_same(name, b"id")
         || is_same(name, b"name")
+        || is_same(name, b"rel")
 }

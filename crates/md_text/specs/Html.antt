@@ -78,7 +78,7 @@ elements =
     ∷ (
       codes "a",
       codes "href" ∷ codes "class" ∷ codes "data-footnote-ref" ∷ codes "data-footnote-backref"
-          ∷ codes "aria-describedby" ∷ codes "aria-label" ∷ codes "name" ∷ shared,
+          ∷ codes "aria-describedby" ∷ codes "aria-label" ∷ codes "rel" ∷ codes "name" ∷ shared,
     ) ∷ []
 
 -- the void tags, likewise

@@ -59,6 +59,7 @@ pub fn listed_attributes_are_allowed()
         "<a href=\"a\" title=\"b\" id=\"c\" class=\"d\" data-footnote-ref=\"\""
         ++ codes " data-footnote-backref=\"\" aria-describedby=\"e\" aria-label=\"f\">"
         ++ codes "</a>") }
+    ensures rel { HasReading (codes "<a href=\"a\" rel=\"nofollow\"></a>") }
     ensures img { HasReading (codes "<img src=\"a\" alt=\"b\" title=\"c\" />") }
     ensures input { HasReading (codes "<input type=\"checkbox\" disabled=\"\" checked=\"\" />") }
 {}

@@ -14,7 +14,7 @@ invariant-attributes l =
     × ((end : List ℕ) → EndsAttributes end
     → AreAttributes (test_of l.rules).attribute (is_one_of (listed l.list)) l.text end
     → AreAttributes (test_of l.rules).attribute (is_unseen (listed l.list) l.seen) l.rest end)
-    × (length l.rest ≤ length l.text) × (length l.seen ≡ 11)
+    × (length l.rest ≤ length l.text) × (length l.seen ≡ 12)
 
 abbrev pub decreases-attributes : goal.decreases-attributes
 decreases-attributes l = length l.rest
