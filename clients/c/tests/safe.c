@@ -77,11 +77,14 @@ static void test_compiled(void) {
     static const char document[] =
         "# a <b>\n\n- [x] *b* **c** ~d~ [e](f \"g\") ![h](i)\n- `j`\n\n| k | l |\n|:-:|---|\n| m |"
         " n[^o] |\n\n```p\nq\n```\n\n> r  \n> s\n\n1. t\n2. u\n\n***\n\n[^o]: v\n";
-    const bivdrazo_markdown_options options = bivdrazo_markdown_options_default();
+    bivdrazo_markdown_options options = bivdrazo_markdown_options_default();
+    options.rel = bivdrazo_text_of((const uint8_t *)"nofollow ugc", 12);
+    options.heading_ids = bivdrazo_text_of((const uint8_t *)"w-", 2);
     char *html;
     const bivdrazo_answer answer = bivdrazo_markdown((const uint8_t *)document,
                                                      sizeof document - 1, &options, &html);
     CHECK(answer.status == BIVDRAZO_OK && is_safe(html));
+    CHECK(strstr(html, " rel=\"nofollow ugc\"") != NULL && strstr(html, " id=\"w-") != NULL);
     CHECK(bivdrazo_is_safe_html((const uint8_t *)html, answer.length - 2) == 0);
     bivdrazo_markdown_free(html);
 }

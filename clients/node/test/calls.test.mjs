@@ -220,7 +220,11 @@ describe('whether HTML is safe', () => {
   });
 
   it('is for what was rendered and stored', () => {
-    const html = markdownToHtml('# a <b>\n\n- [x] *c* [d](e "f")\n\n|g|\n|-|\n|h[^i]|\n\n[^i]: j\n');
+    const html = markdownToHtml(
+      '# a <b>\n\n- [x] *c* [d](e "f")\n\n|g|\n|-|\n|h[^i]|\n\n[^i]: j\n',
+      { rel: 'nofollow ugc' },
+    );
+    assert.match(html, / rel="nofollow ugc"/);
     const stored = JSON.parse(JSON.stringify({ html })).html;
     assert.equal(isSafeHtml(stored), true);
     assert.equal(isSafeHtml(`${stored}<script>`), false);

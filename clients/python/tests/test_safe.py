@@ -176,7 +176,8 @@ class Checked(unittest.TestCase):
     def test_a_database(self):
         database = sqlite3.connect(":memory:")
         database.execute("CREATE TABLE comments (html TEXT)")
-        made = markdown_to_html(self.DOCUMENT)
+        made = markdown_to_html(self.DOCUMENT, rel="nofollow ugc")
+        self.assertIn('rel="nofollow ugc"', made)
         database.execute("INSERT INTO comments VALUES (?)", (str(made),))
         database.execute("INSERT INTO comments VALUES (?)", (made + "<script>",))
         (stored,), (changed,) = database.execute("SELECT html FROM comments ORDER BY rowid")

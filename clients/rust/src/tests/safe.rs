@@ -86,7 +86,9 @@ fn checked_texts() {
 #[test]
 fn stored_texts() {
     let document = "# a <b>\n\n- [x] *c* [d](e \"f\")\n\n|g|\n|-|\n|h[^i]|\n\n[^i]: j\n";
-    let html = markdown_to_html(document, &MarkdownOptions::default()).unwrap();
+    let options = MarkdownOptions::default().with_rel("nofollow ugc");
+    let html = markdown_to_html(document, &options).unwrap();
+    assert!(html.contains("rel=\"nofollow ugc\""));
     let stored: Vec<u8> = html.clone().into_string().into_bytes();
     let read = String::from_utf8(stored).unwrap();
     assert_eq!(SafeHtml::from_checked(read), Ok(html.clone()));
