@@ -1,4 +1,4 @@
-"""Renders documents with one way in Python:
+"""Renders documents, or cleans HTML, with one way in Python:
 
     in_python.py WAY < DOCUMENTS > HTML
 
@@ -61,6 +61,20 @@ def cleaned(way):
     return lambda document: cleaner.clean(render(document))
 
 
+def bivdrazo_clean():
+    """Our own cleaner of HTML."""
+    from bivdrazo import clean
+
+    return clean
+
+
+def bleach():
+    """bleach alone, which leaves out what isn't allowed, as ours does."""
+    from bleach.sanitizer import Cleaner
+
+    return Cleaner(tags=TAGS, attributes=ATTRIBUTES, strip=True).clean
+
+
 WAYS = {
     "bivdrazo": bivdrazo,
     "markdown-it": markdown_it,
@@ -69,6 +83,8 @@ WAYS = {
     "markdown-it, bleach": lambda: cleaned(markdown_it),
     "mistune, bleach": lambda: cleaned(mistune),
     "cmarkgfm, bleach": lambda: cleaned(cmarkgfm),
+    "bivdrazo-clean": bivdrazo_clean,
+    "bleach": bleach,
 }
 
 

@@ -1,11 +1,11 @@
 //! Renders documents by one way:
 //!
-//!     bivdrazo-speed bivdrazo|pulldown-cmark|ammonia < DOCUMENTS > HTML
+//!     bivdrazo-speed bivdrazo|pulldown-cmark|ammonia|bivdrazo-clean|ammonia-clean
 //!
-//! DOCUMENTS are frames: a count of bytes in decimal digits, a line feed, the document. What
-//! ammonia cleans is what pulldown-cmark makes.
+//! Reads frames from standard input: a count of bytes in decimal digits, a line feed, the document.
+//! What `ammonia` cleans is what pulldown-cmark makes; the last two ways clean HTML.
 
-use bivdrazo::{markdown_to_html, MarkdownOptions};
+use bivdrazo::{clean, markdown_to_html, CleanOptions, MarkdownOptions};
 use pulldown_cmark::{html, Options, Parser};
 use std::env;
 use std::error::Error;
@@ -19,7 +19,9 @@ fn main() -> Result<(), Box<dyn Error>> {
             "bivdrazo" => Ok(markdown_to_html(document, &options)?.into_string()),
             "pulldown-cmark" => Ok(plain(document)),
             "ammonia" => Ok(ammonia::clean(&plain(document))),
-            _ => Err("usage: bivdrazo-speed bivdrazo|pulldown-cmark|ammonia".into()),
+            "bivdrazo-clean" => Ok(clean(document, &CleanOptions::default())?.into_string()),
+            "ammonia-clean" => Ok(ammonia::clean(document)),
+            _ => Err("bivdrazo-speed: there is no such way".into()),
         }
     };
     let mut frames = String::new();
