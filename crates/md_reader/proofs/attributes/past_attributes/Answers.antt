@@ -10,7 +10,7 @@ use Rattle.md_reader.proofs.AttributeLemmas.{listed-named, unseen-named, none-ou
 use Rattle.md_reader.proofs.attributes.past_attributes.Goals as goal
 
 abbrev unseen : List Bool
-unseen = false ∷ false ∷ false ∷ false ∷ false ∷ false ∷ false ∷ false ∷ false ∷ false ∷ false ∷ []
+unseen = false ∷ false ∷ false ∷ false ∷ false ∷ false ∷ false ∷ false ∷ false ∷ false ∷ false ∷ false ∷ []
 
 pub attributes-init : goal.attributes-init
 attributes-init c = (
