@@ -7,21 +7,18 @@ use Rattle.std.proofs.Math.Seq.{take-suc}
 use Rattle.std.proofs.Common.{subst, ⊎_elim}
 use Rattle.std.proofs.lemmas.Bool.{cases_lt}
 use Rattle.std.proofs.lemmas.List.{reverse-append}
-use Rattle.std.specs.Prelude.{◌⊎◌, Option, Some, None, ◌==◌, ◌&&◌, ◌||◌, not, nat_lt, if◌then◌else◌}
+use Rattle.std.specs.Prelude.{◌⊎◌, Some, None, ◌==◌, ◌&&◌, ◌||◌, not, nat_lt, if◌then◌else◌}
 use Rattle.std.proofs.lemmas.Bool.{and_parts, eqb-true, eq-eqb, ltb-true, lt-ltb, le-ltb}
 use Rattle.std.proofs.lemmas.Bool.{cases_order}
 use Rattle.std.proofs.lemmas.List.{get_or-set_other, get_or-set_same, get_or-take, length-take}
 use Rattle.std.proofs.lemmas.List.{take_more_set, take-set}
-use Rattle.std.proofs.Math.ListN.{get_or-append}
-use Rattle.std.proofs.Math.Seq.{get_or-append_seam}
-use Rattle.std.proofs.Common.{length-append}
 use Rattle.std.proofs.Common.{length-set, set}
 use Rattle.md_marks.specs.declared.delimiters.Delimiter.{Delimiter}
 use Rattle.md_marks.specs.declared.token.Token.{Token}
 use Rattle.md_marks.specs.Emphasis.{available, is_fair, is_unused, may_pair, pair_width}
 use Rattle.md_marks.specs.Openers.{AreBottoms, AreOpen, found_at, kept_to, kind_of, no_run}
-use Rattle.md_marks.specs.Pairs.{Closed, Found, Pair, closed, closer_left, nearest}
-use Rattle.md_marks.specs.Pairs.{openers_after, opener_left, pair_of, paired_first, unpaired, with_left}
+use Rattle.md_marks.specs.Pairs.{Closed, Pair, closed, closer_left, nearest}
+use Rattle.md_marks.specs.Pairs.{opener_left, pair_of, paired_first, unpaired, with_left}
 use Rattle.md_marks.specs.Pairs.{with_pair, with_pairs, joined, start_mark, end_mark}
 use Rattle.md_marks.specs.declared.token.Mark.{Mark}
 
@@ -525,30 +522,3 @@ joins run opener closer w start end t same is within starts ends =
     ∙ ap (λ v. joined (end_mark closer.byte v) closer.start v
     (joined (start_mark closer.byte v) (run.end - v) v t)) is
     ∙ ap (λ r. with_pair (pair_of r closer) t) same
-
--- ---- one more opener
-pub pushed-open : (xs : List Delimiter) (run : Delimiter) → AreOpen xs → 0 < available run →
-    AreOpen (xs ++ run ∷ [])
-pushed-open xs run are some i lt = ⊎_elim
-    (λ (lower : i < length xs). subst (λ r. 0 < available r)
-    (sym (get_or-append xs (run ∷ []) no_run i lower)) (are i lower))
-    (λ (upper : length xs ≤ i).
-    let last : i ≡ length xs = omega (arith, upper, lt, length-append xs (run ∷ [])) in
-    subst (λ j. 0 < available (get_or (xs ++ run ∷ []) j no_run)) (sym last)
-    (subst (λ r. 0 < available r) (sym (get_or-append_seam xs run [] no_run)) some))
-    (cases_lt i (length xs))
-
-pub pushed-bottoms : (bottoms : List ℕ) (xs : List Delimiter) (run : Delimiter) →
-    AreBottoms bottoms xs → AreBottoms bottoms (xs ++ run ∷ [])
-pushed-bottoms bottoms xs run are = record {
-  count = are.count;
-  within = λ k. omega (arith, are.within k, length-append xs (run ∷ []));
-  none = λ other i lt. subst (λ r. may_pair r other ≡ false) (sym (get_or-append xs (run ∷ []) no_run i
-      (omega (arith, lt, are.within (kind_of other))))) (are.none other i lt);
-}
-
-pub pushed-reversed : (xs : List Delimiter) (run : Delimiter) → run.opens ≡ true →
-    0 < available run → reverse (xs ++ run ∷ [])
-    ≡ openers_after (record { before = reverse xs; closer = run; pairs = [] })
-pushed-reversed xs run opens some =
-    reverse-append xs (run ∷ []) ∙ rw (opens, lt-ltb 0 (available run) some) refl

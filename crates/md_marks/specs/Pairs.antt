@@ -1,6 +1,6 @@
 -- The pairs of the runs of a leaf: closers from left to right, each with the nearest opener (6.4,
 -- and strikethrough).
-use Rattle.std.specs.Prelude.{ℕ, zero, suc, Option, List, [], ◌∷◌, ◌++◌, ◌+◌, ◌-◌, ◌==◌, ◌&&◌}
+use Rattle.std.specs.Prelude.{ℕ, zero, suc, Option, List, [], ◌∷◌, ◌++◌, ◌+◌, ◌-◌, ◌==◌}
 use Rattle.std.specs.Prelude.{Some, None, nat_lt, slice_get, set, if◌then◌else◌}
 use Rattle.md_marks.specs.declared.delimiters.Delimiter.{Delimiter}
 use Rattle.md_marks.specs.declared.token.Mark.{Mark}

@@ -1,6 +1,6 @@
 //! Pairs runs of `*`, `_` and `~`.
 
-ghost use Rattle.std.specs.Prelude.{◌≡◌, ◌≤◌, ◌<◌, ◌-◌, [], ℕ, true, false, OnOk, IfSome, IfNone};
+ghost use Rattle.std.specs.Prelude.{◌≡◌, ◌≤◌, ◌<◌, ◌-◌, ◌++◌, ◌∷◌, [], ℕ, true, false, OnOk, IfSome, IfNone};
 ghost use Rattle.std.specs.Prelude.{drop, get_or, length, option_map, reverse, take};
 ghost use Rattle.md_marks.specs.Emphasis.{available, is_unused, may_pair, pair_width};
 ghost use Rattle.md_marks.specs.Openers.{AreBottoms, AreOpen, found_at, kept_to, kind_of};
@@ -10,6 +10,7 @@ ghost use Rattle.md_marks.specs.Pairs.{openers_after, run_closed, pairs_after, w
 
 use crate::token::{Mark, Token, set_mark};
 use std::alloc::{AllocError, Global};
+use std::marker::Model;
 
 /// A run of one mark. Each of its bytes is a token; those without a pair follow one another.
 #[derive(Clone, Copy, Debug, PartialEq, Eq)]
@@ -95,9 +96,20 @@ pub struct Delimiters {
     openers: Vec<Delimiter>,
 }
 
+impl Model for Delimiters {
+    ghost use Rattle.std.specs.Prelude.{List};
+    ghost use Rattle.md_marks.specs.declared.delimiters.Delimiter as runs;
+
+    ghost Value = { List runs.Delimiter };
+
+    ghost view = { λ runs. runs.list.items };
+}
+
 impl Delimiters {
     /// No runs.
-    pub fn new(alloc: Global) -> Delimiters {
+    pub fn new(alloc: Global) -> Delimiters
+        ensures { result ≡ [] }
+    {
         Delimiters {
             list: Vec::new(alloc),
             openers: Vec::new(alloc),
@@ -105,7 +117,9 @@ impl Delimiters {
     }
 
     /// The number of runs.
-    pub fn len(&self) -> usize {
+    pub fn len(&self) -> usize
+        ensures { result ≡ length self.now }
+    {
         self.list.len()
     }
 
@@ -114,13 +128,17 @@ impl Delimiters {
     /// # Errors
     ///
     /// Returns an error only if memory runs out.
-    pub fn push(&mut self, delimiter: Delimiter) -> Result<(), AllocError> {
+    pub fn push(&mut self, delimiter: Delimiter) -> Result<(), AllocError>
+        ensures { OnOk result (self.new ≡ self.old ++ delimiter ∷ []) }
+    {
         self.list.push(delimiter)?;
         Ok(())
     }
 
     /// Removes the runs from an index.
-    pub fn truncate(&mut self, length: usize) {
+    pub fn truncate(&mut self, length: usize)
+        ensures { self.new ≡ take length self.old }
+    {
         self.list.truncate(length);
     }
 
@@ -132,33 +150,38 @@ impl Delimiters {
     #[inline(always)]
     pub fn resolve(&mut self, tokens: &mut Vec<Token>, from: usize) -> Result<(), AllocError>
         ensures pairs { OnOk result (tokens.new.items
-            ≡ with_pairs (pairs_after [] (drop from self.old.list.items)) tokens.old.items) }
-        ensures rest { OnOk result (self.new.list.items ≡ take from self.old.list.items) }
-    {
-        if self.list.len() <= from {
-            return Ok(());
-        }
-        self.pair_all(tokens, from)
-    }
-
-    /// Pairs the runs from an index, of which there is one at least, and removes them.
-    #[inline(never)]
-    fn pair_all(&mut self, tokens: &mut Vec<Token>, from: usize) -> Result<(), AllocError>
-        ensures pairs { OnOk result (tokens.new.items
-            ≡ with_pairs (pairs_after [] (drop from self.old.list.items)) tokens.old.items) }
-        ensures rest { OnOk result (self.new.list.items ≡ take from self.old.list.items) }
+            ≡ with_pairs (pairs_after [] (drop from self.old)) tokens.old.items) }
+        ensures rest { OnOk result (self.new ≡ take from self.old) }
     {
         let Delimiters { list, openers } = self;
-        let mut bottoms = [0; KINDS];
-        openers.clear();
-        let mut at = from;
-        'runs: while at < list.len() {
-            read_run(openers, tokens, list[at], &mut bottoms)?;
-            at += 1;
+        if let Some(runs) = list.get(from..) {
+            if !runs.is_empty() {
+                pair_all(runs, openers, tokens)?;
+            }
         }
         list.truncate(from);
         Ok(())
     }
+}
+
+/// Pairs runs.
+#[inline(never)]
+fn pair_all(
+    runs: &[Delimiter],
+    openers: &mut Vec<Delimiter>,
+    tokens: &mut Vec<Token>,
+) -> Result<(), AllocError>
+    ensures { OnOk result
+        (tokens.new.items ≡ with_pairs (pairs_after [] runs.now) tokens.old.items) }
+{
+    openers.clear();
+    let mut bottoms = [0; KINDS];
+    let mut at = 0;
+    'runs: while at < runs.len() {
+        read_run(openers, tokens, runs[at], &mut bottoms)?;
+        at += 1;
+    }
+    Ok(())
 }
 
 /// Pairs a run with the openers before it, if it closes; if it opens, what is left of it is one of

@@ -1,7 +1,6 @@
 -- The openers from here on don't match, and those below `bottom` don't either.
-use Rattle.std.proofs.Common.{arith, ◌≡◌, ◌<◌, ◌-◌, ◌∙◌, ap, sym, suc, refl, false, ℕ, get_or, length}
-use Rattle.std.proofs.Common.{reverse, take, ⊎_elim}
-use Rattle.std.proofs.lemmas.Bool.{cases_lt}
+use Rattle.std.proofs.Common.{arith, ◌≡◌, ◌<◌, ◌-◌, ◌∙◌, ap, sym, suc, false, get_or, length}
+use Rattle.std.proofs.Common.{reverse, take}
 use Rattle.md_marks.specs.Emphasis.{may_pair}
 use Rattle.md_marks.specs.Openers.{no_run}
 use Rattle.md_marks.specs.Pairs.{nearest}

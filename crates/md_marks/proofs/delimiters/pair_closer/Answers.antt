@@ -1,5 +1,5 @@
 -- A pair leads to the same; where none is left, what is left is the closer's.
-use Rattle.std.proofs.Common.{arith, ◌≡◌, ◌<◌, ◌≤◌, ◌∙◌, ap, sym, subst, length, reverse, get_or, ℕ}
+use Rattle.std.proofs.Common.{arith, ◌≡◌, ◌<◌, ◌≤◌, sym, subst, length, reverse, get_or, ℕ}
 use Rattle.std.proofs.Common.{true, false, set}
 use Rattle.std.specs.Prelude.{Some, None}
 use Rattle.md_marks.specs.Emphasis.{available, may_pair}

@@ -1,5 +1,4 @@
 -- What is left to pair gives the same.
-use Rattle.std.proofs.Common.{ℕ}
 use Rattle.md_marks.specs.Emphasis.{available}
 use Rattle.md_marks.specs.Openers.{AreBottoms, AreOpen}
 use Rattle.md_marks.proofs.PairLemmas.{LeadsTo}

@@ -2,16 +2,16 @@
 use Rattle.std.proofs.Common.{◌≡◌, ◌-◌, drop, length, reverse}
 use Rattle.md_marks.specs.Openers.{AreBottoms, AreOpen}
 use Rattle.md_marks.specs.Pairs.{pairs_after, with_pairs}
-use Rattle.md_marks.proofs.delimiters.Delimiters.pair_all.Given as goal
+use Rattle.md_marks.proofs.delimiters.pair_all.Given as goal
 
 abbrev pub invariant-runs : goal.invariant-runs
 invariant-runs l = record {
-  same : with_pairs (pairs_after (reverse l.openers.items) (drop l.at l.list.items)) l.tokens.items
-      ≡ with_pairs (pairs_after (reverse l.initial.openers.items) (drop l.initial.at l.list.items))
+  same : with_pairs (pairs_after (reverse l.openers.items) (drop l.at l.runs)) l.tokens.items
+      ≡ with_pairs (pairs_after (reverse l.initial.openers.items) l.runs)
       l.initial.tokens.items;
   opens : AreOpen l.openers.items;
   bottoms : AreBottoms l.bottoms l.openers.items;
 }
 
 abbrev pub decreases-runs : goal.decreases-runs
-decreases-runs l = length l.list.items - l.at
+decreases-runs l = length l.runs - l.at
