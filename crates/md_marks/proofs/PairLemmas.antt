@@ -74,39 +74,6 @@ pub width-opener : (opener closer : Delimiter) → 0 < available opener →
     pair_width opener closer ≤ available opener
 width-opener opener closer left = grind (arith, left)
 
-pub width-closer : (opener closer : Delimiter) → may_pair opener closer ≡ true →
-    0 < available closer → pair_width opener closer ≤ available closer
-width-closer opener closer fits left = by (closer.byte == 126)
-    (not (opener.closes || closer.opens) || is_fair opener.length closer.length) fits
-  where
-    two : Bool
-    two = nat_lt 1 (available opener) && nat_lt 1 (available closer)
-
-    of : (both : Bool) → both ≡ two → (if both then 2 else 1) ≤ available closer
-    of true is =
-        let more = ltb-true 1 (available closer)
-        (and_parts (nat_lt 1 (available opener)) (nat_lt 1 (available closer)) (sym is)).1 in
-        omega (arith, more)
-    of false is = omega (arith, left)
-
-    by : (tildes other : Bool) → (opener.byte == closer.byte && (if tildes
-        then opener.length == closer.length && (is_unused opener && is_unused closer)
-        else other)) ≡ true → (if tildes then available opener else if two then 2 else 1)
-        ≤ available closer
-    by true other h =
-        let parts = and_parts (opener.byte == closer.byte)
-        (opener.length == closer.length && (is_unused opener && is_unused closer)) h in
-        let rest = and_parts (opener.length == closer.length)
-        (is_unused opener && is_unused closer) parts.1 in
-        let unused = and_parts (is_unused opener) (is_unused closer) rest.1 in
-        omega (
-          arith,
-          eqb-true opener.length closer.length rest.0,
-          eqb-true (available opener) opener.length unused.0,
-          eqb-true (available closer) closer.length unused.1,
-        )
-    by false other h = of two refl
-
 -- ---- kinds of closers
 abbrev thirds : Delimiter → ℕ
 thirds run = run.length % 3 + (if run.opens then 3 else 0)
@@ -271,15 +238,6 @@ pub record LeadsTo (openers : List Delimiter) (closer : Delimiter) (tokens : Lis
       ≡ (closed (available closer0) (reverse openers0) closer0).closer
   pub marks : with_pairs (closed steps (reverse openers) closer).pairs tokens
       ≡ with_pairs (closed (available closer0) (reverse openers0) closer0).pairs tokens0
-
-pub leads-self : (xs : List Delimiter) (c : Delimiter) (t : List Token) → LeadsTo xs c t xs c t
-leads-self xs c t = record {
-  steps = available c;
-  enough = omega arith;
-  before = refl;
-  left = refl;
-  marks = refl;
-}
 
 -- the closer after a pair
 module _ (xs ys : List Delimiter) (c : Delimiter) (t : List Token) (h : ℕ)
