@@ -8,7 +8,7 @@ use Rattle.std.proofs.Common.{subst, ⊎_elim}
 use Rattle.std.proofs.lemmas.Bool.{cases_lt}
 use Rattle.std.proofs.lemmas.List.{reverse-append}
 use Rattle.std.specs.Prelude.{◌⊎◌, Some, None, ◌==◌, ◌&&◌, ◌||◌, not, nat_lt, if◌then◌else◌}
-use Rattle.std.proofs.lemmas.Bool.{and_parts, eqb-true, eq-eqb, ltb-true, lt-ltb, le-ltb}
+use Rattle.std.proofs.lemmas.Bool.{and_parts, eqb-true, eq-eqb, ltb-true, lt-ltb}
 use Rattle.std.proofs.lemmas.Bool.{cases_order}
 use Rattle.std.proofs.lemmas.List.{get_or-set_other, get_or-set_same, get_or-take, length-take}
 use Rattle.std.proofs.lemmas.List.{take_more_set, take-set}
@@ -29,11 +29,6 @@ nearest-last : (closer : Delimiter) (xs : List Delimiter) (n : ℕ) → n < leng
 nearest-last closer xs n within =
     ap (λ l. nearest closer (reverse l)) (take-suc xs n no_run within)
     ∙ ap (λ l. nearest closer l) (reverse-append (take n xs) (get_or xs n no_run ∷ []))
-
-pub fits-last : (closer : Delimiter) (xs : List Delimiter) (n : ℕ) → n < length xs →
-    may_pair (get_or xs n no_run) closer ≡ true →
-    nearest closer (reverse (take (suc n) xs)) ≡ Some (found_at xs n)
-fits-last closer xs n within fits = nearest-last closer xs n within ∙ rw fits refl
 
 pub passed-last : (closer : Delimiter) (xs : List Delimiter) (n : ℕ) → n < length xs →
     may_pair (get_or xs n no_run) closer ≡ false →
@@ -293,11 +288,6 @@ ends-none (suc n) before c none = by (nat_lt 0 (available c))
     ]) ≡ unpaired before c
     by true = rw none refl
     by false = refl
-
-pub ends-all : (n : ℕ) (before : List Delimiter) (c : Delimiter) → available c ≤ 0 →
-    closed n before c ≡ unpaired before c
-ends-all zero before c all = refl
-ends-all (suc n) before c all = rw (le-ltb 0 (available c) all, closed) refl
 
 -- ---- the openers after a pair
 pub kept-reversed : (h : ℕ) (left : Delimiter) (xs : List Delimiter) → h < length xs →
