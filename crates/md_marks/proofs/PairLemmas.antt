@@ -1,25 +1,21 @@
 -- Openers, and the pairs of a closer.
 use Rattle.std.proofs.Common.{◌≡◌, ◌≤◌, ◌<◌, ◌+◌, ◌-◌, ℕ, zero, suc, Bool, true, false, List, []}
 use Rattle.std.proofs.Common.{◌∷◌, ◌++◌, refl, sym, ap, ◌∙◌, arith, get_or, length, reverse, take}
-use Rattle.std.proofs.Common.{ap₂, ◌%◌}
+use Rattle.std.proofs.Common.{ap₂, ◌%◌, subst, ⊎_elim, length-set, set}
 use Rattle.std.proofs.Math.Nat.{mod-add-mod, mod-lt}
 use Rattle.std.proofs.Math.Seq.{take-suc}
-use Rattle.std.proofs.Common.{subst, ⊎_elim}
-use Rattle.std.proofs.lemmas.Bool.{cases_lt}
-use Rattle.std.proofs.lemmas.List.{reverse-append}
-use Rattle.std.specs.Prelude.{◌⊎◌, Some, None, ◌==◌, ◌&&◌, ◌||◌, not, nat_lt, if◌then◌else◌}
-use Rattle.std.proofs.lemmas.Bool.{and_parts, eqb-true, eq-eqb, ltb-true, lt-ltb}
+use Rattle.std.proofs.lemmas.Bool.{cases_lt, and_parts, eqb-true, eq-eqb, ltb-true, lt-ltb}
 use Rattle.std.proofs.lemmas.Bool.{cases_order}
-use Rattle.std.proofs.lemmas.List.{get_or-set_other, get_or-set_same, get_or-take, length-take}
-use Rattle.std.proofs.lemmas.List.{take_more_set, take-set}
-use Rattle.std.proofs.Common.{length-set, set}
+use Rattle.std.proofs.lemmas.List.{reverse-append, get_or-set_other, get_or-set_same, get_or-take}
+use Rattle.std.proofs.lemmas.List.{length-take, take_more_set, take-set}
+use Rattle.std.specs.Prelude.{◌⊎◌, Some, None, ◌==◌, ◌&&◌, ◌||◌, not, nat_lt, if◌then◌else◌}
 use Rattle.md_marks.specs.declared.delimiters.Delimiter.{Delimiter}
 use Rattle.md_marks.specs.declared.token.Token.{Token}
 use Rattle.md_marks.specs.Emphasis.{available, is_fair, is_unused, may_pair, pair_width}
 use Rattle.md_marks.specs.Openers.{AreBottoms, AreOpen, found_at, kept_to, kind_of, no_run}
-use Rattle.md_marks.specs.Pairs.{Closed, Pair, closed, closer_left, nearest}
-use Rattle.md_marks.specs.Pairs.{opener_left, pair_of, paired_first, unpaired, with_left}
-use Rattle.md_marks.specs.Pairs.{with_pair, with_pairs, joined, start_mark, end_mark}
+use Rattle.md_marks.specs.Pairs.{Closed, Pair, closed, closer_left, nearest, opener_left, pair_of}
+use Rattle.md_marks.specs.Pairs.{paired_first, unpaired, with_left, with_pair, with_pairs, joined}
+use Rattle.md_marks.specs.Pairs.{start_mark, end_mark}
 use Rattle.md_marks.specs.declared.token.Mark.{Mark}
 
 -- ---- the nearest opener
