@@ -153,34 +153,34 @@ impl Delimiters {
             ≡ with_pairs (pairs_after [] (drop from self.old)) tokens.old.items) }
         ensures rest { OnOk result (self.new ≡ take from self.old) }
     {
-        let Delimiters { list, openers } = self;
-        if let Some(runs) = list.get(from..) {
-            if !runs.is_empty() {
-                pair_all(runs, openers, tokens)?;
-            }
+        if self.list.len() <= from {
+            return Ok(());
         }
-        list.truncate(from);
-        Ok(())
+        let Delimiters { list, openers } = self;
+        pair_all(list, from, openers, tokens)
     }
 }
 
-/// Pairs runs.
+/// Pairs the runs from an index, and removes them.
 #[inline(never)]
 fn pair_all(
-    runs: &[Delimiter],
+    list: &mut Vec<Delimiter>,
+    from: usize,
     openers: &mut Vec<Delimiter>,
     tokens: &mut Vec<Token>,
 ) -> Result<(), AllocError>
-    ensures { OnOk result
-        (tokens.new.items ≡ with_pairs (pairs_after [] runs.now) tokens.old.items) }
+    ensures pairs { OnOk result (tokens.new.items
+        ≡ with_pairs (pairs_after [] (drop from list.old.items)) tokens.old.items) }
+    ensures rest { OnOk result (list.new.items ≡ take from list.old.items) }
 {
     openers.clear();
     let mut bottoms = [0; KINDS];
-    let mut at = 0;
-    'runs: while at < runs.len() {
-        read_run(openers, tokens, runs[at], &mut bottoms)?;
+    let mut at = from;
+    'runs: while at < list.len() {
+        read_run(openers, tokens, list[at], &mut bottoms)?;
         at += 1;
     }
+    list.truncate(from);
     Ok(())
 }
 

@@ -6,12 +6,12 @@ use Rattle.md_marks.proofs.delimiters.pair_all.Given as goal
 
 abbrev pub invariant-runs : goal.invariant-runs
 invariant-runs l = record {
-  same : with_pairs (pairs_after (reverse l.openers.items) (drop l.at l.runs)) l.tokens.items
-      ≡ with_pairs (pairs_after (reverse l.initial.openers.items) l.runs)
+  same : with_pairs (pairs_after (reverse l.openers.items) (drop l.at l.list.items)) l.tokens.items
+      ≡ with_pairs (pairs_after (reverse l.initial.openers.items) (drop l.initial.at l.list.items))
       l.initial.tokens.items;
   opens : AreOpen l.openers.items;
   bottoms : AreBottoms l.bottoms l.openers.items;
 }
 
 abbrev pub decreases-runs : goal.decreases-runs
-decreases-runs l = length l.runs - l.at
+decreases-runs l = length l.list.items - l.at
