@@ -1,4 +1,4 @@
--- A pair leads to the same; where none is left, what is left is the closer's.
+-- What is left to pair gives the same; where nothing is left, what is left is the closer's.
 use Rattle.std.proofs.Common.{arith, ◌≡◌, ◌<◌, ◌≤◌, sym, subst, length, reverse, get_or, ℕ}
 use Rattle.std.proofs.Common.{true, false, set}
 use Rattle.std.specs.Prelude.{Some, None}
