@@ -72,14 +72,7 @@ impl Places {
                 Ok(())
             }
             Item::Html => Ok(()),
-            Item::Token(token) => {
-                let token = Token {
-                    implied: Implied::Nothing,
-                    ..token
-                };
-                items.set(index, token);
-                self.read_token(items, index, token)
-            }
+            Item::Token(_) => self.read_token(items, index),
         }
     }
 
@@ -121,12 +114,15 @@ impl Places {
         }
     }
 
-    fn read_token(
-        &mut self,
-        items: &mut Items,
-        index: usize,
-        token: Token,
-    ) -> Result<(), AllocError> {
+    fn read_token(&mut self, items: &mut Items, index: usize) -> Result<(), AllocError> {
+        let Some(token) = items.token(index) else {
+            return Ok(());
+        };
+        let token = Token {
+            implied: Implied::Nothing,
+            ..token
+        };
+        items.set(index, token);
         match token.part {
             Part::Start if token.is_kept => self.start(items, index, token),
             Part::End if token.is_kept => {
