@@ -1,6 +1,6 @@
 -- A text that is built as it is read is contained: it has no link in a link, and links may contain
 -- links.
-use Rattle.std.proofs.Common.{◌≡◌, ℕ, Bool, true, false, ◌&&◌, List, [], ◌∷◌, ◌++◌, arith, refl}
+use Rattle.std.proofs.Common.{◌≡◌, ℕ, Bool, true, false, List, [], ◌∷◌, ◌++◌, arith, refl}
 use Rattle.std.proofs.Common.{◌∙◌, codes, inl, inr, map, subst, sym, if◌then◌else◌}
 use Rattle.std.specs.Prelude.{Option, Some, None, find, option_map, bytes_eq}
 use Rattle.std.specs.Option.{option_map_or}
@@ -51,7 +51,8 @@ among : (name : List ℕ) (names : List (List ℕ)) →
     (what (find (named name) (map (λ n. (n, Phrasing)) names)))
 among name [] = λ h e. grind arith
 among name (n ∷ names) =
-    choose (bytes_eq n name) (n, Linked) (n, Phrasing) (find (named name) (map (λ n. (n, Linked)) names))
+    choose (bytes_eq n name) (n, Linked) (n, Phrasing)
+    (find (named name) (map (λ n. (n, Linked)) names))
     (find (named name) (map (λ n. (n, Phrasing)) names)) Freed (among name names)
 
 -- the spans beside links and code
@@ -68,10 +69,10 @@ unlinked name is h e = grind arith
 freed : (name : List ℕ) → Frees (held_in false Linked name) (held_in true Phrasing name)
 freed name = elim (cases_Bool (bytes_eq (codes "a") name)) [
   | inl y ↦ unlinked name (grind (arith, bytes_eq-Decides))
-  | inr n ↦ skip (bytes_eq (codes "a") name) (codes "a", Phrasing) (find (named name) (spans_of Linked))
-      (find (named name) (spans_of Phrasing)) n
-      (choose (bytes_eq (codes "code") name) (codes "code", Characters) (codes "code", Characters) _ _ Same
-      (among name spans))
+  | inr n ↦ skip (bytes_eq (codes "a") name) (codes "a", Phrasing)
+      (find (named name) (spans_of Linked)) (find (named name) (spans_of Phrasing)) n
+      (choose (bytes_eq (codes "code") name) (codes "code", Characters) (codes "code", Characters)
+      _ _ Same (among name spans))
 ]
 
 held : (c : Content) (name : List ℕ) → Frees (held_in false c name) (held_in true c name)

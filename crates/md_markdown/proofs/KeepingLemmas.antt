@@ -1,5 +1,5 @@
 -- A text of the compiler is that of a document with pieces of authors.
-use Rattle.std.proofs.Common.{◌≡◌, ◌++◌, ℕ, List, refl, IsTrue, option_map, string_bytes, true}
+use Rattle.std.proofs.Common.{◌≡◌, ◌++◌, ℕ, List, refl, IsTrue, option_map, string_bytes}
 use Rattle.std.proofs.Common.{sym, ap, ◌∙◌, length, drop}
 use Rattle.std.specs.List.{concat}
 use Rattle.std.proofs.Math.Seq.{drop-append_seam}

@@ -1,5 +1,5 @@
 -- The pieces of the events are the bytes that are appended last.
-use Rattle.std.proofs.Common.{arith, ◌≡◌, ◌++◌, [], true, sym, ap, ◌∙◌, subst, length}
+use Rattle.std.proofs.Common.{arith, ◌≡◌, ◌++◌, [], ap, ◌∙◌, subst, length}
 use Rattle.md_kept.specs.Pieces.{ArePieces}
 use Rattle.md_markdown.proofs.KeepingLemmas.{have_pieces}
 use Rattle.md_markdown.proofs.keeping.kept_events.Goals as goal
