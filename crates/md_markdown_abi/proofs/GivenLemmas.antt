@@ -28,8 +28,8 @@ use Rattle.md_markdown.specs.Made.{IsMadeOf}
 use Rattle.md_blocks.specs.declared.options.MarkdownOptions.{MarkdownOptions}
 use Rattle.md_markdown_abi.specs.Numbers.{markdown_version}
 use Rattle.md_markdown_abi.specs.Options.{HasMarkdownOptions, readable_fields, keeps_html}
-use Rattle.md_markdown_abi.specs.Text.{IsPlainOf, IsMadeFor, IsRead, IsMarkdownText}
-use Rattle.md_markdown_abi.specs.Failures.{IsOptionFault, IsOfText}
+use Rattle.md_markdown_abi.specs.Text.{IsPlainOf, IsMadeFor, IsMarkdownText}
+use Rattle.md_markdown_abi.specs.Failures.{IsOptionFault}
 use Rattle.md_markdown_abi.specs.Failures.{ExplainsMarkdown}
 use Rattle.md_markdown_abi.specs.declared.option.CMarkdownOptions.{CMarkdownOptions}
 use Rattle.md_markdown_abi.specs.declared.failure.MarkdownFailure.{MarkdownFailure}
@@ -131,10 +131,3 @@ module _ (bytes : List ℕ) (given : CMarkdownOptions) where
   option_fault version (failure.Name index) fault = absurd fault
   option_fault version (failure.Line number) fault = absurd fault
   option_fault version (failure.Refused index rule) fault = absurd fault
-
-  -- a text that is too long is one of a document that was read
-  pub text_fault : IsRead bytes given → (why : MarkdownFailure) → IsOfText why →
-      ExplainsMarkdown bytes given why
-  text_fault read why (inl long) = subst (ExplainsMarkdown bytes given) (sym long) read
-  text_fault read why (inr memory) =
-      subst (ExplainsMarkdown bytes given) (sym memory) read.readable.options_read.version

@@ -3,5 +3,5 @@ use Rattle.std.specs.String.{string_bytes}
 use Rattle.md_page.specs.Pieces.{IsWritten}
 use Rattle.md_markdown_abi.specs.declared.kept.KeptHtml.TheInside.{Inside}
 
-abbrev pub IsKept : Inside → Type 0
-IsKept inside = IsWritten (string_bytes inside.text)
+abbrev pub HasWrittenText : Inside → Type 0
+HasWrittenText inside = IsWritten (string_bytes inside.text)

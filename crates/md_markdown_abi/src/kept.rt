@@ -24,13 +24,13 @@ pub(crate) struct KeptHtml {
 impl Model for KeptHtml {
     ghost use Rattle.std.specs.Prelude.{ℕ, List};
     ghost use Rattle.std.specs.String.{string_bytes};
-    ghost use Rattle.md_markdown_abi.specs.Kept.{IsKept};
+    ghost use Rattle.md_markdown_abi.specs.Kept.{HasWrittenText};
 
     ghost Value = { List ℕ };
 
     ghost view = { λ html. string_bytes html.text };
 
-    ghost invariant = { IsKept };
+    ghost invariant = { HasWrittenText };
 }
 
 impl KeptHtml {
