@@ -107,9 +107,6 @@ static void test_kept(void) {
         options.html = BIVDRAZO_MARKDOWN_HTML_KEPT_OR_TEXT;
         check(renders(cases[at][0], &options, cases[at][2]), "kept HTML, the rest as text");
     }
-    options.html = BIVDRAZO_MARKDOWN_HTML_KEPT_OR_TEXT + 1;
-    check(fails("a", 1, &options, BIVDRAZO_NO_OPTION, BIVDRAZO_MARKDOWN_OPTION_HTML),
-          "no such choice");
     options.html = BIVDRAZO_MARKDOWN_HTML_KEPT;
     options.rel = text_of("ugc");
     check(renders("<a href=\"b\">a</a>", &options, "<p><a href=\"b\" rel=\"ugc\">a</a></p>\n"),
@@ -385,7 +382,7 @@ static void test_failures(void) {
     options.version++;
     check(fails("a", 1, &options, BIVDRAZO_MARKDOWN_NO_VERSION, 0), "another version");
     options = bivdrazo_markdown_options_default();
-    options.html = 3;
+    options.html = BIVDRAZO_MARKDOWN_HTML_KEPT_OR_TEXT + 1;
     check(fails("a", 1, &options, BIVDRAZO_NO_OPTION, BIVDRAZO_MARKDOWN_OPTION_HTML),
           "a number for HTML");
     test_flags();
