@@ -162,6 +162,11 @@ class Texts(unittest.TestCase):
                 self.assertEqual(markdown_to_html(text, html="kept-or-text"),
                                  f"<p>{kept_or_text}</p>\n")
         self.assertTrue(bivdrazo.is_safe_html(markdown_to_html("<b>a</b>", html="kept")))
+        text = "<ul></i><li>a</li></ul>\n\n<b>c</b>\n"
+        self.assertEqual(markdown_to_html(text, html="kept"),
+                         "<ul><li>a</li></ul>\n<p><b>c</b></p>\n")
+        self.assertEqual(markdown_to_html(text, html="kept-or-text"),
+                         "&lt;ul&gt;&lt;/i&gt;&lt;li&gt;a&lt;/li&gt;&lt;/ul&gt;\n<p><b>c</b></p>\n")
 
     def test_kept_html_with_other_options(self):
         text = "<h2>A <a href='b'>c</a></h2>\n\n# A c\n"

@@ -41,7 +41,7 @@ pub fn keep(
 ) -> Result<Kept, AllocError> {
     let mut items = read_items(alloc, events, text)?;
     pair(alloc, &mut items)?;
-    place(alloc, &mut items)?;
+    place(alloc, &mut items, others)?;
     written(alloc, events, &items, start, others)
 }
 

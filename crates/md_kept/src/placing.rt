@@ -3,6 +3,7 @@
 use crate::content::Content;
 use crate::items::{Implied, Item, Items, Part, Token};
 use crate::own::Own;
+use md_blocks::DocumentHtml;
 use md_clean::Kind;
 use std::alloc::{AllocError, Global};
 
@@ -27,12 +28,18 @@ enum LevelKind {
     Body,
 }
 
-/// Keeps the elements that may stand where they are, with what is in them.
-pub(crate) fn place(alloc: Global, items: &mut Items) -> Result<(), AllocError> {
+/// Keeps the elements that may stand where they are, with what is in them. `others` is what is done
+/// with HTML that isn't kept.
+pub(crate) fn place(
+    alloc: Global,
+    items: &mut Items,
+    others: DocumentHtml,
+) -> Result<(), AllocError> {
     for _ in 0..MOST_ROUNDS {
         let mut places = Places {
             levels: Vec::new(alloc),
             is_changed: false,
+            others,
         };
         for index in 0..items.list.len() {
             if let Some(item) = items.list.get(index) {
@@ -53,6 +60,8 @@ struct Places {
     levels: Vec<Level>,
     /// Whether an element isn't kept that was when what is in it was read.
     is_changed: bool,
+    /// What is done with HTML that isn't kept.
+    others: DocumentHtml,
 }
 
 impl Places {
@@ -132,13 +141,27 @@ impl Places {
             Part::Void => {
                 let is_kept = self.content().has_void(token.tag.kind);
                 items.set(index, Token { is_kept, ..token });
+                if !is_kept {
+                    self.read_text(items, token);
+                }
                 Ok(())
             }
-            Part::Text if !is_white(items.text(&token)) => {
-                self.make_room(items, None);
+            _ => {
+                self.read_text(items, token);
                 Ok(())
             }
-            _ => Ok(()),
+        }
+    }
+
+    /// Reads what is printed as text, if it is, unless it is white space.
+    fn read_text(&mut self, items: &mut Items, token: Token) {
+        let is_printed = match token.part {
+            Part::Text => !is_white(items.text(&token)),
+            Part::Comment => self.others == DocumentHtml::Text,
+            _ => self.others != DocumentHtml::LeftOut,
+        };
+        if is_printed {
+            self.make_room(items, None);
         }
     }
 
@@ -161,7 +184,10 @@ impl Places {
                 content,
                 kind: LevelKind::Tag(index),
             })?,
-            None => items.keep(index, false),
+            None => {
+                items.keep(index, false);
+                self.read_text(items, token);
+            }
         }
         Ok(())
     }
