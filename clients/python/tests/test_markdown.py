@@ -156,6 +156,8 @@ class Texts(unittest.TestCase):
                 ("a<!-- b -->", "a", "a"),
                 ("a <script>b</script>", "a b", "a &lt;script&gt;b&lt;/script&gt;"),
                 ("<a href='javascript:b' onclick='c'>d</a>", "<a>d</a>", "<a>d</a>"),
+                ('<a href="b">*[c](d)*</a> <b>e</b>', '<em><a href="d">c</a></em> <b>e</b>',
+                 '&lt;a href=&quot;b&quot;&gt;<em><a href="d">c</a></em>&lt;/a&gt; <b>e</b>'),
                 ("a < b", "a &lt; b", "a &lt; b")]:
             with self.subTest(text=text):
                 self.assertEqual(markdown_to_html(text, html="kept"), f"<p>{kept}</p>\n")

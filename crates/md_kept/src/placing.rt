@@ -88,12 +88,31 @@ impl Places {
     /// Enters a node of the document.
     fn enter(&mut self, items: &mut Items, own: Own) -> Result<(), AllocError> {
         self.make_room(items, Some(own));
+        if own == Own::Link && self.content() == Content::Linked {
+            self.give_up_link(items);
+        }
         let content = self.content().in_own(own);
         self.levels.push(Level {
             content,
             kind: LevelKind::Own,
         })?;
         Ok(())
+    }
+
+    /// Doesn't keep the link around a span of the document with a link in it.
+    fn give_up_link(&mut self, items: &mut Items) {
+        let mut link = None;
+        for level in self.levels.iter().rev() {
+            if let LevelKind::Tag(start) = level.kind {
+                if link.is_none() && is_link(items, start) {
+                    link = Some(start);
+                }
+            }
+        }
+        if let Some(start) = link {
+            items.keep(start, false);
+            self.is_changed = true;
+        }
     }
 
     /// Exits a node of the document.
@@ -216,6 +235,14 @@ impl Places {
                 },
             );
         }
+    }
+}
+
+/// Whether an item is a tag of a link.
+fn is_link(items: &Items, index: usize) -> bool {
+    match items.token(index) {
+        Some(token) => token.tag.kind == Kind::Link,
+        None => false,
     }
 }
 

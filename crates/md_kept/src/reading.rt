@@ -80,12 +80,13 @@ impl Reader<'_> {
         }
         let start = self.open.pop().unwrap_or(0);
         if start >= self.after_html {
-            // Without HTML in it, what it contains doesn't matter; nor does it after its like.
-            items.list.truncate(start.saturating_add(1));
-            if is_after_its_like(items.list.as_slice(), start, own) {
-                items.list.truncate(start);
+            // Without HTML in it, only a link in it matters; and it doesn't after its like.
+            let own = as_one(own, items.list.as_slice(), start);
+            items.list.truncate(start);
+            if is_after_its_like(items.list.as_slice(), own) {
                 return Ok(());
             }
+            items.list.push(Item::Enter(own))?;
         }
         items.list.push(Item::Exit)?;
         Ok(())
@@ -106,12 +107,23 @@ impl Reader<'_> {
     }
 }
 
-/// Whether a node with nothing in it, of the same kind, ends before an item.
-fn is_after_its_like(list: &[Item], start: usize, own: Own) -> bool {
-    match (
-        list.get(start.wrapping_sub(2)),
-        list.get(start.wrapping_sub(1)),
-    ) {
+/// What a node that begins with an item is to the tags around it, with what is in it: a span with a
+/// link is a link.
+fn as_one(own: Own, list: &[Item], start: usize) -> Own {
+    let inside = list.get(start..).unwrap_or(&[]);
+    let has_link = inside
+        .iter()
+        .any(|item| matches!(item, Item::Enter(Own::Link)));
+    if own == Own::Span && has_link {
+        Own::Link
+    } else {
+        own
+    }
+}
+
+/// Whether a node of this kind, with nothing in it, is last.
+fn is_after_its_like(list: &[Item], own: Own) -> bool {
+    match (list.get(list.len().wrapping_sub(2)), list.last()) {
         (Some(Item::Enter(other)), Some(Item::Exit)) => *other == own,
         _ => false,
     }
