@@ -3,7 +3,7 @@ use Rattle.std.proofs.Common.{◌++◌, [], inl, refl, sym, ap, ◌∙◌, optio
 use Rattle.std.proofs.lemmas.List.{append-nil}
 use Rattle.std.proofs.lemmas.Result.{IfOk-weaker}
 use Rattle.md_markdown.proofs.MadeLemmas.{none, of_either}
-use Rattle.md_markdown.proofs.compiling.markdown_within.Goals as goal
+use Rattle.md_markdown.proofs.compiling.compile_written_within.Goals as goal
 
 pub returns-then-not-writer-clause-made : goal.returns-then-not-writer-clause-made
 returns-then-not-writer-clause-made c =
