@@ -2,6 +2,8 @@
 use Rattle.std.proofs.Common.{◌≡◌, ◌<◌, ◌+◌, ℕ, Bool, true, false, List, [], ◌∷◌, suc}
 use Rattle.std.proofs.Common.{length, drop, drop-cons, get_or, arith, refl, sym, ap, ◌∙◌, subst}
 use Rattle.std.specs.Prelude.{if◌then◌else◌}
+use Rattle.std.proofs.Common.{◌≤◌, inl, inr}
+use Rattle.std.proofs.lemmas.Bool.{cases_Bool}
 use Rattle.std.proofs.lemmas.List.{drop-drop}
 use Rattle.md_lines.specs.Escapes.{before_unescaped, is_escape, width}
 
@@ -42,3 +44,25 @@ module _ (test : ℕ → Bool) where
       (goes (get_or text at 0) (drop (suc at) text) fails)
       ∙ ap (λ xs. width (drop at text) + before_unescaped test xs)
       (drop-drop (width (drop at text)) at text)
+
+pub width-le : (text : List ℕ) → width text ≤ 2
+width-le [] = omega arith
+width-le (byte ∷ []) = omega arith
+width-le (byte ∷ next ∷ rest) = elim (cases_Bool (is_escape byte next)) [
+  | inl is ↦ rw is (omega arith)
+  | inr is_not ↦ rw is_not (omega arith)
+]
+
+pub before-le : (test : ℕ → Bool) (text : List ℕ) → before_unescaped test text ≤ length text
+before-le test [] = omega arith
+before-le test (byte ∷ []) = elim (cases_Bool (test byte)) [
+  | inl is ↦ rw is (omega arith)
+  | inr is_not ↦ rw is_not (omega arith)
+]
+before-le test (byte ∷ next ∷ rest) = elim (cases_Bool (test byte)) [
+  | inl is ↦ rw is (omega arith)
+  | inr is_not ↦ elim (cases_Bool (is_escape byte next)) [
+    | inl two ↦ rw (is_not, two) (omega (arith, before-le test rest))
+    | inr one ↦ rw (is_not, one) (omega (arith, before-le test (next ∷ rest)))
+  ]
+]

@@ -1,2 +1,5 @@
 -- Lemmas for the scanners.
 pub mod Escapes
+pub mod Reading
+pub mod Spaces
+pub mod Parts

@@ -2,4 +2,6 @@
 pub mod Lines
 pub mod Classes
 pub mod Escapes
+pub mod Texts
+pub mod LinkParts
 pub mod Reading
