@@ -17,16 +17,17 @@ pub record Definition : Type 0 where
   pub title : Option (List (List ℕ))
   pub rest : List (List ℕ)
 
--- a label's bytes, with a line feed between two lines; NUL is U+FFFD
-abbrev pub label_bytes : List (List ℕ) → List ℕ
-label_bytes label =
-    flat_map (λ byte. if byte == 0 then 239 ∷ 191 ∷ 189 ∷ [] else byte ∷ [])
-    (join_with_byte 10 label)
+-- a text in which NUL is U+FFFD
+abbrev pub printed : List ℕ → List ℕ
+printed text = flat_map (λ byte. if byte == 0 then 239 ∷ 191 ∷ 189 ∷ [] else byte ∷ []) text
 
--- the form in which labels are compared; by the parser's own rule a label that isn't UTF-8 has none
+-- the form in which texts are compared; by the parser's own rule one that isn't UTF-8 has none
+abbrev pub text_form : List ℕ → Option (List ℕ)
+text_form text = if is_utf8 text then Some (normalized text) else None
+
+-- the form in which labels are compared: that of its lines, with a line feed between two
 abbrev pub label_form : List (List ℕ) → Option (List ℕ)
-label_form label =
-    if is_utf8 (label_bytes label) then Some (normalized (label_bytes label)) else None
+label_form label = text_form (printed (join_with_byte 10 label))
 
 -- what follows a label
 pub record Target : Type 0 where
@@ -52,56 +53,65 @@ with_title destination title = elim title [
   ]
 ]
 
+-- the first of two that there is
+abbrev pub first_of : Option Target → Option Target → Option Target
+first_of one other = elim one [ None ↦ other | Some target ↦ Some target ]
+
 -- the text after a destination: a title after spaces, tabs and at most one line ending, or else the
 -- end of the line; what looks like a title and is none may stand in the next line
 abbrev pub titled : List ℕ → List (List ℕ) → Option Target
 titled destination text =
-    elim (if begins_with_space text then with_title destination (title_at (after_spaces text))
-    else None) [
-      | Some target ↦ Some target
-      | None ↦ without_title destination text
-    ]
+    first_of (if begins_with_space text then with_title destination (title_at (after_spaces text))
+    else None) (without_title destination text)
 
--- the text after the colon: spaces, tabs and at most one line ending, and the destination, which
--- may be empty only in angle brackets
+-- a destination, which may be empty only in angle brackets, and the text after it
+abbrev pub target_after : Bool → Option Destination → List (List ℕ) → Option Target
+target_after is_pointed found lines = elim found [
+  | None ↦ None
+  | Some found ↦
+      if is_none found.text && not is_pointed then None
+      else titled found.text (found.rest ∷ lines)
+]
+
 abbrev pub target_in : List (List ℕ) → Option Target
 target_in text = elim text [
   | [] ↦ None
-  | line ∷ lines ↦ elim (destination_at line) [
-    | None ↦ None
-    | Some found ↦
-        if is_none found.text && not (begins_with 60 text) then None
-        else titled found.text (found.rest ∷ lines)
-  ]
+  | line ∷ lines ↦ target_after (begins_with 60 (line ∷ lines)) (destination_at line) lines
 ]
 
--- the text after a label: a colon, and the rest of the definition
+-- the text after a label: a colon, spaces, tabs and at most one line ending, and the rest of the
+-- definition
 abbrev pub target_at : List (List ℕ) → Option Target
 target_at text =
     if begins_with 58 text then target_in (after_spaces (after_next text)) else None
 
--- the definition with a label and what follows it, if the label has a form
+-- the definition with a label of some form and what follows the label
+abbrev pub with_form : Part → Target → Option (List ℕ) → Option Definition
+with_form label target form = elim form [
+  | None ↦ None
+  | Some _ ↦ Some (record {
+    label = label.text;
+    destination = target.destination;
+    title = target.title;
+    rest = target.rest;
+  })
+]
+
 abbrev pub definition_of : Part → Option Target → Option Definition
 definition_of label target = elim target [
   | None ↦ None
-  | Some target ↦ elim (label_form label.text) [
-    | None ↦ None
-    | Some _ ↦ Some (record {
-      label = label.text;
-      destination = target.destination;
-      title = target.title;
-      rest = target.rest;
-    })
-  ]
+  | Some target ↦ with_form label target (label_form label.text)
+]
+
+abbrev pub definition_after : Option Part → Option Definition
+definition_after label = elim label [
+  | None ↦ None
+  | Some label ↦ definition_of label (target_at label.rest)
 ]
 
 -- the definition that begins a text: a label in brackets, and what follows it
 abbrev pub definition_at : List (List ℕ) → Option Definition
-definition_at text =
-    if begins_with 91 text then elim (label_at (after_next text)) [
-      | None ↦ None
-      | Some label ↦ definition_of label (target_at label.rest)
-    ] else None
+definition_at text = if begins_with 91 text then definition_after (label_at (after_next text)) else None
 
 -- how many lines the definition that begins a text has; 0 if there is none
 abbrev pub definition_length : List (List ℕ) → ℕ

@@ -1,5 +1,13 @@
 //! Definitions of links and of footnotes, found by their labels.
 
+ghost use Rattle.std.specs.Prelude.{◌≡◌, ◌<◌, length, List, ℕ, Some, None, IfOk, IfSome, IfNone, option_map};
+ghost use Rattle.std.specs.Prelude.{true, false, not, ◌&&◌, ◌==◌};
+ghost use Rattle.md_lines.specs.LinkParts.{title_at};
+ghost use Rattle.md_lines.specs.Reading.{ReadSame, lines_after, text_from};
+ghost use Rattle.md_lines.specs.Texts.{after_line_end};
+ghost use Rattle.md_blocks.specs.LinkDefinitions.{definition_at, target_at, target_in, titled, with_title};
+ghost use Rattle.md_blocks.specs.Passes.{texts_from};
+
 use crate::label::{folded_bytes, folded_label};
 use md_lines::{Cursor, Line, Place, Span, Title, read_destination, read_label, read_title};
 use std::alloc::{AllocError, Global};
@@ -75,7 +83,9 @@ impl Definitions {
         if self.list.is_empty() {
             return Ok(None);
         }
-        let Some(label) = folded_label(alloc, bytes, lines, from, to)? else {
+        let from = Cursor::new(bytes, lines, from);
+        let to = Cursor::new(bytes, lines, to);
+        let Some(label) = folded_label(alloc, &from, &to)? else {
             return Ok(None);
         };
         match self.by_label.get(label.as_str()) {
@@ -151,52 +161,101 @@ struct Target {
     title: Option<Title>,
 }
 
-/// Reads a definition that begins in a line, at its `[`, and adds it. Returns the line after it, or
-/// `None` if there is no definition.
+/// Reads a definition that begins with a line, and adds it. Returns the line after it, or `None` if
+/// there is no definition.
 pub(crate) fn read_definition(
     alloc: Global,
     bytes: &[u8],
     lines: &[Line],
-    start: Place,
+    line: usize,
     definitions: &mut Definitions,
-) -> Result<Option<usize>, AllocError> {
+) -> Result<Option<usize>, AllocError>
+    requires { line < length lines.now }
+    ensures found { IfOk result (λ next. IfSome next (λ next.
+        option_map (λ definition. definition.rest) (definition_at (texts_from bytes.now lines.now line))
+        ≡ Some (texts_from bytes.now lines.now next))) }
+    ensures none { IfOk result (λ next. IfNone next
+        (definition_at (texts_from bytes.now lines.now line) ≡ None)) }
+    ensures after { IfOk result (λ next. IfSome next (λ next. line < next)) }
+{
+    let start = Place {
+        line,
+        at: lines[line].start,
+    };
     let mut cursor = Cursor::new(bytes, lines, start);
-    cursor.advance();
-    let from = cursor.place();
+    if !cursor.take(b'[') {
+        return Ok(None);
+    }
+    let before = cursor;
     if !read_label(&mut cursor) {
         return Ok(None);
     }
-    let to = cursor.place();
+    let behind = cursor;
     cursor.advance();
     let Some(target) = read_target(&mut cursor) else {
         return Ok(None);
     };
-    let Some(label) = folded_label(alloc, bytes, lines, from, to)? else {
+    let Some(label) = folded_label(alloc, &before, &behind)? else {
         return Ok(None);
     };
-    definitions.add(
-        label,
-        definition_of(bytes, Span::new(from.at, to.at), target),
-    )?;
-    Ok(Some(cursor.place().line.saturating_add(1)))
+    let span = Span::new(before.place().at, behind.place().at);
+    definitions.add(label, definition_of(bytes, span, target))?;
+    Ok(Some(cursor.next_index()))
 }
 
 /// Reads a definition from its `:` to the end of its last line.
-fn read_target(cursor: &mut Cursor<'_>) -> Option<Target> {
+fn read_target(cursor: &mut Cursor<'_>) -> Option<Target>
+    ensures found { IfSome result (λ _. option_map (λ target. target.rest)
+        (target_at (text_from cursor.old)) ≡ Some (lines_after cursor.new)) }
+    ensures none { IfNone result (target_at (text_from cursor.old) ≡ None) }
+    ensures same { ReadSame cursor.old cursor.new }
+{
     if !cursor.take(b':') {
         return None;
     }
     cursor.skip_spaces();
-    let is_pointed = cursor.peek() == Some(b'<');
-    let destination = read_destination(cursor)?;
-    if destination.is_empty() && !is_pointed {
+    read_destination_and_title(cursor)
+}
+
+/// Reads a definition from its destination to the end of its last line.
+fn read_destination_and_title(cursor: &mut Cursor<'_>) -> Option<Target>
+    ensures found { IfSome result (λ _. option_map (λ target. target.rest)
+        (target_in (text_from cursor.old)) ≡ Some (lines_after cursor.new)) }
+    ensures none { IfNone result (target_in (text_from cursor.old) ≡ None) }
+    ensures same { ReadSame cursor.old cursor.new }
+{
+    let is_pointed = cursor.is_next(b'<');
+    let Some(destination) = read_destination(cursor) else {
+        return None;
+    };
+    if is_missing(destination, is_pointed) {
         return None;
     }
+    read_end(cursor, destination)
+}
+
+/// Whether a destination is empty and not in angle brackets.
+fn is_missing(destination: Span, is_pointed: bool) -> bool
+    ensures { result ≡ ((destination.start == destination.end) && not is_pointed) }
+{
+    destination.is_empty() && !is_pointed
+}
+
+/// Reads a definition from after its destination to the end of its last line. What looks like a
+/// title in the next line, and is none, is no part of it.
+fn read_end(cursor: &mut Cursor<'_>, destination: Span) -> Option<Target>
+    ensures found { (text : List ℕ) → IfSome result (λ _. option_map (λ target. target.rest)
+        (titled text (text_from cursor.old)) ≡ Some (lines_after cursor.new)) }
+    ensures none { (text : List ℕ) → IfNone result (titled text (text_from cursor.old) ≡ None) }
+    ensures same { ReadSame cursor.old cursor.new }
+{
     let behind = *cursor;
     if cursor.skip_spaces() {
-        let title = read_title(cursor);
-        if title.is_some() && ends_line(cursor) {
-            return Some(Target { destination, title });
+        if let Some(title) = read_last_title(cursor) {
+            return Some(Target {
+                destination,
+                title: Some(title),
+            });
         }
     }
     *cursor = behind;
@@ -210,8 +269,27 @@ fn read_target(cursor: &mut Cursor<'_>) -> Option<Target> {
     }
 }
 
+/// Reads a title and the end of its line.
+fn read_last_title(cursor: &mut Cursor<'_>) -> Option<Title>
+    ensures found { (text : List ℕ) → IfSome result (λ _. option_map (λ target. target.rest)
+        (with_title text (title_at (text_from cursor.old))) ≡ Some (lines_after cursor.new)) }
+    ensures none { (text : List ℕ) → IfNone result
+        (with_title text (title_at (text_from cursor.old)) ≡ None) }
+    ensures same { ReadSame cursor.old cursor.new }
+{
+    let Some(title) = read_title(cursor) else {
+        return None;
+    };
+    if ends_line(cursor) { Some(title) } else { None }
+}
+
 /// Skips spaces and tabs; returns whether the line ends after them.
-fn ends_line(cursor: &mut Cursor<'_>) -> bool {
+fn ends_line(cursor: &mut Cursor<'_>) -> bool
+    ensures found { result ≡ true
+        → after_line_end (text_from cursor.old) ≡ Some (lines_after cursor.new) }
+    ensures none { result ≡ false → after_line_end (text_from cursor.old) ≡ None }
+    ensures same { ReadSame cursor.old cursor.new }
+{
     cursor.skip(md_lines::Class::Space);
     cursor.is_at_line_end()
 }

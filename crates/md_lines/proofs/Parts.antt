@@ -13,11 +13,13 @@ use Rattle.std.proofs.lemmas.List.{take_all}
 use Rattle.md_lines.specs.Escapes.{is_angle, pointed_length}
 use Rattle.md_lines.specs.LinkParts.{label_in}
 use Rattle.md_lines.specs.Escapes.{before_unescaped, width}
-use Rattle.md_lines.specs.Texts.{Part, until, size, begins_with, after_next, with_line}
+use Rattle.md_lines.specs.Texts.{Part, until, size, begins_with, after_next, with_line, text_before, first_line}
 use Rattle.md_lines.specs.LinkParts.{bare_end, destination_of, ends_destination, opened_after}
 use Rattle.md_lines.specs.LinkParts.{is_label, is_blank_label, is_bracket}
 use Rattle.md_lines.specs.Escapes.{stops_title}
 use Rattle.md_lines.specs.LinkParts.{closing_mark, title_at, title_after, title_in}
+use Rattle.md_lines.specs.LinkParts.{label_at}
+use Rattle.std.proofs.lemmas.List.{length-drop}
 use Rattle.md_lines.proofs.Escapes.{before-le}
 use Rattle.md_lines.proofs.Reading.{none, run_in}
 use Rattle.std.proofs.Common.{subst}
@@ -290,9 +292,15 @@ bare_none from text is = none_of from (bare_end 0 0 false text) (sym (shift from
   none_of from None is = refl
   none_of from (Some n) is = cc
 
+sum_in : (from at end : ℕ) → from ≤ end → (from < at → at ≤ end) → from + (at - from) ≤ end
+sum_in from at end inside within = elim (cases_lt from at) [
+  | inl moved ↦ omega (arith, within moved)
+  | inr stays ↦ omega arith
+]
+
 -- a destination without brackets, by its place
 pub bare_found : (bytes : List ℕ) (from end at start stop : ℕ) → from ≤ at →
-    (from ≤ end → at ≤ end) → Some at ≡ bare_end from 0 false (drop from (take end bytes)) →
+    (from < at → at ≤ end) → Some at ≡ bare_end from 0 false (drop from (take end bytes)) →
     start ≡ from → stop ≡ max from at →
     destination_of 0 (bare_end 0 0 false (drop from (take end bytes))) (drop from (take end bytes))
     ≡ Some (record { text = drop start (take stop bytes); rest = drop at (take end bytes) })
@@ -309,11 +317,20 @@ bare_found bytes from end at start stop after within is starts stops = elim (cas
       count_of from at (bare_end 0 0 false (drop from (take end bytes)))
       (is ∙ shift from (drop from (take end bytes))) in
       ap (λ n. destination_of 0 n (drop from (take end bytes))) count
-      ∙ found_in bytes from (at - from) end 0 start stop at (omega (arith, within inside)) starts
+      ∙ found_in bytes from (at - from) end 0 start stop at (sum_in from at end inside within) starts
       (omega arith) (omega arith)
 ] where
   is_from : drop from (take end bytes) ≡ [] → at ≡ from
   is_from nothing = same_at (is ∙ ap (bare_end from 0 false) nothing)
+
+pub long_is : (bytes : List ℕ) (from at end start stop : ℕ) → from ≤ at → end ≤ length bytes →
+    (from < at → at ≤ end) → start ≡ from → stop ≡ max from at →
+    length (drop start (take stop bytes)) ≡ stop - start
+long_is bytes from at end start stop after short within starts ends = elim (cases_lt from at) [
+  | inl moved ↦
+      omega (arith, within moved, length-drop start (take stop bytes), length-take stop bytes)
+  | inr stays ↦ omega (arith, length-drop start (take stop bytes), length-take stop bytes)
+]
 
 -- whether a label is valid, if so many bytes precede it and were all blank or not
 abbrev pub label_ok : ℕ → Bool → Option Part → Bool
@@ -335,14 +352,77 @@ label_is (Some part) =
     some_if (is_label part) _
     ∙ ap (λ k. begins_with 93 part.rest && (nat_lt k 1001 && not (is_blank_label part.text))) same
 
-pub label_rest : (found : Option Part) → label_ok 0 true found ≡ true →
-    option_map (λ (part : Part). part.rest) (label_in found)
-    ≡ option_map (λ (part : Part). after_next part.rest) found
-label_rest None is = cc
-label_rest (Some part) is =
-    ap (λ b. option_map (λ (part : Part). part.rest)
-    (if b then Some (record { text = part.text; rest = after_next part.rest }) else None))
-    (sym (some_if (is_label part) _) ∙ label_is (Some part) ∙ is)
+-- the text before the byte that was searched for
+mapped : (line : List ℕ) (o : Option Part) (part : Part) → option_map (with_line line) o ≡ Some part →
+    (found : Part) × (o ≡ Some found) × (part ≡ with_line line found)
+mapped line None part is = absurd (none_is is) where
+  none_is : {part : Part} → None ≡ Some part → ⊥
+  none_is is = cc
+mapped line (Some found) part is =
+    let same : part ≡ with_line line found = cc in (found, refl, same)
+
+shorter : (test : ℕ → Bool) (text : List (List ℕ)) (part : Part) → until test text ≡ Some part →
+    length part.rest ≤ length text
+shorter test [] part is = cc
+shorter test (line ∷ lines) part is =
+    elim (cases_lt (before_unescaped test line) (length line)) [
+      | inl within ↦
+          let same = some_same (sym (until_here test line lines within) ∙ is) in
+          omega (arith, ap (λ (p : Part). length p.rest) same)
+      | inr over ↦
+          let found = mapped line (until test lines) part
+          (sym (until_later test line lines over) ∙ is) in
+          omega (arith, ap (λ (p : Part). length p.rest) found.2, shorter test lines found.0 found.1)
+    ] where
+      some_same : {one other : Part} → Some one ≡ Some other → one ≡ other
+      some_same is = cc
+
+pub text_is : (test : ℕ → Bool) (text : List (List ℕ)) (part : Part) → until test text ≡ Some part →
+    part.text ≡ text_before text part.rest
+text_is test [] part is = cc
+text_is test (line ∷ lines) part is =
+    elim (cases_lt (before_unescaped test line) (length line)) [
+      | inl within ↦
+          let n = before_unescaped test line in
+          let same = some_same (sym (until_here test line lines within) ∙ is) in
+          let cut : n ≡ length line - length (drop n line) = omega (arith, length-drop n line) in
+          ap (λ (p : Part). p.text) (sym same) ∙ ap (λ k. take k line ∷ []) cut
+          ∙ ap (λ b. if b then line ∷ text_before lines (drop n line ∷ lines)
+          else take (length line - length (drop n line)) line ∷ [])
+          (sym (le-ltb (suc (length lines)) (suc (length lines)) (omega arith)))
+          ∙ ap (λ (p : Part). text_before (line ∷ lines) p.rest) same
+      | inr over ↦
+          let found = mapped line (until test lines) part
+          (sym (until_later test line lines over) ∙ is) in
+          ap (λ (p : Part). p.text) found.2
+          ∙ ap (λ xs. line ∷ xs) (text_is test lines found.0 found.1)
+          ∙ ap (λ b. if b then line ∷ text_before lines found.0.rest
+          else take (length line - length (first_line found.0.rest)) line ∷ [])
+          (sym (lt-ltb (length found.0.rest) (suc (length lines))
+          (omega (arith, shorter test lines found.0 found.1))))
+          ∙ ap (λ (p : Part). text_before (line ∷ lines) p.rest) (sym found.2)
+    ] where
+      some_same : {one other : Part} → Some one ≡ Some other → one ≡ other
+      some_same is = cc
+
+pub label_found : (text rest : List (List ℕ)) → label_ok 0 true (until is_bracket text) ≡ true →
+    option_map (λ (part : Part). part.rest) (until is_bracket text) ≡ Some rest →
+    label_at text ≡ Some (record { text = text_before text rest; rest = after_next rest })
+label_found text rest ok is = by_part text rest (until is_bracket text) refl ok is where
+  by_part : (text rest : List (List ℕ)) (found : Option Part) → until is_bracket text ≡ found →
+      label_ok 0 true found ≡ true → option_map (λ (part : Part). part.rest) found ≡ Some rest →
+      label_in (until is_bracket text)
+      ≡ Some (record { text = text_before text rest; rest = after_next rest })
+  by_part text rest None known ok is = cc
+  by_part text rest (Some part) known ok is =
+      let same : part.rest ≡ rest = cc in
+      ap label_in known
+      ∙ ap (λ b. if b then Some (record { text = part.text; rest = after_next part.rest }) else None)
+      (sym (some_if (is_label part) (record { text = part.text; rest = after_next part.rest }))
+      ∙ label_is (Some part) ∙ ok)
+      ∙ ap (λ t. Some (record { text = t; rest = after_next part.rest }))
+      (text_is is_bracket text part known)
+      ∙ ap (λ r. Some (record { text = text_before text r; rest = after_next r })) same
 
 grown : (a b c : Bool) → not (a && (b && c)) ≡ not ((a && b) && c)
 grown true b c = refl
@@ -371,17 +451,17 @@ label_later count n is_blank line lines is over =
     ∙ more_in count n is_blank line (until is_bracket lines) (omega (arith, before-le is_bracket line))
 
 same_rest : (line : List ℕ) (found : Option Part) →
-    option_map (λ (part : Part). after_next part.rest) (option_map (with_line line) found)
-    ≡ option_map (λ (part : Part). after_next part.rest) found
+    option_map (λ (part : Part). part.rest) (option_map (with_line line) found)
+    ≡ option_map (λ (part : Part). part.rest) found
 same_rest line None = refl
 same_rest line (Some part) = refl
 
 pub rest_later : (n : ℕ) (line : List ℕ) (lines : List (List ℕ)) →
     n ≡ before_unescaped is_bracket line → length line ≤ n →
-    option_map (λ (part : Part). after_next part.rest) (until is_bracket (line ∷ lines))
-    ≡ option_map (λ (part : Part). after_next part.rest) (until is_bracket lines)
+    option_map (λ (part : Part). part.rest) (until is_bracket (line ∷ lines))
+    ≡ option_map (λ (part : Part). part.rest) (until is_bracket lines)
 rest_later n line lines is over =
-    ap (option_map (λ (part : Part). after_next part.rest))
+    ap (option_map (λ (part : Part). part.rest))
     (until_later is_bracket line lines (omega arith))
     ∙ same_rest line (until is_bracket lines)
 
@@ -394,10 +474,10 @@ bracket_at line n lines is within =
 
 pub rest_here : (line : List ℕ) (n : ℕ) (lines : List (List ℕ)) →
     n ≡ before_unescaped is_bracket line → n < length line →
-    option_map (λ (part : Part). after_next part.rest) (until is_bracket (line ∷ lines))
-    ≡ Some (after_next (drop n line ∷ lines))
+    option_map (λ (part : Part). part.rest) (until is_bracket (line ∷ lines))
+    ≡ Some (drop n line ∷ lines)
 rest_here line n lines is within =
-    ap (option_map (λ (part : Part). after_next part.rest)) (bracket_at line n lines is within)
+    ap (option_map (λ (part : Part). part.rest)) (bracket_at line n lines is within)
 
 and_true : (a b : Bool) → (a && (b && true)) ≡ (a && b)
 and_true true true = refl

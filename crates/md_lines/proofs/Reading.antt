@@ -2,7 +2,10 @@
 use Rattle.std.proofs.Common.{◌≡◌, ◌<◌, ◌≤◌, ◌+◌, ◌-◌, ◌∙◌, ℕ, Bool, true, false, List, [], ◌∷◌, zero, suc}
 use Rattle.std.proofs.Common.{length, drop, take, drop-cons, get_or, arith, ap, refl, sym, inl, inr}
 use Rattle.std.specs.Prelude.{map, min, Some, nat_lt}
-use Rattle.std.specs.List.{prefix_len}
+use Rattle.std.specs.List.{prefix_len, slice_get}
+use Rattle.std.specs.Prelude.{Option, None, IfSome}
+use Rattle.std.proofs.Common.{subst}
+use Rattle.std.proofs.lemmas.Option.{slice_get_within}
 use Rattle.std.proofs.lemmas.Bool.{cases_lt, lt-ltb, le-ltb}
 use Rattle.std.proofs.lemmas.List.{length-take, get_or-take, drop_all, take_min, drop-drop, drop-take}
 use Rattle.md_lines.specs.declared.line.Line.{Line}
@@ -119,3 +122,32 @@ pub any_in : (p : ℕ → Bool) (xs : List ℕ) (at end new : ℕ) →
     new ≡ at + prefix_len p (drop at (take end xs)) →
     nat_lt at new ≡ nat_lt 0 (prefix_len p (drop at (take end xs)))
 any_in p xs at end new is = ap (nat_lt at) is ∙ more_than at _
+
+got : {A B : Type 0} (f : A → B) (xs : List A) (k : ℕ) (x : A) → slice_get xs k ≡ Some x →
+    map f (drop k xs) ≡ f x ∷ map f (drop (suc k) xs)
+got f [] k x is = cc
+got f (y ∷ xs) zero x is = let same : y ≡ x = cc in ap (λ z. f z ∷ map f xs) same
+got f (y ∷ xs) (suc k) x is = got f xs k x is
+
+-- the text of a new cursor that begins with a line
+pub begun : (bytes : List ℕ) (lines : List Line) (k line at end : ℕ) → line ≡ min k (length lines) →
+    IfSome (slice_get lines line) (λ x. end ≡ min x.end (length bytes)) →
+    IfSome (slice_get lines k) (λ x. at ≡ x.start →
+    drop at (take end bytes) ∷ map (line_text bytes) (drop (suc line) lines)
+    ≡ map (line_text bytes) (drop k lines))
+begun bytes lines k line at end is ends = by_get (slice_get lines k) refl where
+  by_get : (o : Option Line) → slice_get lines k ≡ o → IfSome o (λ x. at ≡ x.start →
+      drop at (take end bytes) ∷ map (line_text bytes) (drop (suc line) lines)
+      ≡ map (line_text bytes) (drop k lines))
+  by_get None known = tt
+  by_get (Some x) known = λ starts.
+      let same : line ≡ k = omega (arith, slice_get_within lines k x known, is) in
+      let ending : end ≡ min x.end (length bytes) =
+      subst (λ o. IfSome o (λ (x : Line). end ≡ min x.end (length bytes)))
+      (ap (slice_get lines) same ∙ known) ends in
+      ap (λ n. drop n (take end bytes) ∷ map (line_text bytes) (drop (suc line) lines)) starts
+      ∙ ap (λ n. drop x.start (take n bytes) ∷ map (line_text bytes) (drop (suc line) lines)) ending
+      ∙ ap (λ xs. drop x.start xs ∷ map (line_text bytes) (drop (suc line) lines))
+      (take_min x.end bytes)
+      ∙ ap (λ n. line_text bytes x ∷ map (line_text bytes) (drop (suc n) lines)) same
+      ∙ sym (got (line_text bytes) lines k x known)

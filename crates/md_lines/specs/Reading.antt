@@ -1,6 +1,6 @@
 -- For the code alone: the text that a cursor has left, how much that is, and which byte comes next.
 use Rattle.std.specs.Prelude.{ℕ, Bool, List, ◌∷◌, ◌+◌, ◌-◌, ◌*◌, ◌==◌, ◌&&◌, nat_lt, length, get_or}
-use Rattle.std.specs.Prelude.{drop, take, map, suc, ◌≡◌}
+use Rattle.std.specs.Prelude.{drop, take, map, suc, ◌≡◌, ◌≤◌}
 use Rattle.md_lines.specs.declared.cursor.Cursor.{Cursor}
 use Rattle.md_lines.specs.declared.line.Line.{Line}
 use Rattle.md_lines.specs.declared.span.Span.{Span}
@@ -21,9 +21,10 @@ text_from cursor = in_line cursor ∷ lines_after cursor
 abbrev pub text_in : Span → Cursor → List ℕ
 text_in span cursor = drop span.start (take span.end cursor.bytes.now)
 
--- whether two cursors read the same lines of the same document
+-- a cursor that has moved on in the same lines of the same document
 abbrev pub ReadSame : Cursor → Cursor → Type 0
-ReadSame before after = (after.bytes ≡ before.bytes) × (after.lines ≡ before.lines)
+ReadSame before after =
+    (after.bytes ≡ before.bytes) × (after.lines ≡ before.lines) × (before.line ≤ after.line)
 
 -- the bytes left in the cursor's line, and 2^64 for that line and for each after it
 abbrev pub left : Cursor → ℕ

@@ -1,6 +1,6 @@
 -- What is left of a leaf's text, as its lines without their endings: the first is what is left of
 -- the line in which the reader is. So between two lines is one line ending, which no byte can be.
-use Rattle.std.specs.Prelude.{ℕ, Bool, Option, List, [], ◌∷◌, ◌+◌, ◌==◌, not, true, false, Some, None}
+use Rattle.std.specs.Prelude.{ℕ, Bool, Option, List, [], ◌∷◌, ◌+◌, ◌-◌, ◌==◌, not, true, false, Some, None}
 use Rattle.std.specs.Prelude.{drop, take, length, suc, nat_lt, option_map, if◌then◌else◌}
 use Rattle.std.specs.List.{prefix_len}
 use Rattle.md_lines.specs.Lines.{is_blank}
@@ -86,3 +86,13 @@ until test (line ∷ lines) =
 abbrev pub size : List (List ℕ) → ℕ
 size [] = 0
 size (line ∷ lines) = suc (length line) + size lines
+
+-- the text before what is left of it: so many lines, and a part of the next one
+abbrev pub first_line : List (List ℕ) → List ℕ
+first_line text = elim text [ [] ↦ [] | line ∷ _ ↦ line ]
+
+abbrev pub text_before : List (List ℕ) → List (List ℕ) → List (List ℕ)
+text_before [] rest = []
+text_before (line ∷ lines) rest =
+    if nat_lt (length rest) (suc (length lines)) then line ∷ text_before lines rest
+    else take (length line - length (first_line rest)) line ∷ []

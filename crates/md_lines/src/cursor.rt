@@ -2,7 +2,7 @@
 
 ghost use Rattle.std.specs.Prelude.{◌≡◌, ◌≤◌, ◌<◌, length, min, suc, nat_lt};
 ghost use Rattle.std.specs.Prelude.{IsTrue, IfNone, IfSome, Some, None, true, false, slice_get};
-ghost use Rattle.std.specs.Prelude.{◌+◌, drop, [], List, ℕ};
+ghost use Rattle.std.specs.Prelude.{◌+◌, drop, map, [], List, ℕ};
 ghost use Rattle.std.specs.List.{prefix_len};
 ghost use Rattle.md_lines.specs.Classes.{is_in};
 
@@ -32,14 +32,21 @@ pub struct Cursor<'a> {
 }
 
 impl<'a> Cursor<'a> {
-    ghost use Rattle.md_lines.specs.Reading.{left, is_next, lines_after, text_from, ReadSame};
+    ghost use Rattle.md_lines.specs.Reading.{left, is_next, line_text, lines_after, text_from};
+    ghost use Rattle.md_lines.specs.Reading.{ReadSame};
     ghost use Rattle.md_lines.specs.Escapes.{in_line};
     ghost use Rattle.md_lines.specs.Texts.{after_next, after_spaces, begins_with};
     ghost use Rattle.md_lines.specs.Texts.{begins_with_space, is_none, next_in};
 
     /// A cursor at a place in the lines.
     #[inline]
-    pub fn new(bytes: &'a [u8], lines: &'a [Line], place: Place) -> Self {
+    pub fn new(bytes: &'a [u8], lines: &'a [Line], place: Place) -> Self
+        ensures document { result.bytes.now ≡ bytes.now }
+        ensures lines { result.lines.now ≡ lines.now }
+        ensures line { result.line ≡ min place.line (length lines.now) }
+        ensures text { IfSome (slice_get lines.now place.line) (λ line. place.at ≡ line.start
+            → text_from result ≡ map (line_text bytes.now) (drop place.line lines.now)) }
+    {
         let line = place.line.min(lines.len());
         Cursor {
             bytes,
@@ -52,7 +59,10 @@ impl<'a> Cursor<'a> {
 
     /// The current place.
     #[inline(always)]
-    pub fn place(&self) -> Place {
+    pub fn place(&self) -> Place
+        ensures line { result.line ≡ self.now.line }
+        ensures at { result.at ≡ self.now.at }
+    {
         Place {
             line: self.line,
             at: self.at,
@@ -81,10 +91,34 @@ impl<'a> Cursor<'a> {
 
     /// What is left of the text of the current line.
     #[inline(always)]
-    pub(crate) fn rest_of_line(&self) -> &'a [u8]
+    pub fn rest_of_line(&self) -> &'a [u8]
         ensures { result.now ≡ in_line self.now }
     {
         self.bytes[..self.end].get(self.at..).unwrap_or(b"")
+    }
+
+    /// Whether a byte comes next in the line.
+    #[inline(always)]
+    pub fn is_next(&self, byte: u8) -> bool
+        ensures { result ≡ begins_with byte (text_from self.now) }
+    {
+        self.at < self.end && self.bytes[self.at] == byte
+    }
+
+    /// The index of the line after the current one.
+    #[inline(always)]
+    pub fn next_index(&self) -> usize
+        ensures { result ≡ suc self.now.line }
+    {
+        self.line + 1
+    }
+
+    /// How many lines follow the current one.
+    #[inline(always)]
+    pub fn lines_left(&self) -> usize
+        ensures { result ≡ length (lines_after self.now) }
+    {
+        self.lines.len() - self.line.saturating_add(1).min(self.lines.len())
     }
 
     /// Whether the text of the current line has ended.
@@ -181,7 +215,7 @@ impl<'a> Cursor<'a> {
 
     /// Moves to the beginning of the next line; returns whether there is one.
     #[inline]
-    pub(crate) fn next_line(&mut self) -> bool
+    pub fn next_line(&mut self) -> bool
         ensures never_back { left self.new ≤ left self.old }
         ensures goes_on { IsTrue result → left self.new < left self.old }
         ensures there { result ≡ nat_lt (suc self.old.line) (length self.old.lines.now) }

@@ -9,7 +9,7 @@ ghost use Rattle.md_lines.specs.LinkParts.{bare_end, closing_mark, destination_a
 ghost use Rattle.md_lines.specs.LinkParts.{ends_destination, is_bracket, label_at, opened_after};
 ghost use Rattle.md_lines.specs.LinkParts.{title_after, title_at};
 ghost use Rattle.md_lines.specs.Reading.{lines_after, text_from, text_in, ReadSame};
-ghost use Rattle.md_lines.specs.Texts.{after_next};
+ghost use Rattle.md_lines.specs.Texts.{after_next, text_before};
 ghost use Rattle.std.specs.Prelude.{IfNone, is_some, Some, None, true, false, take, [], not, ◌&&◌, ◌==◌};
 ghost use Rattle.std.specs.List.{list_all};
 ghost use Rattle.md_lines.specs.Lines.{is_blank};
@@ -41,8 +41,10 @@ pub struct Title {
 /// backslash before it.
 pub fn read_label(cursor: &mut Cursor<'_>) -> bool
     ensures valid { result ≡ is_some (label_at (text_from cursor.old)) }
-    ensures rest { result ≡ true → option_map (λ part. part.rest) (label_at (text_from cursor.old))
-        ≡ Some (after_next (text_from cursor.new)) }
+    ensures found { result ≡ true → label_at (text_from cursor.old) ≡ Some (record {
+      text = text_before (text_from cursor.old) (text_from cursor.new);
+      rest = after_next (text_from cursor.new);
+    }) }
     ensures same { ReadSame cursor.old cursor.new }
 {
     let mut is_blank = true;
@@ -107,6 +109,8 @@ pub fn read_destination(cursor: &mut Cursor<'_>) -> Option<Span>
     ensures found { IfSome result (λ span. destination_at (in_line cursor.old)
         ≡ Some (record { text = text_in span cursor.old; rest = in_line cursor.new })) }
     ensures none { IfNone result (destination_at (in_line cursor.old) ≡ None) }
+    ensures long { IfSome result (λ span.
+        length (text_in span cursor.old) ≡ span.end - span.start) }
     ensures later { lines_after cursor.new ≡ lines_after cursor.old }
     ensures same { ReadSame cursor.old cursor.new }
 {
@@ -129,6 +133,8 @@ fn pointed_destination(cursor: &mut Cursor<'_>) -> Option<Span>
         destination_of 1 (pointed_length (in_line cursor.old)) (in_line cursor.old)
         ≡ Some (record { text = text_in span cursor.old; rest = in_line cursor.new })) }
     ensures none { IfNone result (pointed_length (in_line cursor.old) ≡ None) }
+    ensures long { IfSome result (λ span.
+        length (text_in span cursor.old) ≡ span.end - span.start) }
     ensures same { ReadSame cursor.old cursor.new }
 {
     let from = cursor.at;
@@ -170,6 +176,8 @@ fn bare_destination(cursor: &mut Cursor<'_>) -> Option<Span>
         destination_of 0 (bare_end 0 0 false (in_line cursor.old)) (in_line cursor.old)
         ≡ Some (record { text = text_in span cursor.old; rest = in_line cursor.new })) }
     ensures none { IfNone result (bare_end 0 0 false (in_line cursor.old) ≡ None) }
+    ensures long { IfSome result (λ span.
+        length (text_in span cursor.old) ≡ span.end - span.start) }
     ensures line { cursor.new.line ≡ cursor.old.line }
     ensures same { ReadSame cursor.old cursor.new }
 {
@@ -188,7 +196,7 @@ fn bare_end(bytes: &[u8], from: usize, end: usize) -> Option<usize>
     requires { end ≤ length bytes.now }
     ensures value { result ≡ bare_end from 0 false (drop from (take end bytes.now)) }
     ensures after { IfSome result (λ at. from ≤ at) }
-    ensures within { IfSome result (λ at. from ≤ end → at ≤ end) }
+    ensures within { IfSome result (λ at. from < at → at ≤ end) }
 {
     let mut at = from;
     let mut opened = 0;

@@ -17,7 +17,7 @@ returns-clause-found c =
     ap (λ count. destination_of 1 count line) (pointed_is line n
     (c.pointed_length-length.ensures ∙ ap (before_unescaped is_angle) same)
     (omega (arith, longer, c.if-length-text.false))
-    (ap (λ xs. get_or xs n 0) (sym same) ∙ c.if-text-length-ne-close.false))
+    (ap (λ xs. get_or xs n 0) (sym same) ∙ c.if-text-length.false))
     ∙ found_in bytes cursor.at n cursor.end 1 _ _ _ (omega (
       arith,
       longer,

@@ -9,7 +9,7 @@ use Rattle.md_lines.specs.Lines.{is_blank}
 use Rattle.md_lines.specs.LinkParts.{is_bracket}
 use Rattle.md_lines.specs.Reading.{lines_after, text_from}
 use Rattle.md_lines.specs.Texts.{Part, after_next, until}
-use Rattle.md_lines.proofs.Parts.{label_ok, label_is, label_rest, label_here, label_later}
+use Rattle.md_lines.proofs.Parts.{label_ok, label_is, label_found, label_here, label_later}
 use Rattle.md_lines.proofs.Parts.{label_too_long, rest_here, rest_later}
 use Rattle.md_lines.proofs.link.read_label.Goals as goal
 
@@ -29,8 +29,8 @@ returns-then-count-gt-MOST_IN_LABEL-clause-valid c =
     (omega (arith, c.label_length-length.ensures.none_passed, ap (before_unescaped is_bracket) same))
     (omega arith))
 
-pub returns-then-text-length-eq-close-clause-valid : goal.returns-then-text-length-eq-close-clause-valid
-returns-then-text-length-eq-close-clause-valid c =
+pub returns-then-text-length-clause-valid : goal.returns-then-text-length-clause-valid
+returns-then-text-length-clause-valid c =
     let cursor = c.loop-count.cursor in
     let inv = c.loop-count.invariant in
     let line = in_line cursor in
@@ -44,15 +44,15 @@ returns-then-text-length-eq-close-clause-valid c =
     let blank : c.is_blank_before-is_blank.result ≡ list_all is_blank (take n line) =
     c.is_blank_before-is_blank.ensures ∙ ap (λ xs. list_all is_blank (take n xs)) same in
     let closes : get_or line n 0 ≡ 93 =
-    ap (λ xs. get_or xs n 0) (sym same) ∙ c.if-text-length-eq-close.true in
+    ap (λ xs. get_or xs n 0) (sym same) ∙ c.if-text-length.true in
     sym (label_is (until is_bracket (text_from c.args.cursor.now)) ∙ inv.valid
     ∙ label_here count n was_blank line lines is (omega (arith, c.if-length-text.true, ap length same))
     (omega arith)
     ∙ ap (λ b. b && not (was_blank && list_all is_blank (take n line))) (eq-eqb _ 93 closes)
     ∙ ap (λ b. not (was_blank && b)) (sym blank))
 
-pub returns-then-text-length-eq-close-clause-rest : goal.returns-then-text-length-eq-close-clause-rest
-returns-then-text-length-eq-close-clause-rest c valid =
+pub returns-then-text-length-clause-found : goal.returns-then-text-length-clause-found
+returns-then-text-length-clause-found c valid =
     let cursor = c.loop-count.cursor in
     let inv = c.loop-count.invariant in
     let line = in_line cursor in
@@ -66,17 +66,16 @@ returns-then-text-length-eq-close-clause-rest c valid =
     let blank : c.is_blank_before-is_blank.result ≡ list_all is_blank (take n line) =
     c.is_blank_before-is_blank.ensures ∙ ap (λ xs. list_all is_blank (take n xs)) same in
     let closes : get_or line n 0 ≡ 93 =
-    ap (λ xs. get_or xs n 0) (sym same) ∙ c.if-text-length-eq-close.true in
+    ap (λ xs. get_or xs n 0) (sym same) ∙ c.if-text-length.true in
     let within : n < length line = omega (arith, c.if-length-text.true, ap length same) in
     let ok = inv.valid ∙ label_here count n was_blank line lines is within (omega arith)
     ∙ ap (λ b. b && not (was_blank && list_all is_blank (take n line))) (eq-eqb _ 93 closes)
     ∙ ap (λ b. not (was_blank && b)) (sym blank) ∙ valid in
-    label_rest (until is_bracket (text_from c.args.cursor.now)) ok ∙ inv.rest ∙ rest_here line n lines is within
-    ∙ ap (λ xs. Some (after_next (xs ∷ lines)))
-    (drop-drop n cursor.at (take cursor.end cursor.bytes.now))
+    label_found (text_from c.args.cursor.now) _ ok (inv.rest ∙ rest_here line n lines is within
+    ∙ ap (λ xs. Some (xs ∷ lines)) (drop-drop n cursor.at (take cursor.end cursor.bytes.now)))
 
-pub returns-else-text-length-eq-close-clause-valid : goal.returns-else-text-length-eq-close-clause-valid
-returns-else-text-length-eq-close-clause-valid c =
+pub returns-else-text-length-clause-valid : goal.returns-else-text-length-clause-valid
+returns-else-text-length-clause-valid c =
     let cursor = c.loop-count.cursor in
     let inv = c.loop-count.invariant in
     let line = in_line cursor in
@@ -90,8 +89,8 @@ returns-else-text-length-eq-close-clause-valid c =
     let blank : c.is_blank_before-is_blank.result ≡ list_all is_blank (take n line) =
     c.is_blank_before-is_blank.ensures ∙ ap (λ xs. list_all is_blank (take n xs)) same in
     let other = λ (closes : get_or line n 0 ≡ 93).
-    c.if-text-length-eq-close.false (ap (λ xs. get_or xs n 0) same ∙ closes) in
-    ne_eqb _ 93 c.if-text-length-eq-close.false ∙ sym (label_is (until is_bracket (text_from c.args.cursor.now)) ∙ inv.valid
+    c.if-text-length.false (ap (λ xs. get_or xs n 0) same ∙ closes) in
+    ne_eqb _ 93 c.if-text-length.false ∙ sym (label_is (until is_bracket (text_from c.args.cursor.now)) ∙ inv.valid
     ∙ label_here count n was_blank line lines is (omega (arith, c.if-length-text.true, ap length same))
     (omega arith)
     ∙ ap (λ b. b && not (was_blank && list_all is_blank (take n line))) (ne_eqb _ 93 other))
@@ -119,9 +118,9 @@ loop-count-preserved c =
           ∙ ap (λ text. label_ok (count + n + 1) (was_blank && c.is_blank_before-is_blank.result)
           (until is_bracket text)) next;
       rest = inv.rest ∙ rest_later n line lines is over
-          ∙ ap (λ text. option_map (λ (part : Part). after_next part.rest) (until is_bracket text))
+          ∙ ap (λ text. option_map (λ (part : Part). part.rest) (until is_bracket text))
           next;
-      same = (e.same.0 ∙ inv.same.0, e.same.1 ∙ inv.same.1);
+      same = (e.same.0 ∙ inv.same.0, e.same.1 ∙ inv.same.1, omega arith);
     }
 
 pub returns-clause-valid : goal.returns-clause-valid

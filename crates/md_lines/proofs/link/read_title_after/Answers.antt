@@ -21,5 +21,5 @@ lines-preserved c =
           (omega (arith, ap length same, c.if-length-text.false))
           ∙ ap (λ text. option_map (λ (part : Part). part.rest)
           (title_after c.args.mark c.args.close text)) (sym (e.text c.if-not-next_line.false));
-      same = (e.same.0 ∙ inv.same.0, e.same.1 ∙ inv.same.1);
+      same = (e.same.0 ∙ inv.same.0, e.same.1 ∙ inv.same.1, omega arith);
     }

@@ -39,6 +39,7 @@ lines-preserved c =
       same = (
         e.same.0 ∙ c.next_line.ensures.same.0 ∙ inv.same.0,
         e.same.1 ∙ c.next_line.ensures.same.1 ∙ inv.same.1,
+        omega arith,
       );
     }
 

@@ -1,0 +1,279 @@
+-- Definitions of links, part by part.
+use Rattle.std.proofs.Common.{◌≡◌, ◌<◌, ◌≤◌, ◌+◌, ◌-◌, ◌++◌, ◌∙◌, ℕ, Bool, true, false, List, [], ◌∷◌, zero, suc}
+use Rattle.std.proofs.Common.{length, drop, take, arith, ap, refl, sym, inl, inr, subst, min, drop-cons, get_or}
+use Rattle.std.specs.Prelude.{Option, Some, None, option_map, nat_lt, if◌then◌else◌, ◌&&◌, ◌||◌, not, ◌==◌, map, is_some}
+use Rattle.std.specs.Prelude.{IfSome, IfNone}
+use Rattle.std.specs.List.{join_with_byte, list_any}
+use Rattle.std.specs.Str.{is_utf8, IsUtf8}
+use Rattle.std.proofs.lemmas.Bool.{cases_Bool, cases_lt, lt-ltb, le-ltb, eq-eqb, ne_eqb}
+use Rattle.std.proofs.lemmas.List.{length-drop, length-map, drop-map, drop-drop, drop_all}
+use Rattle.std.proofs.lemmas.Str.{IsUtf8-from_is_utf8}
+use Rattle.md_lines.specs.declared.line.Line.{Line as Place}
+use Rattle.md_lines.specs.Reading.{line_text}
+use Rattle.md_lines.specs.Texts.{Part, is_none, begins_with, begins_with_space, after_next, after_spaces}
+use Rattle.md_lines.specs.Texts.{after_line_end, text_before, first_line}
+use Rattle.md_lines.specs.LinkParts.{Destination, destination_at, label_at, title_at}
+use Rattle.md_blocks.specs.LinkDefinitions.{Definition, Target, first_of, with_title, without_title, titled}
+use Rattle.md_blocks.specs.LinkDefinitions.{target_after, target_in, target_at, with_form, definition_of}
+use Rattle.md_blocks.specs.LinkDefinitions.{definition_after, definition_at, defined_from, label_form, printed}
+use Rattle.md_blocks.specs.Passes.{texts_from}
+
+pub not_utf8 : (text : List ℕ) → (IsUtf8 text → ⊥) → is_utf8 text ≡ false
+not_utf8 text none = elim (cases_Bool (is_utf8 text)) [
+  | inl is ↦ absurd (none (IsUtf8-from_is_utf8 text is))
+  | inr is_not ↦ is_not
+]
+
+-- the bytes of a label, one line after another
+joined : (line : List ℕ) (text rest : List (List ℕ)) (byte : List ℕ) (bytes : List (List ℕ)) →
+    text ≡ byte ∷ bytes → join_with_byte 10 (line ∷ text) ≡ line ++ 10 ∷ join_with_byte 10 text
+joined line text rest byte bytes is =
+    ap (λ xs. join_with_byte 10 (line ∷ xs)) is ∙ sym (ap (λ xs. line ++ 10 ∷ join_with_byte 10 xs) is)
+
+some_before : (line : List ℕ) (lines rest : List (List ℕ)) →
+    (x : List ℕ) × (xs : List (List ℕ)) × (text_before (line ∷ lines) rest ≡ x ∷ xs)
+some_before line lines rest = elim (cases_Bool (nat_lt (length rest) (suc (length lines)))) [
+  | inl more ↦ (
+    line,
+    text_before lines rest,
+    ap (λ b. if b then line ∷ text_before lines rest
+        else take (length line - length (first_line rest)) line ∷ []) more,
+  )
+  | inr last ↦ (
+    take (length line - length (first_line rest)) line,
+    [],
+    ap (λ b. if b then line ∷ text_before lines rest
+        else take (length line - length (first_line rest)) line ∷ []) last,
+  )
+]
+
+pub one_line : (line : List ℕ) (lines : List (List ℕ)) (x : List ℕ) (xs rest : List (List ℕ)) →
+    lines ≡ x ∷ xs → length rest ≤ length lines →
+    join_with_byte 10 (text_before (line ∷ lines) rest)
+    ≡ line ++ 10 ∷ join_with_byte 10 (text_before (x ∷ xs) rest)
+one_line line lines x xs rest is more =
+    let known = some_before x xs rest in
+    ap (λ b. join_with_byte 10 (if b then line ∷ text_before lines rest
+    else take (length line - length (first_line rest)) line ∷ []))
+    (lt-ltb (length rest) (suc (length lines)) (omega arith))
+    ∙ ap (λ ls. join_with_byte 10 (line ∷ text_before ls rest)) is
+    ∙ joined line (text_before (x ∷ xs) rest) rest known.0 known.1 known.2
+
+pub last_line : (line : List ℕ) (lines rest : List (List ℕ)) → length lines < length rest →
+    text_before (line ∷ lines) rest ≡ take (length line - length (first_line rest)) line ∷ []
+last_line line lines rest few =
+    ap (λ b. if b then line ∷ text_before lines rest
+    else take (length line - length (first_line rest)) line ∷ [])
+    (le-ltb (length rest) (suc (length lines)) (omega arith))
+
+-- a line that ends after a title
+pub ended : (destination : List ℕ) (title : Option Part) (rest lines : List (List ℕ)) →
+    option_map (λ (part : Part). part.rest) title ≡ Some rest → after_line_end rest ≡ Some lines →
+    option_map (λ (target : Target). target.rest) (with_title destination title) ≡ Some lines
+ended destination None rest lines is ends = cc
+ended destination (Some title) rest lines is ends =
+    let same : title.rest ≡ rest = cc in
+    ap (λ o. option_map (λ (target : Target). target.rest) (elim o [
+      | None ↦ None
+      | Some rest ↦
+          Some (record { destination = destination; title = Some title.text; rest = rest })
+    ])) (ap after_line_end same ∙ ends)
+
+pub not_ended : (destination : List ℕ) (title : Option Part) (rest : List (List ℕ)) →
+    option_map (λ (part : Part). part.rest) title ≡ Some rest → after_line_end rest ≡ None →
+    with_title destination title ≡ None
+not_ended destination None rest is ends = refl
+not_ended destination (Some title) rest is ends =
+    let same : title.rest ≡ rest = cc in
+    ap (λ (o : Option (List (List ℕ))). elim o as (λ _. Option Target) [
+      | None ↦ None
+      | Some rest ↦
+          Some (record { destination = destination; title = Some title.text; rest = rest })
+    ]) (ap after_line_end same ∙ ends)
+
+-- a title that is one comes first
+pub title_first : (destination : List ℕ) (text behind lines : List (List ℕ)) →
+    begins_with_space text ≡ true → behind ≡ after_spaces text →
+    option_map (λ (target : Target). target.rest) (with_title destination (title_at behind)) ≡ Some lines →
+    option_map (λ (target : Target). target.rest) (titled destination text) ≡ Some lines
+title_first destination text behind lines spaced skipped is =
+    ap (λ b. option_map (λ (target : Target). target.rest)
+    (first_of (if b then with_title destination (title_at (after_spaces text)) else None)
+    (without_title destination text))) spaced
+    ∙ first (with_title destination (title_at (after_spaces text)))
+    (ap (λ t. option_map (λ (target : Target). target.rest) (with_title destination (title_at t)))
+    (sym skipped) ∙ is) where
+      first : (one : Option Target) → option_map (λ (target : Target). target.rest) one ≡ Some lines →
+          option_map (λ (target : Target). target.rest) (first_of one (without_title destination text))
+          ≡ Some lines
+      first None is = cc
+      first (Some target) is = is
+
+-- whether a destination is empty
+none_is : (text : List ℕ) (a b : ℕ) → length text ≡ b - a → a ≤ b → is_none text ≡ (a == b)
+none_is [] a b long order = sym (eq-eqb a b (omega arith))
+none_is (byte ∷ text) a b long order = sym (ne_eqb a b (λ same. omega (arith, same)))
+
+pub target_is : (line : List ℕ) (lines : List (List ℕ)) (destination rest : List ℕ)
+    (later : List (List ℕ)) (is_pointed : Bool) (a b : ℕ) (is_missing : Bool) →
+    destination_at line ≡ Some (record { text = destination; rest = rest }) → later ≡ lines →
+    length destination ≡ b - a → a ≤ b → is_missing ≡ ((a == b) && not is_pointed) →
+    target_after is_pointed (destination_at line) lines
+    ≡ (if is_missing then None else titled destination (rest ∷ later))
+target_is line lines destination rest later is_pointed a b is_missing is same long order missing =
+    ap (λ o. target_after is_pointed o lines) is
+    ∙ ap (λ n. if n && not is_pointed then None else titled destination (rest ∷ lines))
+    (none_is destination a b long order)
+    ∙ ap (λ m. if m then None else titled destination (rest ∷ lines)) (sym missing)
+    ∙ ap (λ ls. if is_missing then None else titled destination (rest ∷ ls)) (sym same)
+
+pub none_from : {A : Type 0} (o : Option A) → is_some o ≡ false → o ≡ None
+none_from None is = refl
+none_from (Some x) is = cc
+
+-- a definition from its parts
+module _ (text : List (List ℕ)) (opens : begins_with 91 text ≡ true) where
+  opened : definition_at text ≡ definition_after (label_at (after_next text))
+  opened = ap (λ b. if b then definition_after (label_at (after_next text)) else None) opens
+
+  pub without_label : label_at (after_next text) ≡ None → definition_at text ≡ None
+  without_label is = opened ∙ ap definition_after is
+
+  pub without_target : (label : Part) → label_at (after_next text) ≡ Some label →
+      target_at label.rest ≡ None → definition_at text ≡ None
+  without_target label is none = opened ∙ ap definition_after is ∙ ap (definition_of label) none
+
+  rest_of : (label : Part) (target : Option Target) (lines : List (List ℕ)) (form : List ℕ) →
+      option_map (λ (target : Target). target.rest) target ≡ Some lines →
+      label_form label.text ≡ Some form →
+      option_map (λ (definition : Definition). definition.rest) (definition_of label target)
+      ≡ Some lines
+  rest_of label None lines form is known = cc
+  rest_of label (Some target) lines form is known =
+      let same : target.rest ≡ lines = cc in
+      ap (λ o. option_map (λ (definition : Definition). definition.rest) (with_form label target o)) known
+      ∙ ap (λ ls. Some ls) same
+
+  no_form : (label : Part) (target : Option Target) → label_form label.text ≡ None →
+      definition_of label target ≡ None
+  no_form label None none = refl
+  no_form label (Some target) none = ap (with_form label target) none
+
+  pub with_rest : (label : Part) (lines : List (List ℕ)) (form : List ℕ) →
+      label_at (after_next text) ≡ Some label →
+      option_map (λ (target : Target). target.rest) (target_at label.rest) ≡ Some lines →
+      label_form label.text ≡ Some form →
+      option_map (λ (definition : Definition). definition.rest) (definition_at text) ≡ Some lines
+  with_rest label lines form is found known =
+      ap (option_map (λ (definition : Definition). definition.rest)) (opened ∙ ap definition_after is)
+      ∙ rest_of label (target_at label.rest) lines form found known
+
+  pub without_form : (label : Part) → label_at (after_next text) ≡ Some label →
+      label_form label.text ≡ None → definition_at text ≡ None
+  without_form label is none =
+      opened ∙ ap definition_after is ∙ no_form label (target_at label.rest) none
+
+pub not_opened : (text : List (List ℕ)) → begins_with 91 text ≡ false → definition_at text ≡ None
+not_opened text is = ap (λ b. if b then definition_after (label_at (after_next text)) else None) is
+
+-- how many lines are definitions: the rest of one, and then those after it
+skips : (left : ℕ) (text : List (List ℕ)) → left ≤ length text →
+    defined_from left text ≡ left + defined_from 0 (drop left text)
+skips zero text few = omega arith
+skips (suc left) [] few = absurd (omega arith)
+skips (suc left) (line ∷ lines) few = omega (arith, skips left lines (omega arith))
+
+pub none_defined : (text : List (List ℕ)) → definition_at text ≡ None → defined_from 0 text ≡ 0
+none_defined [] is = refl
+none_defined (line ∷ lines) is =
+    ap (λ o. if count_of o == 0 then 0 else suc (defined_from (count_of o - 1) lines)) is where
+      count_of : Option Definition → ℕ
+      count_of o = elim o [
+        | None ↦ 0
+        | Some definition ↦ suc (length lines) - length definition.rest
+      ]
+
+pub all_read : (bytes : List ℕ) (lines : List Place) (at : ℕ) → length lines ≤ at →
+    defined_from 0 (texts_from bytes lines at) ≡ 0
+all_read bytes lines at over = ap (λ xs. defined_from 0 (map (line_text bytes) xs)) (drop_all at lines over)
+
+length_by : (found : Option Definition) (total : ℕ) (rest : List (List ℕ)) →
+    option_map (λ (definition : Definition). definition.rest) found ≡ Some rest →
+    elim found [ None ↦ 0 | Some definition ↦ total - length definition.rest ] ≡ total - length rest
+length_by None total rest is = cc
+length_by (Some definition) total rest is =
+    let same : definition.rest ≡ rest = cc in ap (λ xs. total - length xs) same
+
+counted : (line : List ℕ) (lines rest : List (List ℕ)) →
+    option_map (λ (definition : Definition). definition.rest) (definition_at (line ∷ lines)) ≡ Some rest →
+    length rest ≤ length lines → defined_from 0 (line ∷ lines)
+    ≡ suc (length lines - length rest + defined_from 0 (drop (length lines - length rest) lines))
+counted line lines rest is fewer =
+    let count = suc (length lines) - length rest in
+    let less : count - 1 ≡ length lines - length rest = omega arith in
+    ap (λ k. if k == 0 then 0 else suc (defined_from (k - 1) lines))
+    (length_by (definition_at (line ∷ lines)) (suc (length lines)) rest is)
+    ∙ ap (λ b. if b then 0 else suc (defined_from (count - 1) lines))
+    (ne_eqb count 0 (λ none. omega (arith, none, fewer)))
+    ∙ ap (λ k. suc (defined_from k lines)) less
+    ∙ ap (λ n. suc n) (skips (length lines - length rest) lines (omega arith))
+
+head_of : {A : Type 0} (xs : List A) (k : ℕ) → k < length xs →
+    (x : A) × (drop k xs ≡ x ∷ drop (suc k) xs)
+head_of [] k within = absurd (omega arith)
+head_of (x ∷ xs) zero within = (x, refl)
+head_of (x ∷ xs) (suc k) within = head_of xs k (omega arith)
+
+pub one_defined : (bytes : List ℕ) (lines : List Place) (at next : ℕ) → at < length lines → at < next →
+    option_map (λ (definition : Definition). definition.rest) (definition_at (texts_from bytes lines at))
+    ≡ Some (texts_from bytes lines next) →
+    at + defined_from 0 (texts_from bytes lines at)
+    ≡ min next (length lines) + defined_from 0 (texts_from bytes lines (min next (length lines)))
+one_defined bytes lines at next within forward is =
+    let first = head_of lines at within in
+    let later = texts_from bytes lines (suc at) in
+    let shape : texts_from bytes lines at ≡ line_text bytes first.0 ∷ later =
+    ap (map (line_text bytes)) first.1 in
+    let rest = texts_from bytes lines next in
+    let rest_long : length rest ≡ length lines - next =
+    length-map (drop next lines) (line_text bytes) ∙ length-drop next lines in
+    let later_long : length later ≡ length lines - suc at =
+    length-map (drop (suc at) lines) (line_text bytes) ∙ length-drop (suc at) lines in
+    let known = subst (λ text. option_map (λ (definition : Definition). definition.rest)
+    (definition_at text) ≡ Some rest) shape is in
+    let skipped = length later - length rest in
+    let place : suc at + skipped ≡ min next (length lines) = omega arith in
+    let left : drop skipped later ≡ texts_from bytes lines (min next (length lines)) =
+    drop-map (line_text bytes) skipped (drop (suc at) lines)
+    ∙ ap (map (line_text bytes)) (drop-drop skipped (suc at) lines)
+    ∙ ap (texts_from bytes lines) place in
+    omega (
+      arith,
+      ap (defined_from 0) shape,
+      counted (line_text bytes first.0) later rest known (omega arith),
+      ap (defined_from 0) left,
+      place,
+    )
+
+-- the text of a line, and of those after it
+pub texts_at : (bytes : List ℕ) (lines : List Place) (at : ℕ) (line : Place) → at < length lines →
+    line ≡ get_or lines at line →
+    texts_from bytes lines at ≡ line_text bytes line ∷ texts_from bytes lines (suc at)
+texts_at bytes lines at line within is =
+    ap (map (line_text bytes)) (drop-cons lines at line within)
+    ∙ ap (λ x. line_text bytes x ∷ texts_from bytes lines (suc at)) (sym is)
+
+-- a text without NUL
+pub no_nul : (text : List ℕ) → list_any (λ byte. byte == 0) text ≡ false → printed text ≡ text
+no_nul [] is = refl
+no_nul (byte ∷ text) is = elim (cases_Bool (byte == 0)) [
+  | inl nul ↦
+      let both : true ≡ false = sym (ap (λ b. b || list_any (λ byte. byte == 0) text) nul) ∙ is in
+      absurd (differ both)
+  | inr other ↦
+      ap (λ b. (if b then 239 ∷ 191 ∷ 189 ∷ [] else byte ∷ []) ++ printed text) other
+      ∙ ap (λ xs. byte ∷ xs)
+      (no_nul text (sym (ap (λ b. b || list_any (λ byte. byte == 0) text) other) ∙ is))
+] where
+  differ : true ≡ false → ⊥
+  differ both = cc
