@@ -3,7 +3,11 @@ use Rattle.std.proofs.Common.{◌≡◌, ◌<◌, ◌≤◌, ◌+◌, ◌-◌, �
 use Rattle.std.proofs.Common.{length, drop, take, arith, ap, refl, sym, inl, inr, subst, min, drop-cons, get_or}
 use Rattle.std.specs.Prelude.{Option, Some, None, option_map, nat_lt, if◌then◌else◌, ◌&&◌, ◌||◌, not, ◌==◌, map, is_some}
 use Rattle.std.specs.Prelude.{IfSome, IfNone}
-use Rattle.std.specs.List.{join_with_byte, list_any}
+use Rattle.std.specs.List.{All, join_with_byte, list_any}
+use Rattle.std.specs.Prelude.{replicate}
+use Rattle.std.proofs.lemmas.List.Elements.{All-head, All-tail}
+use Rattle.md_blocks.specs.Entries.{Line}
+use Rattle.md_blocks.specs.Tapes.{between, line_of}
 use Rattle.std.specs.Str.{is_utf8, IsUtf8}
 use Rattle.std.proofs.lemmas.Bool.{cases_Bool, cases_lt, lt-ltb, le-ltb, eq-eqb, ne_eqb}
 use Rattle.std.proofs.lemmas.List.{length-drop, length-map, drop-map, drop-drop, drop_all}
@@ -277,3 +281,19 @@ no_nul (byte ∷ text) is = elim (cases_Bool (byte == 0)) [
 ] where
   differ : true ≡ false → ⊥
   differ both = cc
+
+-- the texts of lines of which no columns belong to the prefixes
+pub whole_texts : (bytes : List ℕ) (lines : List Place) → All (λ line. line.columns ≡ 0) lines →
+    map (line_text bytes) lines ≡ map (λ (line : Line). line.text) (map (line_of bytes) lines)
+whole_texts bytes [] whole = refl
+whole_texts bytes (line ∷ lines) whole =
+    sym (ap (λ b. (if b then between line.start line.end bytes
+    else replicate (4 - line.columns) 32 ++ between (suc line.start) line.end bytes)
+    ∷ map (λ (line : Line). line.text) (map (line_of bytes) lines))
+    (eq-eqb line.columns 0 (All-head (λ line. line.columns ≡ 0) line lines whole))
+    ∙ ap (λ xs. line_text bytes line ∷ xs)
+    (sym (whole_texts bytes lines (All-tail (λ line. line.columns ≡ 0) line lines whole))))
+
+pub moved_by : (before after start count : ℕ) → after ≡ start → start ≡ before + count →
+    after - before ≡ count
+moved_by before after start count is sum = omega arith

@@ -7,6 +7,7 @@ use Rattle.md_blocks.specs.declared.pass.Pass.{Pass}
 use Rattle.md_blocks.specs.declared.pass.OpenLeaf.{OpenLeaf}
 use Rattle.md_blocks.specs.declared.pass.OpenLeaf.TheVariants as leaf
 use Rattle.md_blocks.specs.Entries.{Line}
+use Rattle.md_blocks.specs.LinkDefinitions.{defined_from}
 use Rattle.md_blocks.specs.Tapes.{line_of, first_text, entries_of}
 use Rattle.md_blocks.specs.States.{State, Leaf, NoLeaf, InParagraph, InIndented, InFenced}
 use Rattle.md_blocks.specs.States.{InMath, InHtml, InTable}
@@ -49,6 +50,12 @@ texts_from bytes lines from = map (line_text bytes) (drop from lines)
 -- how many more lines of the leaf are definitions after some step
 abbrev pub defined_by : Pass → Pass → ℕ
 defined_by before after = after.nesting.leaves.start - before.nesting.leaves.start
+
+-- how many of them are definitions of links, by their texts
+abbrev pub defined_to : ℕ → Pass → ℕ
+defined_to end pass =
+    let leaves = pass.nesting.leaves in
+    defined_from 0 (texts_from pass.bytes.now (take end leaves.lines.items) leaves.start)
 
 -- whether no columns of the leaf's lines before the line with an index belong to the prefixes
 abbrev pub HasWholeLines : ℕ → Pass → Type 0

@@ -24,7 +24,7 @@ use std::alloc::{AllocError, Global};
 
 impl<'a> Pass<'a> {
     ghost use Rattle.md_blocks.specs.Passes.{defined_by, leaf_lines, leaf_of, lines_to, state_of};
-    ghost use Rattle.md_blocks.specs.Passes.{HasWholeLines};
+    ghost use Rattle.md_blocks.specs.Passes.{HasWholeLines, defined_to};
     ghost use Rattle.md_blocks.specs.LinkDefinitions.{defined_lines};
 
     /// Closes the open leaf and the containers beyond this depth.
@@ -32,6 +32,9 @@ impl<'a> Pass<'a> {
         ensures shrinks { OnOk result (vec_len self.new.nesting.stack ≤ depth) }
         ensures state { OnOk result (state_of self.new
             ≡ closed_to (defined_by self.old self.new) depth (state_of self.old)) }
+        ensures defined { OnOk result (self.old.leaf ≡ leaf.Paragraph
+            → defined_by self.old self.new
+            ≡ defined_to (vec_len self.old.nesting.leaves.lines) self.old) }
         ensures document { self.new.bytes ≡ self.old.bytes }
     {
         self.close_leaf()?;
@@ -45,6 +48,9 @@ impl<'a> Pass<'a> {
         ensures shrinks { OnOk result (vec_len self.new.nesting.stack ≤ depth) }
         ensures state { OnOk result (state_of self.new
             ≡ room (defined_by self.old self.new) depth (state_of self.old)) }
+        ensures defined { OnOk result (self.old.leaf ≡ leaf.Paragraph
+            → defined_by self.old self.new
+            ≡ defined_to (vec_len self.old.nesting.leaves.lines) self.old) }
         ensures document { self.new.bytes ≡ self.old.bytes }
     {
         self.make_room_for_text(depth)?;
@@ -57,6 +63,9 @@ impl<'a> Pass<'a> {
         ensures shrinks { OnOk result (vec_len self.new.nesting.stack ≤ depth) }
         ensures state { OnOk result (state_of self.new
             ≡ room_for_text (defined_by self.old self.new) depth (state_of self.old)) }
+        ensures defined { OnOk result (self.old.leaf ≡ leaf.Paragraph
+            → defined_by self.old self.new
+            ≡ defined_to (vec_len self.old.nesting.leaves.lines) self.old) }
         ensures document { self.new.bytes ≡ self.old.bytes }
     {
         self.close_unmatched(depth)?;
@@ -119,8 +128,9 @@ impl<'a> Pass<'a> {
         ensures leaf { self.new.leaf ≡ self.old.leaf }
         ensures state { state_of self.new
             ≡ with_leaf (leaf_of self.old.leaf (leaf_lines self.new)) (state_of self.old) }
-        ensures defined { OnOk result (HasWholeLines end self.old
-            → defined_by self.old self.new ≡ defined_lines (lines_to end self.old)) }
+        ensures defined { OnOk result (defined_by self.old self.new ≡ defined_to end self.old) }
+        ensures whole { OnOk result (HasWholeLines end self.old
+            → defined_to end self.old ≡ defined_lines (lines_to end self.old)) }
         ensures document { self.new.bytes ≡ self.old.bytes }
     {
         let nesting = &self.nesting;
@@ -140,6 +150,9 @@ impl<'a> Pass<'a> {
         ensures stack { self.new.nesting.stack ≡ self.old.nesting.stack }
         ensures state { OnOk result (state_of self.new
             ≡ leaf_closed (defined_by self.old self.new) (state_of self.old)) }
+        ensures defined { OnOk result (self.old.leaf ≡ leaf.Paragraph
+            → defined_by self.old self.new
+            ≡ defined_to (vec_len self.old.nesting.leaves.lines) self.old) }
         ensures lines { self.new.nesting.leaves.lines ≡ self.old.nesting.leaves.lines }
         ensures document { self.new.bytes ≡ self.old.bytes }
     {
@@ -170,8 +183,7 @@ impl<'a> Pass<'a> {
         ensures stack { self.new.nesting.stack ≡ self.old.nesting.stack }
         ensures state { OnOk result (state_of self.new ≡ paragraph_closed
             (defined_by self.old self.new) (lines_to end self.old) (state_of self.old)) }
-        ensures defined { OnOk result (HasWholeLines end self.old
-            → defined_by self.old self.new ≡ defined_lines (lines_to end self.old)) }
+        ensures defined { OnOk result (defined_by self.old self.new ≡ defined_to end self.old) }
         ensures leaf { self.new.leaf ≡ self.old.leaf }
         ensures lines { self.new.nesting.leaves.lines ≡ self.old.nesting.leaves.lines }
         ensures document { self.new.bytes ≡ self.old.bytes }
