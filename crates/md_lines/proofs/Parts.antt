@@ -233,6 +233,22 @@ module _ (mark close : ℕ) where
       (until_later (stops_title mark close) line lines (omega arith))
       ∙ keeps_rest line (until (stops_title mark close) lines)
 
+none_of : {A B : Type 0} (f : A → B) (o : Option A) → option_map f o ≡ None → o ≡ None
+none_of f None is = refl
+none_of f (Some x) is = cc
+
+-- a title that has no end in the last line
+pub never_closed : (mark close : ℕ) (whole : List (List ℕ)) (line : List ℕ)
+    (lines : List (List ℕ)) (n : ℕ) →
+    option_map (λ (part : Part). part.rest) (title_after mark close whole)
+    ≡ option_map (λ (part : Part). part.rest) (title_after mark close (line ∷ lines)) →
+    n ≡ before_unescaped (stops_title mark close) line → length line ≤ n → lines ≡ [] →
+    title_after mark close whole ≡ None
+never_closed mark close whole line lines n same is over last =
+    none_of (λ (part : Part). part.rest) (title_after mark close whole) (same
+    ∙ later mark close line lines n is over
+    ∙ ap (λ ls. option_map (λ (part : Part). part.rest) (title_after mark close ls)) last)
+
 -- a destination in brackets
 pub pointed_is : (text : List ℕ) (n : ℕ) → n ≡ before_unescaped is_angle text → n < length text →
     get_or text n 0 ≡ 62 → pointed_length text ≡ Some n
