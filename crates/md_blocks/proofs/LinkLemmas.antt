@@ -1,7 +1,7 @@
 -- Definitions of links, part by part.
 use Rattle.std.proofs.Common.{◌≡◌, ◌<◌, ◌≤◌, ◌+◌, ◌-◌, ◌++◌, ◌∙◌, ℕ, Bool, true, false, List, [], ◌∷◌, zero, suc}
 use Rattle.std.proofs.Common.{length, drop, take, arith, ap, refl, sym, inl, inr, subst, min, drop-cons, get_or}
-use Rattle.std.specs.Prelude.{Option, Some, None, option_map, nat_lt, if◌then◌else◌, ◌&&◌, ◌||◌, not, ◌==◌, map, is_some}
+use Rattle.std.specs.Prelude.{Option, Some, None, option_map, if◌then◌else◌, ◌&&◌, ◌||◌, not, ◌==◌, map}
 use Rattle.std.specs.Prelude.{IfSome, IfNone}
 use Rattle.std.specs.List.{All, join_with_byte, list_any}
 use Rattle.std.specs.Prelude.{replicate}
@@ -28,48 +28,6 @@ not_utf8 text none = elim (cases_Bool (is_utf8 text)) [
   | inr is_not ↦ is_not
 ]
 
--- the bytes of a label, one line after another
-joined : (line : List ℕ) (text rest : List (List ℕ)) (byte : List ℕ) (bytes : List (List ℕ)) →
-    text ≡ byte ∷ bytes → join_with_byte 10 (line ∷ text) ≡ line ++ 10 ∷ join_with_byte 10 text
-joined line text rest byte bytes is =
-    ap (λ xs. join_with_byte 10 (line ∷ xs)) is ∙ sym (ap (λ xs. line ++ 10 ∷ join_with_byte 10 xs) is)
-
-some_before : (line : List ℕ) (lines rest : List (List ℕ)) →
-    (x : List ℕ) × (xs : List (List ℕ)) × (text_before (line ∷ lines) rest ≡ x ∷ xs)
-some_before line lines rest = elim (cases_Bool (nat_lt (length rest) (suc (length lines)))) [
-  | inl more ↦ (
-    line,
-    text_before lines rest,
-    ap (λ b. if b then line ∷ text_before lines rest
-        else take (length line - length (first_line rest)) line ∷ []) more,
-  )
-  | inr last ↦ (
-    take (length line - length (first_line rest)) line,
-    [],
-    ap (λ b. if b then line ∷ text_before lines rest
-        else take (length line - length (first_line rest)) line ∷ []) last,
-  )
-]
-
-pub one_line : (line : List ℕ) (lines : List (List ℕ)) (x : List ℕ) (xs rest : List (List ℕ)) →
-    lines ≡ x ∷ xs → length rest ≤ length lines →
-    join_with_byte 10 (text_before (line ∷ lines) rest)
-    ≡ line ++ 10 ∷ join_with_byte 10 (text_before (x ∷ xs) rest)
-one_line line lines x xs rest is more =
-    let known = some_before x xs rest in
-    ap (λ b. join_with_byte 10 (if b then line ∷ text_before lines rest
-    else take (length line - length (first_line rest)) line ∷ []))
-    (lt-ltb (length rest) (suc (length lines)) (omega arith))
-    ∙ ap (λ ls. join_with_byte 10 (line ∷ text_before ls rest)) is
-    ∙ joined line (text_before (x ∷ xs) rest) rest known.0 known.1 known.2
-
-pub last_line : (line : List ℕ) (lines rest : List (List ℕ)) → length lines < length rest →
-    text_before (line ∷ lines) rest ≡ take (length line - length (first_line rest)) line ∷ []
-last_line line lines rest few =
-    ap (λ b. if b then line ∷ text_before lines rest
-    else take (length line - length (first_line rest)) line ∷ [])
-    (le-ltb (length rest) (suc (length lines)) (omega arith))
-
 -- a line that ends after a title
 pub ended : (destination : List ℕ) (title : Option Part) (rest lines : List (List ℕ)) →
     option_map (λ (part : Part). part.rest) title ≡ Some rest → after_line_end rest ≡ Some lines →
@@ -95,24 +53,6 @@ not_ended destination (Some title) rest is ends =
           Some (record { destination = destination; title = Some title.text; rest = rest })
     ]) (ap after_line_end same ∙ ends)
 
--- a title that is one comes first
-pub title_first : (destination : List ℕ) (text behind lines : List (List ℕ)) →
-    begins_with_space text ≡ true → behind ≡ after_spaces text →
-    option_map (λ (target : Target). target.rest) (with_title destination (title_at behind)) ≡ Some lines →
-    option_map (λ (target : Target). target.rest) (titled destination text) ≡ Some lines
-title_first destination text behind lines spaced skipped is =
-    ap (λ b. option_map (λ (target : Target). target.rest)
-    (first_of (if b then with_title destination (title_at (after_spaces text)) else None)
-    (without_title destination text))) spaced
-    ∙ first (with_title destination (title_at (after_spaces text)))
-    (ap (λ t. option_map (λ (target : Target). target.rest) (with_title destination (title_at t)))
-    (sym skipped) ∙ is) where
-      first : (one : Option Target) → option_map (λ (target : Target). target.rest) one ≡ Some lines →
-          option_map (λ (target : Target). target.rest) (first_of one (without_title destination text))
-          ≡ Some lines
-      first None is = cc
-      first (Some target) is = is
-
 -- whether a destination is empty
 none_is : (text : List ℕ) (a b : ℕ) → length text ≡ b - a → a ≤ b → is_none text ≡ (a == b)
 none_is [] a b long order = sym (eq-eqb a b (omega arith))
@@ -131,21 +71,10 @@ target_is line lines destination rest later is_pointed a b is_missing is same lo
     ∙ ap (λ m. if m then None else titled destination (rest ∷ lines)) (sym missing)
     ∙ ap (λ ls. if is_missing then None else titled destination (rest ∷ ls)) (sym same)
 
-pub none_from : {A : Type 0} (o : Option A) → is_some o ≡ false → o ≡ None
-none_from None is = refl
-none_from (Some x) is = cc
-
 -- a definition from its parts
 module _ (text : List (List ℕ)) (opens : begins_with 91 text ≡ true) where
   opened : definition_at text ≡ definition_after (label_at (after_next text))
   opened = ap (λ b. if b then definition_after (label_at (after_next text)) else None) opens
-
-  pub without_label : label_at (after_next text) ≡ None → definition_at text ≡ None
-  without_label is = opened ∙ ap definition_after is
-
-  pub without_target : (label : Part) → label_at (after_next text) ≡ Some label →
-      target_at label.rest ≡ None → definition_at text ≡ None
-  without_target label is none = opened ∙ ap definition_after is ∙ ap (definition_of label) none
 
   rest_of : (label : Part) (target : Option Target) (lines : List (List ℕ)) (form : List ℕ) →
       option_map (λ (target : Target). target.rest) target ≡ Some lines →

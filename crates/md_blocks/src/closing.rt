@@ -231,7 +231,7 @@ fn after_definitions(
 fn begins_with_bracket(bytes: &[u8], line: Line) -> bool
     ensures { (lines : List (List ℕ)) → result ≡ begins_with 91 (line_text bytes.now line ∷ lines) }
 {
-    line.start < line.end && bytes.get(line.start) == Some(&b'[')
+    bytes.get(line.start) == Some(&b'[') && line.start < line.end
 }
 
 /// How many lines there are without the blank ones at their end.

@@ -8,7 +8,7 @@ ghost use Rattle.md_lines.specs.Texts.{after_line_end};
 ghost use Rattle.md_blocks.specs.LinkDefinitions.{definition_at, target_at, target_in, titled, with_title};
 ghost use Rattle.md_blocks.specs.Passes.{texts_from};
 
-use crate::label::{folded_bytes, folded_label};
+use crate::label::{folded_between, folded_bytes, folded_label};
 use md_lines::{Cursor, Line, Place, Span, Title, read_destination, read_label, read_title};
 use std::alloc::{AllocError, Global};
 use std::collections::BTreeMap;
@@ -83,9 +83,7 @@ impl Definitions {
         if self.list.is_empty() {
             return Ok(None);
         }
-        let from = Cursor::new(bytes, lines, from);
-        let to = Cursor::new(bytes, lines, to);
-        let Some(label) = folded_label(alloc, &from, &to)? else {
+        let Some(label) = folded_between(alloc, bytes, lines, from, to)? else {
             return Ok(None);
         };
         match self.by_label.get(label.as_str()) {

@@ -9,11 +9,27 @@ ghost use Rattle.md_blocks.specs.LinkDefinitions.{label_form, printed, text_form
 ghost use Rattle.md_base.specs.Identifier.{normalized};
 
 use md_base::normalize_identifier;
-use md_lines::Cursor;
+use md_lines::{Cursor, Line, Place};
 use std::alloc::{AllocError, Global};
 
 /// U+FFFD in UTF-8.
 const REPLACEMENT: &[u8] = b"\xef\xbf\xbd";
+
+/// Folds the label of a reference: the text of some lines between two places in them.
+pub(crate) fn folded_between(
+    alloc: Global,
+    bytes: &[u8],
+    lines: &[Line],
+    from: Place,
+    to: Place,
+) -> Result<Option<String>, AllocError> {
+    if from.line == to.line {
+        return folded_text(alloc, bytes.get(from.at..to.at).unwrap_or(&[]));
+    }
+    let from = Cursor::new(bytes, lines, from);
+    let to = Cursor::new(bytes, lines, to);
+    folded_label(alloc, &from, &to)
+}
 
 /// Folds a label as the compiler folds identifiers: the text between two places in the same lines.
 /// `None` if it isn't UTF-8.

@@ -3,7 +3,11 @@ use Rattle.std.proofs.Common.{◌≡◌, ◌<◌, ◌+◌, ℕ, Bool, true, fals
 use Rattle.std.proofs.Common.{length, drop, drop-cons, get_or, arith, refl, sym, ap, ◌∙◌, subst}
 use Rattle.std.specs.Prelude.{if◌then◌else◌}
 use Rattle.std.proofs.Common.{◌≤◌, inl, inr}
-use Rattle.std.proofs.lemmas.Bool.{cases_Bool}
+use Rattle.std.proofs.lemmas.Bool.{cases_Bool, ne_eqb}
+use Rattle.std.specs.Prelude.{◌&&◌}
+use Rattle.std.specs.Char.{is_ascii_punctuation}
+use Rattle.md_lines.specs.Lines.{goes_on_in_label}
+use Rattle.md_lines.specs.LinkParts.{is_bracket}
 use Rattle.std.proofs.lemmas.List.{drop-drop}
 use Rattle.md_lines.specs.Escapes.{before_unescaped, is_escape, width}
 
@@ -66,3 +70,20 @@ before-le test (byte ∷ next ∷ rest) = elim (cases_Bool (test byte)) [
     | inr one ↦ rw (is_not, one) (omega (arith, before-le test (next ∷ rest)))
   ]
 ]
+
+-- a byte that is no backslash is passed alone
+pub width-one : (text : List ℕ) (at : ℕ) → at < length text → (get_or text at 0 ≡ 92 → ⊥) →
+    width (drop at text) ≡ 1
+width-one text at within other =
+    ap width (drop-cons text at 0 within)
+    ∙ alone (get_or text at 0) (drop (suc at) text) other where
+      alone : (byte : ℕ) (rest : List ℕ) → (byte ≡ 92 → ⊥) → width (byte ∷ rest) ≡ 1
+      alone byte [] other = refl
+      alone byte (next ∷ rest) other =
+          ap (λ b. if b && is_ascii_punctuation next then 2 else 1) (ne_eqb byte 92 other)
+
+pub no_bracket : (byte : ℕ) → goes_on_in_label byte ≡ true → is_bracket byte ≡ false
+no_bracket byte is = grind arith
+
+pub no_escape : (byte : ℕ) → goes_on_in_label byte ≡ true → byte ≡ 92 → ⊥
+no_escape byte is same = let both : true ≡ false = sym is ∙ ap goes_on_in_label same in cc

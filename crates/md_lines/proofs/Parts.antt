@@ -196,24 +196,17 @@ module _ (mark close : ℕ) where
       option_map (λ part. part.rest) (title_after mark close (line ∷ lines))
       ≡ Some (drop (suc n) line ∷ lines)
   closed line lines n is within same =
-      let found : until (stops_title mark close) (line ∷ lines) ≡ Some (record { text = take n line ∷ []; rest = drop n line ∷ lines }) =
+      let found : until (stops_title mark close) (line ∷ lines)
+      ≡ Some (record { text = take n line ∷ []; rest = drop n line ∷ lines }) =
       until_here (stops_title mark close) line lines (omega arith)
       ∙ ap (λ k. Some (record { text = take k line ∷ []; rest = drop k line ∷ lines })) (sym is) in
       ap (λ o. option_map (λ (part : Part). part.rest) (title_in close o)) found
-      ∙ ap (λ b. option_map (λ (part : Part). part.rest) (if b then Some (record { text = take n line ∷ []; rest = after_next (drop n line ∷ lines) }) else None))
+      ∙ ap (λ b. option_map (λ (part : Part). part.rest) (if b then Some (record {
+        text = take n line ∷ [];
+        rest = after_next (drop n line ∷ lines);
+      }) else None))
       (at_stop line n close lines within ∙ eq-eqb _ close same)
       ∙ ap (λ r. Some r) (past_stop line n lines within)
-
-  pub not_closed : (line : List ℕ) (lines : List (List ℕ)) (n : ℕ) →
-      n ≡ before_unescaped (stops_title mark close) line → n < length line →
-      (get_or line n 0 ≡ close → ⊥) → title_after mark close (line ∷ lines) ≡ None
-  not_closed line lines n is within other =
-      let found : until (stops_title mark close) (line ∷ lines) ≡ Some (record { text = take n line ∷ []; rest = drop n line ∷ lines }) =
-      until_here (stops_title mark close) line lines (omega arith)
-      ∙ ap (λ k. Some (record { text = take k line ∷ []; rest = drop k line ∷ lines })) (sym is) in
-      ap (title_in close) found
-      ∙ ap (λ b. if b then Some (record { text = take n line ∷ []; rest = after_next (drop n line ∷ lines) }) else None)
-      (at_stop line n close lines within ∙ ne_eqb _ close other)
 
   keeps_rest : (line : List ℕ) (o : Option Part) →
       option_map (λ (part : Part). part.rest) (title_in close (option_map (with_line line) o))
@@ -450,7 +443,8 @@ more_in : (count n : ℕ) (is_blank : Bool) (line : List ℕ) (found : Option Pa
 more_in count n is_blank line None is = refl
 more_in count n is_blank line (Some part) is =
     let sum : count + (suc (length line) + size part.text) ≡ count + n + 1 + size part.text = omega arith in
-    ap (λ k. begins_with 93 part.rest && (nat_lt k 1001 && not (is_blank && (list_all is_blank_byte line && is_blank_label part.text)))) sum
+    ap (λ k. begins_with 93 part.rest && (nat_lt k 1001
+    && not (is_blank && (list_all is_blank_byte line && is_blank_label part.text)))) sum
     ∙ ap (λ b. begins_with 93 part.rest && (nat_lt (count + n + 1 + size part.text) 1001 && b))
     (grown is_blank (list_all is_blank_byte line) (is_blank_label part.text))
     ∙ ap (λ xs. begins_with 93 part.rest && (nat_lt (count + n + 1 + size part.text) 1001

@@ -30,10 +30,6 @@ has_more f [] k within = absurd (omega arith)
 has_more f (x ∷ xs) zero within = refl
 has_more f (x ∷ xs) (suc k) within = has_more f xs k (omega arith)
 
-pub no_more : {A B : Type 0} (f : A → B) (xs : List A) (k : ℕ) → length xs ≤ k →
-    map f (drop k xs) ≡ []
-no_more f xs k over = ap (map f) (drop_all k xs over)
-
 -- a line ending comes next where a line has ended and another one follows
 pub ending_next : (text : List ℕ) (lines : List (List ℕ)) → text ≡ [] → is_none lines ≡ false →
     Some 10 ≡ next_in (text ∷ lines)

@@ -20,6 +20,10 @@ goes_on_in_destination byte =
 abbrev pub is_blank : ℕ → Bool
 is_blank byte = byte == 32 || byte == 9
 
+-- whether a byte is no square bracket and no backslash
+abbrev pub goes_on_in_label : ℕ → Bool
+goes_on_in_label byte = not (byte == 91 || (byte == 92 || byte == 93))
+
 -- the index after the line ending at an index: a carriage return and a line feed are one
 abbrev pub after_ending : List ℕ → ℕ → ℕ
 after_ending bytes at =

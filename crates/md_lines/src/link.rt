@@ -12,7 +12,7 @@ ghost use Rattle.md_lines.specs.Reading.{lines_after, text_from, text_in, ReadSa
 ghost use Rattle.md_lines.specs.Texts.{after_next, text_before};
 ghost use Rattle.std.specs.Prelude.{IfNone, is_some, Some, None, true, false, take, [], not, ◌&&◌, ◌==◌};
 ghost use Rattle.std.specs.List.{list_all};
-ghost use Rattle.md_lines.specs.Lines.{is_blank};
+ghost use Rattle.md_lines.specs.Lines.{goes_on_in_label, is_blank};
 
 use crate::class::{Class, is};
 use crate::cursor::Cursor;
@@ -81,10 +81,26 @@ fn label_length(text: &[u8], most: usize) -> usize
     ensures first { result < most → result ≡ before_unescaped is_bracket text.now }
 {
     let mut length = 0;
-    while length < most && length < text.len() && !is_bracket(text[length]) {
+    while length < most && length < text.len() {
+        let byte = text[length];
+        if goes_on_in_label(byte) {
+            length += 1;
+            continue;
+        }
+        if is_bracket(byte) {
+            return length;
+        }
         length = after_byte(text, length);
     }
     length
+}
+
+/// Whether a byte is no square bracket and no backslash, which is between them.
+#[inline(always)]
+fn goes_on_in_label(byte: u8) -> bool
+    ensures { result ≡ goes_on_in_label byte }
+{
+    !matches!(byte, b'['..=b']')
 }
 
 /// Whether a byte is a square bracket.

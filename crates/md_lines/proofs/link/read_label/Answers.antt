@@ -8,7 +8,7 @@ use Rattle.md_lines.specs.Escapes.{before_unescaped, in_line}
 use Rattle.md_lines.specs.Lines.{is_blank}
 use Rattle.md_lines.specs.LinkParts.{is_bracket}
 use Rattle.md_lines.specs.Reading.{lines_after, text_from}
-use Rattle.md_lines.specs.Texts.{Part, after_next, until}
+use Rattle.md_lines.specs.Texts.{Part, until}
 use Rattle.md_lines.proofs.Parts.{label_ok, label_is, label_found, label_here, label_later}
 use Rattle.md_lines.proofs.Parts.{label_too_long, rest_here, rest_later}
 use Rattle.md_lines.proofs.link.read_label.Goals as goal
