@@ -1,24 +1,23 @@
 -- Definitions of links, part by part.
 use Rattle.std.proofs.Common.{◌≡◌, ◌<◌, ◌≤◌, ◌+◌, ◌-◌, ◌++◌, ◌∙◌, ℕ, Bool, true, false, List, [], ◌∷◌, zero, suc}
-use Rattle.std.proofs.Common.{length, drop, take, arith, ap, refl, sym, inl, inr, subst, min, drop-cons, get_or}
+use Rattle.std.proofs.Common.{length, drop, arith, ap, refl, sym, inl, inr, subst, min, drop-cons, get_or}
 use Rattle.std.specs.Prelude.{Option, Some, None, option_map, if◌then◌else◌, ◌&&◌, ◌||◌, not, ◌==◌, map}
-use Rattle.std.specs.Prelude.{IfSome, IfNone}
-use Rattle.std.specs.List.{All, join_with_byte, list_any}
+use Rattle.std.specs.List.{All, list_any}
 use Rattle.std.specs.Prelude.{replicate}
 use Rattle.std.proofs.lemmas.List.Elements.{All-head, All-tail}
 use Rattle.md_blocks.specs.Entries.{Line}
 use Rattle.md_blocks.specs.Tapes.{between, line_of}
 use Rattle.std.specs.Str.{is_utf8, IsUtf8}
-use Rattle.std.proofs.lemmas.Bool.{cases_Bool, cases_lt, lt-ltb, le-ltb, eq-eqb, ne_eqb}
+use Rattle.std.proofs.lemmas.Bool.{cases_Bool, eq-eqb, ne_eqb}
 use Rattle.std.proofs.lemmas.List.{length-drop, length-map, drop-map, drop-drop, drop_all}
 use Rattle.std.proofs.lemmas.Str.{IsUtf8-from_is_utf8}
 use Rattle.md_lines.specs.declared.line.Line.{Line as Place}
 use Rattle.md_lines.specs.Reading.{line_text}
-use Rattle.md_lines.specs.Texts.{Part, is_none, begins_with, begins_with_space, after_next, after_spaces}
-use Rattle.md_lines.specs.Texts.{after_line_end, text_before, first_line}
-use Rattle.md_lines.specs.LinkParts.{Destination, destination_at, label_at, title_at}
-use Rattle.md_blocks.specs.LinkDefinitions.{Definition, Target, first_of, with_title, without_title, titled}
-use Rattle.md_blocks.specs.LinkDefinitions.{target_after, target_in, target_at, with_form, definition_of}
+use Rattle.md_lines.specs.Texts.{Part, is_none, begins_with, after_next}
+use Rattle.md_lines.specs.Texts.{after_line_end}
+use Rattle.md_lines.specs.LinkParts.{destination_at, label_at}
+use Rattle.md_blocks.specs.LinkDefinitions.{Definition, Target, with_title, titled}
+use Rattle.md_blocks.specs.LinkDefinitions.{target_after, target_at, with_form, definition_of}
 use Rattle.md_blocks.specs.LinkDefinitions.{definition_after, definition_at, defined_from, label_form, printed}
 use Rattle.md_blocks.specs.Passes.{texts_from}
 

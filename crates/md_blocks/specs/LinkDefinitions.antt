@@ -1,6 +1,6 @@
 -- Definitions of links at the beginning of a paragraph (4.7). A text is what is left of the
 -- paragraph's lines (`Texts` of md_lines).
-use Rattle.std.specs.Prelude.{ℕ, Bool, Option, List, [], ◌∷◌, ◌++◌, ◌-◌, ◌==◌, ◌&&◌, not, Some, None}
+use Rattle.std.specs.Prelude.{ℕ, Bool, Option, List, [], ◌∷◌, ◌-◌, ◌==◌, ◌&&◌, not, Some, None}
 use Rattle.std.specs.Prelude.{zero, suc, length, map, if◌then◌else◌}
 use Rattle.std.specs.List.{join_with_byte, flat_map}
 use Rattle.std.specs.Str.{is_utf8}

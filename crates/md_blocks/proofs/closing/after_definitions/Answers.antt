@@ -1,5 +1,5 @@
 -- Definition by definition.
-use Rattle.std.proofs.Common.{◌≡◌, ◌<◌, ◌+◌, ◌∷◌, ◌∙◌, ap, sym, subst, arith, suc}
+use Rattle.std.proofs.Common.{◌≡◌, ◌<◌, ◌+◌, ◌∙◌, ap, sym, subst, arith, suc}
 use Rattle.std.specs.Prelude.{IfNone, IfSome, None, Some, option_map}
 use Rattle.md_lines.specs.Texts.{begins_with}
 use Rattle.md_blocks.specs.LinkDefinitions.{Definition, defined_from, definition_at}

@@ -1,5 +1,5 @@
 -- The destination, and what follows it.
-use Rattle.std.proofs.Common.{◌≡◌, ◌∷◌, ◌∙◌, ap, sym, subst}
+use Rattle.std.proofs.Common.{◌≡◌, ◌∙◌, ap, sym, subst}
 use Rattle.std.specs.Prelude.{IfNone, IfSome, None, Some, option_map, if◌then◌else◌}
 use Rattle.md_lines.specs.Escapes.{in_line}
 use Rattle.md_lines.specs.LinkParts.{destination_at}

@@ -1,8 +1,7 @@
 -- A text has a form just if it is UTF-8.
-use Rattle.std.proofs.Common.{◌∙◌, ◌≡◌, ap, sym, true, false, refl}
+use Rattle.std.proofs.Common.{◌∙◌, ap, sym}
 use Rattle.std.specs.Prelude.{None, Some, if◌then◌else◌}
-use Rattle.std.specs.Str.{is_utf8, IsUtf8}
-use Rattle.std.proofs.lemmas.Str.{is_utf8-from_IsUtf8, IsUtf8-from_is_utf8}
+use Rattle.std.proofs.lemmas.Str.{is_utf8-from_IsUtf8}
 use Rattle.md_base.specs.Identifier.{normalized}
 use Rattle.md_blocks.proofs.LinkLemmas.{not_utf8}
 use Rattle.md_blocks.proofs.label.folded_bytes.Goals as goal
