@@ -12,6 +12,8 @@ use Rattle.std.proofs.lemmas.Bool.{cases_Bool, eq-eqb, ne_eqb}
 use Rattle.std.proofs.lemmas.List.{length-drop, length-map, drop-map, drop-drop, drop_all}
 use Rattle.std.proofs.lemmas.Str.{IsUtf8-from_is_utf8}
 use Rattle.md_lines.specs.declared.line.Line.{Line as Place}
+use Rattle.md_lines.specs.declared.span.Span.{Span}
+use Rattle.std.specs.Prelude.{IfSome}
 use Rattle.md_lines.specs.Reading.{line_text}
 use Rattle.md_lines.specs.Texts.{Part, is_none, begins_with, after_next}
 use Rattle.md_lines.specs.Texts.{after_line_end}
@@ -19,6 +21,9 @@ use Rattle.md_lines.specs.LinkParts.{destination_at, label_at}
 use Rattle.md_blocks.specs.LinkDefinitions.{Definition, Target, with_title, titled}
 use Rattle.md_blocks.specs.LinkDefinitions.{target_after, target_at, with_form, definition_of}
 use Rattle.md_blocks.specs.LinkDefinitions.{definition_after, definition_at, defined_from, label_form, printed}
+use Rattle.md_lines.specs.LinkParts.{title_at}
+use Rattle.md_lines.specs.Texts.{after_spaces, begins_with_space}
+use Rattle.md_blocks.specs.LinkDefinitions.{first_of, without_title}
 use Rattle.md_blocks.specs.Passes.{texts_from}
 
 pub not_utf8 : (text : List ℕ) → (IsUtf8 text → ⊥) → is_utf8 text ≡ false
@@ -51,6 +56,69 @@ not_ended destination (Some title) rest is ends =
       | Some rest ↦
           Some (record { destination = destination; title = Some title.text; rest = rest })
     ]) (ap after_line_end same ∙ ends)
+
+just : {one other : Target} → Some one ≡ Some other → one ≡ other
+just is = cc
+
+-- whatever ends a definition keeps its destination
+ends_with : (destination : List ℕ) (title : Option (List (List ℕ)))
+    (end : Option (List (List ℕ))) (target : Target) →
+    elim end as (λ _. Option Target) [
+      | None ↦ None
+      | Some rest ↦ Some (record { destination = destination; title = title; rest = rest })
+    ] ≡ Some target → target.destination ≡ destination
+ends_with destination title None target is = cc
+ends_with destination title (Some rest) target is =
+    ap (λ (t : Target). t.destination) (sym (just is))
+
+titled_keeps : (destination : List ℕ) (text : List (List ℕ)) (target : Target) →
+    titled destination text ≡ Some target → target.destination ≡ destination
+titled_keeps destination text target is =
+    of_first (if begins_with_space text then with_title destination (title_at (after_spaces text))
+    else None) (by_space (begins_with_space text)) is where
+      by_title : (title : Option Part) (one : Target) → with_title destination title ≡ Some one →
+          one.destination ≡ destination
+      by_title None one is = cc
+      by_title (Some title) one is =
+          ends_with destination (Some title.text) (after_line_end title.rest) one is
+
+      by_space : (spaced : Bool) (one : Target) →
+          (if spaced then with_title destination (title_at (after_spaces text)) else None) ≡ Some one →
+          one.destination ≡ destination
+      by_space true one is = by_title (title_at (after_spaces text)) one is
+      by_space false one is = cc
+
+      of_first : (first : Option Target) →
+          ((one : Target) → first ≡ Some one → one.destination ≡ destination) →
+          first_of first (without_title destination text) ≡ Some target →
+          target.destination ≡ destination
+      of_first None keeps is = ends_with destination None (after_line_end text) target is
+      of_first (Some one) keeps is =
+          ap (λ (t : Target). t.destination) (sym (just is)) ∙ keeps one refl
+
+dest_of : (destination : List ℕ) (text lines : List (List ℕ)) →
+    option_map (λ (target : Target). target.rest) (titled destination text) ≡ Some lines →
+    option_map (λ (target : Target). target.destination) (titled destination text)
+    ≡ Some destination
+dest_of destination text lines is = known (titled destination text) refl is where
+  known : (found : Option Target) → titled destination text ≡ found →
+      option_map (λ (target : Target). target.rest) found ≡ Some lines →
+      option_map (λ (target : Target). target.destination) (titled destination text)
+      ≡ Some destination
+  known None same is = cc
+  known (Some target) same is =
+      ap (option_map (λ (target : Target). target.destination)) same
+      ∙ ap (λ d. Some d) (titled_keeps destination text target same)
+
+pub destination_kept : {C : Type 0} (found : Option C) (span_of : C → Span) (span : Span)
+    (text_of : Span → List ℕ) (text lines : List (List ℕ)) →
+    IfSome found (λ _. option_map (λ (target : Target). target.rest) (titled (text_of span) text)
+    ≡ Some lines) → IfSome found (λ one. span_of one ≡ span) →
+    IfSome found (λ one. option_map (λ (target : Target). target.destination)
+    (titled (text_of span) text) ≡ Some (text_of (span_of one)))
+destination_kept None span_of span text_of text lines is kept = tt
+destination_kept (Some one) span_of span text_of text lines is kept =
+    dest_of (text_of span) text lines is ∙ ap (λ s. Some (text_of s)) (sym kept)
 
 -- whether a destination is empty
 none_is : (text : List ℕ) (a b : ℕ) → length text ≡ b - a → a ≤ b → is_none text ≡ (a == b)
@@ -85,6 +153,29 @@ module _ (text : List (List ℕ)) (opens : begins_with 91 text ≡ true) where
       let same : target.rest ≡ lines = cc in
       ap (λ o. option_map (λ (definition : Definition). definition.rest) (with_form label target o)) known
       ∙ ap (λ ls. Some ls) same
+
+  part_of : (label : Part) (target : Option Target) (destination form : List ℕ) →
+      option_map (λ (target : Target). target.destination) target ≡ Some destination →
+      label_form label.text ≡ Some form →
+      option_map (λ (definition : Definition). definition.destination) (definition_of label target)
+      ≡ Some destination
+  part_of label None destination form is known = cc
+  part_of label (Some target) destination form is known =
+      let same : target.destination ≡ destination = cc in
+      ap (λ o. option_map (λ (definition : Definition). definition.destination)
+      (with_form label target o)) known
+      ∙ ap (λ d. Some d) same
+
+  pub with_destination : (label : Part) (destination form : List ℕ) →
+      label_at (after_next text) ≡ Some label →
+      option_map (λ (target : Target). target.destination) (target_at label.rest)
+      ≡ Some destination → label_form label.text ≡ Some form →
+      option_map (λ (definition : Definition). definition.destination) (definition_at text)
+      ≡ Some destination
+  with_destination label destination form is found known =
+      ap (option_map (λ (definition : Definition). definition.destination))
+      (opened ∙ ap definition_after is)
+      ∙ part_of label (target_at label.rest) destination form found known
 
   no_form : (label : Part) (target : Option Target) → label_form label.text ≡ None →
       definition_of label target ≡ None

@@ -1,12 +1,14 @@
 //! Definitions of links and of footnotes, found by their labels.
 
 ghost use Rattle.std.specs.Prelude.{◌≡◌, ◌<◌, length, List, ℕ, Some, None, IfOk, IfSome, IfNone, option_map};
-ghost use Rattle.std.specs.Prelude.{true, false, not, ◌&&◌, ◌==◌};
+ghost use Rattle.std.specs.Prelude.{OnOk, vec_len, ◌++◌, ◌∷◌, [], true, false, not, ◌&&◌, ◌==◌};
 ghost use Rattle.md_lines.specs.LinkParts.{title_at};
-ghost use Rattle.md_lines.specs.Reading.{ReadSame, lines_after, text_from};
+ghost use Rattle.md_lines.specs.Reading.{ReadSame, lines_after, text_from, text_in};
 ghost use Rattle.md_lines.specs.Texts.{after_line_end};
 ghost use Rattle.md_blocks.specs.LinkDefinitions.{definition_at, target_at, target_in, titled, with_title};
 ghost use Rattle.md_blocks.specs.Passes.{texts_from};
+ghost use Rattle.md_blocks.specs.Tapes.{text_between};
+ghost use Rattle.md_blocks.specs.declared.definition.Definition.{Definition as Kept};
 
 use crate::label::{folded_between, folded_bytes, folded_label};
 use md_lines::{Cursor, Line, Place, Span, Title, read_destination, read_label, read_title};
@@ -139,7 +141,10 @@ impl Definitions {
     }
 
     /// Adds a definition under its folded label, unless that label already has one.
-    fn add(&mut self, label: String, definition: Definition) -> Result<(), AllocError> {
+    fn add(&mut self, label: String, definition: Definition) -> Result<(), AllocError>
+        ensures list { OnOk result (self.new.list.items ≡ self.old.list.items
+            ++ record definition { index = vec_len self.old.list } ∷ []) }
+    {
         let index = self.list.len();
         self.list.push(Definition {
             index,
@@ -175,6 +180,11 @@ pub(crate) fn read_definition(
     ensures none { IfOk result (λ next. IfNone next
         (definition_at (texts_from bytes.now lines.now line) ≡ None)) }
     ensures after { IfOk result (λ next. IfSome next (λ next. line < next)) }
+    ensures kept { IfOk result (λ next. IfSome next (λ _. (last : Kept)
+        × (definitions.new.list.items ≡ definitions.old.list.items ++ last ∷ [])
+        × (option_map (λ definition. definition.destination)
+        (definition_at (texts_from bytes.now lines.now line))
+        ≡ Some (text_between last.destination bytes.now)))) }
 {
     let start = Place {
         line,
@@ -206,6 +216,8 @@ fn read_target(cursor: &mut Cursor<'_>) -> Option<Target>
     ensures found { IfSome result (λ _. option_map (λ target. target.rest)
         (target_at (text_from cursor.old)) ≡ Some (lines_after cursor.new)) }
     ensures none { IfNone result (target_at (text_from cursor.old) ≡ None) }
+    ensures destination { IfSome result (λ target. option_map (λ target. target.destination)
+        (target_at (text_from cursor.old)) ≡ Some (text_in target.destination cursor.old)) }
     ensures same { ReadSame cursor.old cursor.new }
 {
     if !cursor.take(b':') {
@@ -220,6 +232,8 @@ fn read_destination_and_title(cursor: &mut Cursor<'_>) -> Option<Target>
     ensures found { IfSome result (λ _. option_map (λ target. target.rest)
         (target_in (text_from cursor.old)) ≡ Some (lines_after cursor.new)) }
     ensures none { IfNone result (target_in (text_from cursor.old) ≡ None) }
+    ensures destination { IfSome result (λ target. option_map (λ target. target.destination)
+        (target_in (text_from cursor.old)) ≡ Some (text_in target.destination cursor.old)) }
     ensures same { ReadSame cursor.old cursor.new }
 {
     let is_pointed = cursor.is_next(b'<');
@@ -245,6 +259,7 @@ fn read_end(cursor: &mut Cursor<'_>, destination: Span) -> Option<Target>
     ensures found { (text : List ℕ) → IfSome result (λ _. option_map (λ target. target.rest)
         (titled text (text_from cursor.old)) ≡ Some (lines_after cursor.new)) }
     ensures none { (text : List ℕ) → IfNone result (titled text (text_from cursor.old) ≡ None) }
+    ensures kept { IfSome result (λ target. target.destination ≡ destination) }
     ensures same { ReadSame cursor.old cursor.new }
 {
     let behind = *cursor;
@@ -293,7 +308,9 @@ fn ends_line(cursor: &mut Cursor<'_>) -> bool
 }
 
 /// A definition with these parts, with the index 0.
-fn definition_of(bytes: &[u8], label: Span, target: Target) -> Definition {
+fn definition_of(bytes: &[u8], label: Span, target: Target) -> Definition
+    ensures destination { result.destination ≡ target.destination }
+{
     let Target { destination, title } = target;
     let text = bytes.get(destination.start..destination.end).unwrap_or(&[]);
     let is_plain = !text.contains(&b'\\') && !text.contains(&b'&');
