@@ -3,3 +3,4 @@ pub mod Escapes
 pub mod Reading
 pub mod Spaces
 pub mod Parts
+pub mod TagLemmas

@@ -5,3 +5,4 @@ pub mod Escapes
 pub mod Texts
 pub mod LinkParts
 pub mod Reading
+pub mod Tags
