@@ -1,15 +1,15 @@
 -- What is left of a text after the parts of a tag.
 use Rattle.std.proofs.Common.{◌≡◌, ◌<◌, ◌≤◌, ◌+◌, ◌∙◌, ℕ, zero, suc, Bool, true, false, List, [], ◌∷◌}
-use Rattle.std.proofs.Common.{true≢false, refl, sym, ap, arith, length, drop, subst}
-use Rattle.std.specs.Prelude.{is_some, Option, Some, None, IfSome, ◌==◌, ◌&&◌, not, nat_lt, if◌then◌else◌}
+use Rattle.std.proofs.Common.{true≢false, refl, sym, arith, length, drop, subst}
+use Rattle.std.specs.Prelude.{is_some, Option, Some, None, IfSome, ◌==◌, not, nat_lt, if◌then◌else◌}
 use Rattle.std.specs.List.{prefix_len}
 use Rattle.std.proofs.lemmas.List.{length-drop}
-use Rattle.std.proofs.lemmas.Bool.{lt-ltb, le-ltb, ltb-true, and_parts}
+use Rattle.std.proofs.lemmas.Bool.{lt-ltb, and_parts}
 use Rattle.md_lines.specs.Classes.{is_in}
 use Rattle.md_lines.specs.Lines.{is_blank}
 use Rattle.md_lines.specs.declared.class.Class.TheVariants.{Name, Unquoted}
 use Rattle.md_lines.specs.Tags.{after_attribute, after_byte, after_opening, after_quoted, after_run}
-use Rattle.md_lines.specs.Tags.{after_some, after_specification, after_value, begins_name}
+use Rattle.md_lines.specs.Tags.{after_specification, after_value, begins_name}
 use Rattle.md_lines.specs.Tags.{has_attribute, next_passes, past, run_of}
 use Rattle.md_lines.specs.Texts.{after_next, after_spaces, begins_with, begins_with_space, is_none}
 use Rattle.md_lines.specs.Texts.{size, unindented}

@@ -2,7 +2,6 @@
 use Rattle.std.specs.Prelude.{ℕ, zero, suc, Bool, Option, Some, None, List, [], ◌∷◌, ◌==◌, ◌&&◌, ◌||◌}
 use Rattle.std.specs.Prelude.{false, not, nat_lt, drop, length, if◌then◌else◌}
 use Rattle.std.specs.List.{prefix_len}
-use Rattle.md_lines.specs.declared.class.Class.{Class}
 use Rattle.md_lines.specs.declared.class.Class.TheVariants.{Alphabetic, Alphanumeric, Name}
 use Rattle.md_lines.specs.declared.class.Class.TheVariants.{Unquoted}
 use Rattle.md_lines.specs.Classes.{is_in}

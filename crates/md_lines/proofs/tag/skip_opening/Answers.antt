@@ -1,6 +1,6 @@
 -- An attribute is read, or the tag ends.
-use Rattle.std.proofs.Common.{◌≡◌, ◌∙◌, arith, ap, sym, subst}
-use Rattle.std.specs.Prelude.{is_some, None, Some}
+use Rattle.std.proofs.Common.{◌∙◌, arith, ap, sym}
+use Rattle.std.specs.Prelude.{is_some}
 use Rattle.md_lines.specs.Classes.{is_in}
 use Rattle.md_lines.specs.declared.class.Class.TheVariants.{Name}
 use Rattle.md_lines.specs.Escapes.{in_line}

@@ -1,5 +1,4 @@
 -- What is left ends alike.
-use Rattle.std.proofs.Common.{◌≡◌}
 use Rattle.md_lines.specs.Reading.{ReadSame, text_from}
 use Rattle.md_lines.specs.Texts.{size}
 use Rattle.md_lines.proofs.TagLemmas.{EndsAlike}
