@@ -12,6 +12,7 @@ pub mod BlankLines
 pub mod Entries
 pub mod Tapes
 pub mod States
+pub mod LinkDefinitions
 pub mod Passes
 pub mod LeafBlocks
 pub mod ContainerBlocks
