@@ -9,3 +9,4 @@ pub mod StateLemmas
 pub mod LineLemmas
 pub mod Markers
 pub mod Fences
+pub mod Steps

@@ -26,6 +26,7 @@ impl<'a> Pass<'a> {
         ensures state { OnOk result (state_of self.new
             ≡ closed_to (defined_by self.old self.new) depth (state_of self.old)) }
         ensures document { self.new.bytes ≡ self.old.bytes }
+        ensures options { self.new.options ≡ self.old.options }
     {
         self.close_leaf()?;
         self.nesting.close_to(depth, self.at)?;
@@ -39,6 +40,7 @@ impl<'a> Pass<'a> {
         ensures state { OnOk result (state_of self.new
             ≡ room (defined_by self.old self.new) depth (state_of self.old)) }
         ensures document { self.new.bytes ≡ self.old.bytes }
+        ensures options { self.new.options ≡ self.old.options }
     {
         self.make_room_for_text(depth)?;
         self.put_blank_line()
@@ -51,6 +53,7 @@ impl<'a> Pass<'a> {
         ensures state { OnOk result (state_of self.new
             ≡ room_for_text (defined_by self.old self.new) depth (state_of self.old)) }
         ensures document { self.new.bytes ≡ self.old.bytes }
+        ensures options { self.new.options ≡ self.old.options }
     {
         self.close_unmatched(depth)?;
         self.add_child()
@@ -65,6 +68,7 @@ impl<'a> Pass<'a> {
             ≡ with_a_child (list_closed (state_of self.old))) }
         ensures leaves { self.new.nesting.leaves ≡ self.old.nesting.leaves }
         ensures document { self.new.bytes ≡ self.old.bytes }
+        ensures options { self.new.options ≡ self.old.options }
     {
         self.nesting.close_list(self.at)?;
         self.note_child();
@@ -82,6 +86,7 @@ impl<'a> Pass<'a> {
         ensures leaves { self.new.nesting.leaves ≡ self.old.nesting.leaves }
         ensures state { OnOk result (state_of self.new ≡ blank_written (state_of self.old)) }
         ensures document { self.new.bytes ≡ self.old.bytes }
+        ensures options { self.new.options ≡ self.old.options }
     {
         let Some(blank) = self.blank_line else {
             return Ok(());
@@ -113,6 +118,7 @@ impl<'a> Pass<'a> {
         ensures state { state_of self.new
             ≡ with_leaf (leaf_of self.old.leaf (leaf_lines self.new)) (state_of self.old) }
         ensures document { self.new.bytes ≡ self.old.bytes }
+        ensures options { self.new.options ≡ self.old.options }
     {
         let nesting = &self.nesting;
         let start = after_definitions(
@@ -133,6 +139,7 @@ impl<'a> Pass<'a> {
             ≡ leaf_closed (defined_by self.old self.new) (state_of self.old)) }
         ensures lines { self.new.nesting.leaves.lines ≡ self.old.nesting.leaves.lines }
         ensures document { self.new.bytes ≡ self.old.bytes }
+        ensures options { self.new.options ≡ self.old.options }
     {
         let leaf = self.leaf;
         self.leaf = OpenLeaf::None;
@@ -164,6 +171,7 @@ impl<'a> Pass<'a> {
         ensures leaf { self.new.leaf ≡ self.old.leaf }
         ensures lines { self.new.nesting.leaves.lines ≡ self.old.nesting.leaves.lines }
         ensures document { self.new.bytes ≡ self.old.bytes }
+        ensures options { self.new.options ≡ self.old.options }
     {
         if self.take_definitions(end)? {
             self.put_blank_line()?;

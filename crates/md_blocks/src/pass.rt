@@ -183,6 +183,7 @@ impl<'a> Pass<'a> {
         ensures off { self.old.options.now.front_matter ≡ false
             → OnOk result (self.new ≡ self.old) }
         ensures document { self.new.bytes ≡ self.old.bytes }
+        ensures options { self.new.options ≡ self.old.options }
     {
         if !self.options.front_matter {
             return Ok(start_of(self.bytes));
@@ -203,6 +204,7 @@ impl<'a> Pass<'a> {
     fn read_line(&mut self, position: &mut Position<'_>) -> Result<(), AllocError>
         requires in_document { IsIn self.old.bytes.now position.old }
         ensures document { self.new.bytes ≡ self.old.bytes }
+        ensures options { self.new.options ≡ self.old.options }
     {
         if self.is_after_blank {
             if position.is_blank() {
@@ -226,6 +228,7 @@ impl<'a> Pass<'a> {
     fn continue_leaf(&mut self, position: &mut Position<'_>) -> Result<bool, AllocError>
         requires in_document { IsIn self.old.bytes.now position.old }
         ensures document { self.new.bytes ≡ self.old.bytes }
+        ensures options { self.new.options ≡ self.old.options }
         ensures same { IfOk result (λ goes_on. goes_on ≡ false → position.new ≡ position.old) }
     {
         match self.leaf {
@@ -250,6 +253,7 @@ impl<'a> Pass<'a> {
             (blank_read (defined_by self.old self.new) matched is_whole (rest_of position.old)
             (ending_of self.old.bytes.now position.old) (state_of self.old))) }
         ensures document { self.new.bytes ≡ self.old.bytes }
+        ensures options { self.new.options ≡ self.old.options }
     {
         self.close_at_blank_line(position, matched, is_whole)?;
         self.is_after_blank = self.may_skip_blank_lines();
@@ -277,6 +281,7 @@ impl<'a> Pass<'a> {
             (defined_by self.old self.new) matched is_whole (rest_of position.old)
             (ending_of self.old.bytes.now position.old) (state_of self.old)) }
         ensures document { self.new.bytes ≡ self.old.bytes }
+        ensures options { self.new.options ≡ self.old.options }
         ensures line { position.new.line ≡ position.old.line }
         ensures ending { position.new.ending ≡ position.old.ending }
     {
@@ -293,6 +298,7 @@ impl<'a> Pass<'a> {
         ensures state { state_of self.new ≡ blank_waits (nat_lt 0 line.ending) (state_of self.old) }
         ensures leaves { self.new.nesting.leaves ≡ self.old.nesting.leaves }
         ensures document { self.new.bytes ≡ self.old.bytes }
+        ensures options { self.new.options ≡ self.old.options }
     {
         if line.ending > 0 {
             self.blank_line = Some(BlankLine {
@@ -310,6 +316,7 @@ impl<'a> Pass<'a> {
         ensures leaf { OnOk result (self.new.leaf ≡ leaf) }
         ensures stack { self.new.nesting.stack ≡ self.old.nesting.stack }
         ensures document { self.new.bytes ≡ self.old.bytes }
+        ensures options { self.new.options ≡ self.old.options }
     {
         self.leaf = OpenLeaf::None;
         self.nesting.begin_leaf();
@@ -327,6 +334,7 @@ impl<'a> Pass<'a> {
         ensures leaf { self.new.leaf ≡ self.old.leaf }
         ensures stack { self.new.nesting.stack ≡ self.old.nesting.stack }
         ensures document { self.new.bytes ≡ self.old.bytes }
+        ensures options { self.new.options ≡ self.old.options }
     {
         self.nesting.push_line(line)?;
         Ok(())
@@ -345,6 +353,7 @@ impl<'a> Pass<'a> {
         ensures leaves { self.new.nesting.leaves ≡ self.old.nesting.leaves }
         ensures leaf { self.new.leaf ≡ self.old.leaf }
         ensures document { self.new.bytes ≡ self.old.bytes }
+        ensures options { self.new.options ≡ self.old.options }
     {
         self.nesting.put(block)?;
         Ok(())
@@ -357,6 +366,7 @@ impl<'a> Pass<'a> {
         ensures shrinks { vec_len self.new.nesting.stack ≤ vec_len self.old.nesting.stack }
         ensures leaves { self.new.nesting.leaves ≡ self.old.nesting.leaves }
         ensures document { self.new.bytes ≡ self.old.bytes }
+        ensures options { self.new.options ≡ self.old.options }
     {
         self.nesting.note_child();
     }
@@ -372,6 +382,7 @@ impl<'a> Pass<'a> {
             (state_of self.old))) }
         ensures leaves { self.new.nesting.leaves ≡ self.old.nesting.leaves }
         ensures document { self.new.bytes ≡ self.old.bytes }
+        ensures options { self.new.options ≡ self.old.options }
     {
         self.nesting.enter(block, opened)?;
         Ok(())

@@ -40,6 +40,7 @@ impl<'a> Pass<'a> {
     ) -> Result<(), AllocError>
         requires in_document { IsIn self.old.bytes.now position.old }
         ensures document { self.new.bytes ≡ self.old.bytes }
+        ensures options { self.new.options ≡ self.old.options }
     {
         let mut depth = matched;
         let mut has_begun = false;
@@ -80,6 +81,7 @@ impl<'a> Pass<'a> {
     ) -> Result<bool, AllocError>
         requires in_document { IsIn self.old.bytes.now position.now }
         ensures document { self.new.bytes ≡ self.old.bytes }
+        ensures options { self.new.options ≡ self.old.options }
     {
         let in_paragraph = is_whole && self.leaf.is_paragraph();
         match byte {
@@ -108,6 +110,7 @@ impl<'a> Pass<'a> {
         ensures same { IfOk result (λ has_begun.
             has_begun ≡ false → state_of self.new ≡ state_of self.old) }
         ensures document { self.new.bytes ≡ self.old.bytes }
+        ensures options { self.new.options ≡ self.old.options }
     {
         let Some(marks) = heading_marks(position.line, position.text) else {
             return Ok(false);
@@ -135,6 +138,7 @@ impl<'a> Pass<'a> {
         ensures same { IfOk result (λ has_begun.
             has_begun ≡ false → state_of self.new ≡ state_of self.old) }
         ensures document { self.new.bytes ≡ self.old.bytes }
+        ensures options { self.new.options ≡ self.old.options }
     {
         let Some(fence) = Fence::of_code(position, mark) else {
             return Ok(false);
@@ -155,6 +159,7 @@ impl<'a> Pass<'a> {
         ensures same { IfOk result (λ has_begun.
             has_begun ≡ false → state_of self.new ≡ state_of self.old) }
         ensures document { self.new.bytes ≡ self.old.bytes }
+        ensures options { self.new.options ≡ self.old.options }
     {
         let Some(fence) = Fence::of_math(position) else {
             return Ok(false);
@@ -191,6 +196,7 @@ impl<'a> Pass<'a> {
         ensures same { IfOk result (λ has_begun.
             has_begun ≡ false → state_of self.new ≡ state_of self.old) }
         ensures document { self.new.bytes ≡ self.old.bytes }
+        ensures options { self.new.options ≡ self.old.options }
     {
         let text = &position.line[position.text..];
         let Some(kind) = HtmlKind::begun_by(text, !in_paragraph) else {
@@ -215,6 +221,7 @@ impl<'a> Pass<'a> {
             ≡ definitions_taken (defined_by self.old self.new) (leaf_lines self.old)
             (state_of self.old)) }
         ensures document { self.new.bytes ≡ self.old.bytes }
+        ensures options { self.new.options ≡ self.old.options }
     {
         let Some(marks) = underline(position.line, position.text, mark) else {
             return Ok(false);
@@ -244,6 +251,7 @@ impl<'a> Pass<'a> {
         ensures same { IfOk result (λ has_begun.
             has_begun ≡ false → state_of self.new ≡ state_of self.old) }
         ensures document { self.new.bytes ≡ self.old.bytes }
+        ensures options { self.new.options ≡ self.old.options }
     {
         if !self.breaks.begins_at(mark, position.line, position.text) {
             return Ok(false);
@@ -267,6 +275,7 @@ impl<'a> Pass<'a> {
             (rest_of position.old) (ending_of self.old.bytes.now position.old)
             (state_of self.old)) }
         ensures document { self.new.bytes ≡ self.old.bytes }
+        ensures options { self.new.options ≡ self.old.options }
     {
         position.advance(CODE_INDENT);
         let line = position.rest();
@@ -290,6 +299,7 @@ impl<'a> Pass<'a> {
         ensures state { OnOk result (state_of self.new ≡ text_read (defined_by self.old self.new)
             depth is_whole (text_line self.old.bytes.now position.now) (state_of self.old)) }
         ensures document { self.new.bytes ≡ self.old.bytes }
+        ensures options { self.new.options ≡ self.old.options }
     {
         if self.leaf.is_paragraph() {
             return self.push_line(position.text_line());
@@ -310,6 +320,7 @@ impl<'a> Pass<'a> {
             ≡ if_begun is_row (state_of self.new)) }
         ensures same { IfOk result (λ is_row. is_row ≡ false → self.new ≡ self.old) }
         ensures document { self.new.bytes ≡ self.old.bytes }
+        ensures options { self.new.options ≡ self.old.options }
     {
         let OpenLeaf::Table { columns } = self.leaf else {
             return Ok(false);
@@ -334,6 +345,7 @@ impl<'a> Pass<'a> {
             ≡ if_begun has_begun (state_of self.new))) }
         ensures same { IfOk result (λ has_begun. has_begun ≡ false → self.new ≡ self.old) }
         ensures document { self.new.bytes ≡ self.old.bytes }
+        ensures options { self.new.options ≡ self.old.options }
     {
         let Some(columns) = self.columns_begun(position) else {
             return Ok(false);
@@ -376,6 +388,7 @@ impl<'a> Pass<'a> {
             ≡ paragraph_split defined (leaf_lines self.old) (state_of self.old))) }
         ensures lines { OnOk result (leaf_lines self.new ≡ last_line (leaf_lines self.old) ∷ []) }
         ensures document { self.new.bytes ≡ self.old.bytes }
+        ensures options { self.new.options ≡ self.old.options }
     {
         let last = self.nesting.leaves.lines.len() - 1;
         if self.nesting.leaves.start < last {

@@ -6,6 +6,7 @@ abbrev pub invariant-parts : goal.invariant-parts
 invariant-parts l = record {
   line : l.position.line ≡ l.initial.position.line;
   document : l.self.bytes ≡ l.initial.self.bytes;
+  options : l.self.options ≡ l.initial.self.options;
 }
 
 abbrev pub decreases-parts : goal.decreases-parts
