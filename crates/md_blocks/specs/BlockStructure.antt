@@ -1,14 +1,18 @@
 -- Which blocks begin at the text of a line (the specification's appendix, phase 1, step 2). A text is
 -- the rest of a line after its indentation; `defined` is how many lines of the paragraph that is
 -- open before the line are definitions of links (4.7).
-use Rattle.std.specs.Prelude.{ℕ, Bool, Option, List, ◌==◌, ◌&&◌, ◌||◌, not, nat_lt, get_or}
+use Rattle.std.specs.Prelude.{ℕ, Bool, Option, List, [], ◌==◌, ◌&&◌, ◌||◌, not, nat_lt, get_or}
 use Rattle.std.specs.Prelude.{Some, None, if◌then◌else◌}
 use Rattle.md_blocks.specs.declared.options.MarkdownOptions.{MarkdownOptions}
 use Rattle.md_blocks.specs.Marks.{opens_item, may_interrupt}
+use Rattle.md_blocks.specs.Leaves.{is_underline}
+use Rattle.md_blocks.specs.Entries.{Line}
 use Rattle.md_blocks.specs.Rests.{Rest, unindented}
-use Rattle.md_blocks.specs.States.{State}
+use Rattle.md_blocks.specs.States.{State, Leaf, InParagraph}
+use Rattle.md_blocks.specs.LeafBlocks.{break_begun, code_begun, heading_begun, heading_underlined}
+use Rattle.md_blocks.specs.LeafBlocks.{definitions_taken, html_begun, kind_begun}
 use Rattle.md_blocks.specs.ContainerBlocks.{Begun, quote_begun, item_begun}
-use Rattle.md_blocks.specs.OwnBlocks.{footnote_begun, after_footnote}
+use Rattle.md_blocks.specs.OwnBlocks.{footnote_begun, after_footnote, math_begun}
 
 -- 5.1: a quote, unless it would be the 97th container that is open, by the parser's own rule
 abbrev pub quote_at : ℕ → ℕ → Rest → State → Option Begun
@@ -40,3 +44,53 @@ container_begun options defined depth in_paragraph rest ending state =
     if first == 62 then quote_at defined depth rest state
     else if first == 91 then footnote_at options.footnotes defined depth rest state
     else item_at defined depth in_paragraph rest ending state
+
+-- the lines of the open paragraph
+abbrev pub paragraph_lines : Leaf → List Line
+paragraph_lines leaf = elim leaf [ InParagraph lines ↦ lines | _ ↦ [] ]
+
+-- 4.3: whether a text that begins with a byte may underline the paragraph that the line continues
+abbrev pub may_underline : Bool → ℕ → Bool
+may_underline in_paragraph mark = in_paragraph && (mark == 61 || mark == 45)
+
+-- the state where the line makes no heading: a paragraph that it underlines has only definitions,
+-- and loses them
+abbrev pub unless_underlined : ℕ → Bool → Rest → State → State
+unless_underlined defined in_paragraph rest state =
+    let text = unindented rest in
+    let mark = get_or text 0 0 in
+    if may_underline in_paragraph mark && is_underline mark text
+    then definitions_taken defined (paragraph_lines state.leaf) state else state
+
+-- 4.1: a thematic break, at one of its marks
+abbrev pub break_at : ℕ → ℕ → List ℕ → State → Option State
+break_at defined depth text state =
+    let mark = get_or text 0 0 in
+    if mark == 42 || (mark == 45 || mark == 95) then break_begun defined mark depth text state
+    else None
+
+-- 4.3, 4.1: the underline of a heading, or else a thematic break
+abbrev pub marks_begun : ℕ → ℕ → Bool → Rest → State → Option State
+marks_begun defined depth in_paragraph rest state =
+    let text = unindented rest in
+    let mark = get_or text 0 0 in
+    let left = unless_underlined defined in_paragraph rest state in
+    if may_underline in_paragraph mark
+    then elim (heading_underlined defined mark text (paragraph_lines state.leaf) state) [
+      | Some heading ↦ Some heading
+      | None ↦ break_at defined depth text left
+    ] else break_at defined depth text state
+
+-- 4 Leaf blocks: the one that begins at a text, by its first byte; `is_alone` says whether the text
+-- is a tag alone on its line (6.10), which interrupts no paragraph
+abbrev pub leaf_begun : MarkdownOptions → Bool → ℕ → ℕ → Bool → Rest → List ℕ → State → Option State
+leaf_begun options is_alone defined depth in_paragraph rest ending state =
+    let text = unindented rest in
+    let first = get_or text 0 0 in
+    if first == 35 then heading_begun defined depth text state
+    else if first == 96 || first == 126 then code_begun defined first depth rest state
+    else if first == 36
+    then (if options.math then math_begun defined depth rest ending state else None)
+    else if first == 60
+    then html_begun defined depth (kind_begun (is_alone && not in_paragraph) text) rest ending state
+    else marks_begun defined depth in_paragraph rest state

@@ -14,6 +14,7 @@ ghost use Rattle.md_blocks.specs.Positions.{rest_of, text_at};
 ghost use Rattle.md_blocks.specs.Rests.{passed, rest_at};
 ghost use Rattle.md_blocks.specs.Stack.{innermost};
 ghost use Rattle.md_blocks.specs.States.{is_in_paragraph};
+ghost use Rattle.md_blocks.specs.declared.pass.OpenLeaf.TheVariants as leaf;
 
 use crate::block::{Block, ContainerKind};
 use crate::marker::{Marker, footnote_label, item_marker, task_box};
@@ -78,7 +79,8 @@ impl<'a> Pass<'a> {
     /// Whether a line that continues all open containers, or not, continues a paragraph.
     #[inline(always)]
     pub(crate) fn is_in_paragraph(&self, is_whole: bool) -> bool
-        ensures { result ≡ (is_whole && is_in_paragraph (state_of self.now).leaf) }
+        ensures value { result ≡ (is_whole && is_in_paragraph (state_of self.now).leaf) }
+        ensures is { IsTrue result → self.now.leaf ≡ leaf.Paragraph }
     {
         is_whole && self.leaf.is_paragraph()
     }

@@ -2,12 +2,15 @@
 
 ghost use Rattle.std.specs.Prelude.{◌≡◌, ◌<◌, ◌∷◌, [], true, false, ℕ, Bool, IfOk, OnOk};
 ghost use Rattle.std.specs.Prelude.{IfSome, is_some, length, vec_len};
+ghost use Rattle.std.specs.Prelude.{◌&&◌, ◌||◌, ◌==◌, get_or};
+ghost use Rattle.md_blocks.specs.BlockStructure.{break_at, leaf_begun, marks_begun, may_underline};
+ghost use Rattle.md_blocks.specs.BlockStructure.{unless_underlined};
 ghost use Rattle.md_blocks.specs.LeafBlocks.{break_begun, code_begun, heading_begun, if_begun};
 ghost use Rattle.md_blocks.specs.Entries.{last_line};
 ghost use Rattle.md_blocks.specs.LeafBlocks.{definitions_taken, heading_underlined, html_begun};
 ghost use Rattle.md_blocks.specs.LeafBlocks.{indented_read, is_table, kind_begun, lacking_after};
 ghost use Rattle.md_blocks.specs.LeafBlocks.{paragraph_split, row_read, table_begun, text_read};
-ghost use Rattle.md_blocks.specs.Leaves.{delimiters};
+ghost use Rattle.md_blocks.specs.Leaves.{delimiters, is_underline};
 ghost use Rattle.md_blocks.specs.OwnBlocks.{math_begun};
 ghost use Rattle.md_blocks.specs.States.{is_in_paragraph};
 ghost use Rattle.md_blocks.specs.declared.pass.OpenLeaf.TheVariants as leaf;
@@ -80,25 +83,85 @@ impl<'a> Pass<'a> {
         is_whole: bool,
     ) -> Result<bool, AllocError>
         requires in_document { IsIn self.old.bytes.now position.now }
+        ensures state { IfOk result (λ has_begun. byte ≡ get_or (text_at position.now) 0 0
+            → (defined : ℕ) × (is_alone : Bool) × (leaf_begun self.old.options.now is_alone defined
+            depth (is_whole && is_in_paragraph (state_of self.old).leaf) (rest_of position.now)
+            (ending_of self.old.bytes.now position.now) (state_of self.old)
+            ≡ if_begun has_begun (state_of self.new))
+            × (has_begun ≡ false → state_of self.new ≡ unless_underlined defined
+            (is_whole && is_in_paragraph (state_of self.old).leaf) (rest_of position.now)
+            (state_of self.old))) }
         ensures document { self.new.bytes ≡ self.old.bytes }
         ensures options { self.new.options ≡ self.old.options }
     {
-        let in_paragraph = is_whole && self.leaf.is_paragraph();
-        match byte {
-            b'#' => self.begin_heading(position, depth),
-            b'`' | b'~' => self.begin_fenced(byte, position, depth),
-            b'$' if self.options.math => self.begin_math(position, depth),
-            b'<' => self.begin_html(position, depth, in_paragraph),
-            b'=' if in_paragraph => self.begin_underlined(byte, position),
-            b'-' if in_paragraph => {
-                Ok(
-                    self.begin_underlined(byte, position)?
-                        || self.begin_break(byte, position, depth)?,
-                )
-            }
-            b'*' | b'-' | b'_' => self.begin_break(byte, position, depth),
-            _ => Ok(false),
+        if byte == b'#' {
+            return self.begin_heading(position, depth);
         }
+        if is_fence_mark(byte) {
+            return self.begin_fenced(byte, position, depth);
+        }
+        if byte == b'$' {
+            if !self.options.math {
+                return Ok(false);
+            }
+            return self.begin_math(position, depth);
+        }
+        let in_paragraph = self.is_in_paragraph(is_whole);
+        if byte == b'<' {
+            return self.begin_html(position, depth, in_paragraph);
+        }
+        self.begin_of_marks(byte, position, depth, in_paragraph)
+    }
+
+    /// Changes the open paragraph to a heading, or else reads a thematic break, if the byte is a
+    /// mark of these; returns whether the line is one.
+    #[inline(always)]
+    fn begin_of_marks(
+        &mut self,
+        byte: u8,
+        position: &Position<'_>,
+        depth: usize,
+        in_paragraph: bool,
+    ) -> Result<bool, AllocError>
+        requires in_document { IsIn self.old.bytes.now position.now }
+        requires is_paragraph { in_paragraph ≡ true → self.old.leaf ≡ leaf.Paragraph }
+        ensures state { IfOk result (λ has_begun. byte ≡ get_or (text_at position.now) 0 0
+            → (defined : ℕ) × (marks_begun defined depth in_paragraph (rest_of position.now)
+            (state_of self.old) ≡ if_begun has_begun (state_of self.new))
+            × (has_begun ≡ false → state_of self.new ≡ unless_underlined defined in_paragraph
+            (rest_of position.now) (state_of self.old))) }
+        ensures document { self.new.bytes ≡ self.old.bytes }
+        ensures options { self.new.options ≡ self.old.options }
+    {
+        if !may_underline(in_paragraph, byte) {
+            return self.begin_break_at(byte, position, depth);
+        }
+        if self.begin_underlined(byte, position)? {
+            return Ok(true);
+        }
+        self.begin_break_at(byte, position, depth)
+    }
+
+    /// Reads a thematic break, if the byte is a mark of it.
+    #[inline(always)]
+    fn begin_break_at(
+        &mut self,
+        byte: u8,
+        position: &Position<'_>,
+        depth: usize,
+    ) -> Result<bool, AllocError>
+        ensures state { IfOk result (λ has_begun. byte ≡ get_or (text_at position.now) 0 0
+            → break_at (defined_by self.old self.new) depth (text_at position.now)
+            (state_of self.old) ≡ if_begun has_begun (state_of self.new)) }
+        ensures same { IfOk result (λ has_begun.
+            has_begun ≡ false → state_of self.new ≡ state_of self.old) }
+        ensures document { self.new.bytes ≡ self.old.bytes }
+        ensures options { self.new.options ≡ self.old.options }
+    {
+        if !is_break_mark(byte) {
+            return Ok(false);
+        }
+        self.begin_break(byte, position, depth)
     }
 
     /// Reads a heading with number signs.
@@ -220,6 +283,8 @@ impl<'a> Pass<'a> {
         ensures rest { IfOk result (λ has_begun. has_begun ≡ false → state_of self.new
             ≡ definitions_taken (defined_by self.old self.new) (leaf_lines self.old)
             (state_of self.old)) }
+        ensures same { IfOk result (λ _. is_underline mark (text_at position.now) ≡ false
+            → self.new ≡ self.old) }
         ensures document { self.new.bytes ≡ self.old.bytes }
         ensures options { self.new.options ≡ self.old.options }
     {
@@ -413,6 +478,30 @@ fn missing_after(columns: usize, cells: usize, missing: usize) -> Option<usize>
     } else {
         None
     }
+}
+
+/// Whether a line that begins with a byte may underline a paragraph.
+#[inline(always)]
+fn may_underline(in_paragraph: bool, byte: u8) -> bool
+    ensures { result ≡ may_underline in_paragraph byte }
+{
+    in_paragraph && (byte == b'=' || byte == b'-')
+}
+
+/// Whether a byte is a mark of fences of code.
+#[inline(always)]
+fn is_fence_mark(byte: u8) -> bool
+    ensures { result ≡ (byte == 96 || byte == 126) }
+{
+    matches!(byte, b'`' | b'~')
+}
+
+/// Whether a byte is a mark of thematic breaks.
+#[inline(always)]
+fn is_break_mark(byte: u8) -> bool
+    ensures { result ≡ (byte == 42 || (byte == 45 || byte == 95)) }
+{
+    matches!(byte, b'*' | b'-' | b'_')
 }
 
 /// Whether a byte can only begin text.

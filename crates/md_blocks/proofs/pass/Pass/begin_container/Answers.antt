@@ -176,7 +176,7 @@ returns-clause-state c =
           (ne_eqb c.args.byte 62 c.if-byte-eq62.false)
           ∙ ap (λ so. by_tests false so p.options.now found.0 depth on rest ending (state_of p))
           (ne_eqb c.args.byte 91 c.if-byte-eq91.false)
-          ∙ ap (λ so. item_at found.0 depth so rest ending (state_of p)) (sym c.is_in_paragraph-in_paragraph.ensures)
+          ∙ ap (λ so. item_at found.0 depth so rest ending (state_of p)) (sym c.is_in_paragraph-in_paragraph.ensures.value)
           ∙ found.1,
     ))
     c.begin_marked.ensures.state
