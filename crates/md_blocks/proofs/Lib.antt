@@ -10,3 +10,5 @@ pub mod LineLemmas
 pub mod Markers
 pub mod Fences
 pub mod Steps
+pub mod Choices
+pub mod TextBytes

@@ -8,10 +8,10 @@ use Rattle.std.proofs.lemmas.List.{drop_all}
 use Rattle.md_blocks.specs.BlockStructure.{break_at, may_underline, paragraph_lines}
 use Rattle.md_blocks.specs.ContainerBlocks.{Begun}
 use Rattle.md_blocks.specs.Entries.{Break, Heading, Line, OnlyDefinitions, Paragraph}
-use Rattle.md_blocks.specs.LeafBlocks.{definitions_taken, heading_underlined, if_begun}
+use Rattle.md_blocks.specs.LeafBlocks.{definitions_taken, heading_underlined, if_begun, line_added, row_read, text_read}
 use Rattle.md_blocks.specs.Leaves.{is_break, is_underline}
 use Rattle.md_blocks.specs.Rests.{Rest}
-use Rattle.md_blocks.specs.States.{State, InParagraph, NoLeaf, blank_written, containers_closed}
+use Rattle.md_blocks.specs.States.{State, InParagraph, NoLeaf, blank_written, containers_closed, is_in_paragraph, room_for_text}
 use Rattle.md_blocks.specs.States.{leaf_closed, list_closed, with_a_child, with_entries, with_leaf}
 
 -- two facts of a result are a third one
@@ -69,7 +69,7 @@ left_of text defined on state =
     if may_underline on (get_or text 0 0) && is_underline (get_or text 0 0) text
     then definitions_taken defined (paragraph_lines state.leaf) state else state
 
-abbrev or_break : ℕ → ℕ → List ℕ → State → Option State → Option State
+abbrev pub or_break : ℕ → ℕ → List ℕ → State → Option State → Option State
 or_break defined depth text left found = elim found [
   | Some heading ↦ Some heading
   | None ↦ break_at defined depth text left
@@ -139,7 +139,7 @@ left_is mark defined on is_line text state is may line =
     then definitions_taken defined (paragraph_lines state.leaf) state else state) may
     ∙ ap (λ so. if so then definitions_taken defined (paragraph_lines state.leaf) state else state) line
 
-all_defined : (rest : Bool) (state new : State) → if_begun rest new ≡ None → rest ≡ false
+pub all_defined : (rest : Bool) (state new : State) → if_begun rest new ≡ None → rest ≡ false
 all_defined false state new is = refl
 all_defined true state new is = grind arith
 
@@ -200,3 +200,21 @@ pub alone_is : (alone on : Bool) → (on ≡ true → alone ≡ false) → (alon
 alone_is true true is = sym (is refl)
 alone_is true false is = refl
 alone_is false on is = refl
+
+-- a table, or else text
+abbrev pub or_text : Option State → State → State
+or_text found text = elim found [ Some table ↦ table | None ↦ text ]
+
+-- text in a paragraph is read alike, however many of its lines are definitions
+pub texts_alike : (one other depth : ℕ) (whole : Bool) (line : Line) (state : State) →
+    is_in_paragraph state.leaf ≡ true →
+    text_read one depth whole line state ≡ text_read other depth whole line state
+texts_alike one other depth whole line state is =
+    by_row one depth whole line state is ∙ sym (by_row other depth whole line state is) where
+      by_row : (n depth : ℕ) (whole : Bool) (line : Line) (state : State) →
+          is_in_paragraph state.leaf ≡ true → text_read n depth whole line state ≡ line_added line state
+      by_row n depth whole line state is = ap (λ so. if so then line_added line state
+          else elim (if whole then row_read line state else None) [
+            | Some longer ↦ longer
+            | None ↦ with_leaf (InParagraph (line ∷ [])) (room_for_text n depth state)
+          ]) is

@@ -7,10 +7,11 @@ use Rattle.md_blocks.specs.declared.options.MarkdownOptions.{MarkdownOptions}
 use Rattle.md_blocks.specs.Marks.{opens_item, may_interrupt}
 use Rattle.md_blocks.specs.Leaves.{is_underline}
 use Rattle.md_blocks.specs.Entries.{Line}
-use Rattle.md_blocks.specs.Rests.{Rest, unindented}
-use Rattle.md_blocks.specs.States.{State, Leaf, InParagraph}
+use Rattle.md_blocks.specs.Rests.{Rest, indent, unindented}
+use Rattle.md_blocks.specs.States.{State, Leaf, InParagraph, is_in_paragraph, without_blank}
 use Rattle.md_blocks.specs.LeafBlocks.{break_begun, code_begun, heading_begun, heading_underlined}
-use Rattle.md_blocks.specs.LeafBlocks.{definitions_taken, html_begun, kind_begun}
+use Rattle.md_blocks.specs.LeafBlocks.{a_line, definitions_taken, html_begun, indented_read, kind_begun, table_begun}
+use Rattle.md_blocks.specs.LeafBlocks.{text_read}
 use Rattle.md_blocks.specs.ContainerBlocks.{Begun, quote_begun, item_begun}
 use Rattle.md_blocks.specs.OwnBlocks.{footnote_begun, after_footnote, math_begun}
 
@@ -94,3 +95,47 @@ leaf_begun options is_alone defined depth in_paragraph rest ending state =
     else if first == 60
     then html_begun defined depth (kind_begun (is_alone && not in_paragraph) text) rest ending state
     else marks_begun defined depth in_paragraph rest state
+
+-- 4.8, GFM 4.10: text where no other block begins: a table begins at a delimiter row in a paragraph,
+-- and other text is read
+abbrev pub text_begun : MarkdownOptions → ℕ → ℕ → Bool → Rest → List ℕ → State → State
+text_begun options defined depth is_whole rest ending state =
+    let text = unindented rest in
+    let found = if is_whole && is_in_paragraph state.leaf
+    then table_begun options.tables defined text ending (paragraph_lines state.leaf) state
+    else None in
+    elim found [
+      | Some table ↦ table
+      | None ↦ text_read defined depth is_whole (a_line text ending) state
+    ]
+
+-- 4.4: text after four columns or more is code, unless a paragraph is open
+abbrev pub deep_read : ℕ → ℕ → Bool → Rest → List ℕ → State → State
+deep_read defined depth is_whole rest ending state =
+    if is_in_paragraph state.leaf
+    then text_read defined depth is_whole (a_line (unindented rest) ending) state
+    else indented_read depth is_whole rest ending state
+
+-- what a text does: it ends the line in some state, or begins a container with a rest of the line
+pub data Step : Type 0 where
+  Ends : State → Step
+  GoesOn : Begun → Step
+
+-- the block at the text that is left of a line
+abbrev pub block_begun : MarkdownOptions → Bool → ℕ → ℕ → Bool → Rest → List ℕ → State → Step
+block_begun options is_alone defined depth is_whole rest ending state =
+    let in_paragraph = is_whole && is_in_paragraph state.leaf in
+    let left = unless_underlined defined in_paragraph rest state in
+    elim (leaf_begun options is_alone defined depth in_paragraph rest ending state) [
+      | Some begun ↦ Ends (without_blank begun)
+      | None ↦ elim (container_begun options defined depth in_paragraph rest ending left) [
+        | Some begun ↦ GoesOn begun
+        | None ↦ Ends (text_begun options defined depth is_whole rest ending left)
+      ]
+    ]
+
+abbrev pub step_read : MarkdownOptions → Bool → ℕ → ℕ → Bool → Rest → List ℕ → State → Step
+step_read options is_alone defined depth is_whole rest ending state =
+    if nat_lt (indent rest) 4
+    then block_begun options is_alone defined depth is_whole rest ending state
+    else Ends (deep_read defined depth is_whole rest ending state)

@@ -1,4 +1,7 @@
 -- For the code alone: a pass within a line.
+use Rattle.std.specs.Prelude.{ℕ, Bool, ◌||◌, not, nat_lt}
+use Rattle.md_lines.specs.Classes.{is_in}
+use Rattle.md_lines.specs.declared.class.Class.TheVariants.{Alphabetic}
 use Rattle.md_blocks.specs.declared.pass.Pass.{Pass}
 use Rattle.md_blocks.specs.declared.position.Position.{Position}
 use Rattle.md_blocks.specs.ContainerBlocks.{Begun}
@@ -8,3 +11,7 @@ use Rattle.md_blocks.specs.Positions.{rest_of}
 -- the state, and what is left of the line at a position
 abbrev pub begun_of : Pass → Position → Begun
 begun_of pass position = record { state = state_of pass; rest = rest_of position }
+
+-- whether a byte begins nothing but text
+abbrev pub is_text : ℕ → Bool
+is_text byte = not (nat_lt byte 128) || is_in Alphabetic byte

@@ -2,9 +2,11 @@
 
 ghost use Rattle.std.specs.Prelude.{◌≡◌, ◌<◌, ◌∷◌, [], true, false, ℕ, Bool, IfOk, OnOk};
 ghost use Rattle.std.specs.Prelude.{IfSome, is_some, length, vec_len};
-ghost use Rattle.std.specs.Prelude.{◌&&◌, ◌||◌, ◌==◌, get_or};
+ghost use Rattle.std.specs.Prelude.{◌&&◌, ◌||◌, ◌==◌, get_or, IsTrue, if◌then◌else◌};
 ghost use Rattle.md_blocks.specs.BlockStructure.{break_at, leaf_begun, marks_begun, may_underline};
-ghost use Rattle.md_blocks.specs.BlockStructure.{unless_underlined};
+ghost use Rattle.md_blocks.specs.BlockStructure.{Ends, GoesOn, block_begun, deep_read};
+ghost use Rattle.md_blocks.specs.BlockStructure.{step_read, text_begun, unless_underlined};
+ghost use Rattle.md_blocks.specs.Progress.{is_text};
 ghost use Rattle.md_blocks.specs.LeafBlocks.{break_begun, code_begun, heading_begun, if_begun};
 ghost use Rattle.md_blocks.specs.Entries.{last_line};
 ghost use Rattle.md_blocks.specs.LeafBlocks.{definitions_taken, heading_underlined, html_begun};
@@ -32,6 +34,7 @@ const MOST_MISSING: usize = 1 << 19;
 impl<'a> Pass<'a> {
     ghost use Rattle.md_blocks.specs.Passes.{defined_by, leaf_lines, state_of};
     ghost use Rattle.md_blocks.specs.Positions.{IsIn, ending_of, rest_of, text_at, text_line};
+    ghost use Rattle.md_blocks.specs.Progress.{begun_of};
 
     /// Reads a line after the prefixes of `matched` open blocks, if no leaf accepted it; `is_whole`
     /// says that these are all open blocks.
@@ -48,21 +51,8 @@ impl<'a> Pass<'a> {
         let mut depth = matched;
         let mut has_begun = false;
         'parts: while let Some(byte) = position.byte() {
-            if position.indent >= CODE_INDENT && !self.leaf.is_paragraph() {
-                return self.read_indented(position, depth, is_whole);
-            }
-            if position.indent >= CODE_INDENT || is_text(byte) {
-                return self.read_text(position, depth, is_whole);
-            }
-            if self.begin_leaf(byte, position, depth, is_whole)? {
-                self.blank_line = None;
+            if !self.begin_block(byte, position, depth, is_whole)? {
                 return Ok(());
-            }
-            if !self.begin_container(byte, position, depth, is_whole)? {
-                if is_whole && self.leaf.is_paragraph() && self.begin_table(position)? {
-                    return Ok(());
-                }
-                return self.read_text(position, depth, is_whole);
             }
             has_begun = true;
             depth = self.nesting.depth();
@@ -72,6 +62,124 @@ impl<'a> Pass<'a> {
         } else {
             self.read_blank_line(position, matched, is_whole)
         }
+    }
+
+    /// Begins a block at the text, or reads the line as text; returns whether a container begins,
+    /// after which the rest of the line is read.
+    #[inline(always)]
+    fn begin_block(
+        &mut self,
+        byte: u8,
+        position: &mut Position<'_>,
+        depth: usize,
+        is_whole: bool,
+    ) -> Result<bool, AllocError>
+        requires in_document { IsIn self.old.bytes.now position.old }
+        requires has_text { position.old.text < length position.old.line.now }
+        ensures goes_on { IfOk result (λ goes_on. IsTrue goes_on
+            → position.old.at < position.new.at) }
+        ensures state { IfOk result (λ goes_on. byte ≡ get_or (text_at position.old) 0 0
+            → (defined : ℕ) × (is_alone : Bool) × (step_read self.old.options.now is_alone defined
+            depth is_whole (rest_of position.old) (ending_of self.old.bytes.now position.old)
+            (state_of self.old)
+            ≡ (if goes_on then GoesOn (begun_of self.new position.new) else Ends (state_of self.new)))) }
+        ensures same_line { position.new.line ≡ position.old.line }
+        ensures same_ending { position.new.ending ≡ position.old.ending }
+        ensures document { self.new.bytes ≡ self.old.bytes }
+        ensures options { self.new.options ≡ self.old.options }
+    {
+        if position.indent >= CODE_INDENT {
+            self.read_deep(position, depth, is_whole)?;
+            return Ok(false);
+        }
+        if is_text(byte) {
+            self.read_text(position, depth, is_whole)?;
+            return Ok(false);
+        }
+        self.begin_at_mark(byte, position, depth, is_whole)
+    }
+
+    /// Reads text after the indentation of code.
+    #[inline(always)]
+    fn read_deep(
+        &mut self,
+        position: &mut Position<'_>,
+        depth: usize,
+        is_whole: bool,
+    ) -> Result<(), AllocError>
+        requires in_document { IsIn self.old.bytes.now position.old }
+        ensures state { OnOk result (state_of self.new ≡ deep_read (defined_by self.old self.new)
+            depth is_whole (rest_of position.old) (ending_of self.old.bytes.now position.old)
+            (state_of self.old)) }
+        ensures same_line { position.new.line ≡ position.old.line }
+        ensures same_ending { position.new.ending ≡ position.old.ending }
+        ensures document { self.new.bytes ≡ self.old.bytes }
+        ensures options { self.new.options ≡ self.old.options }
+    {
+        if self.leaf.is_paragraph() {
+            return self.read_text(position, depth, is_whole);
+        }
+        self.read_indented(position, depth, is_whole)
+    }
+
+    /// Begins a block at a byte that may be its mark, or reads the line as text; returns whether a
+    /// container begins.
+    #[inline(always)]
+    fn begin_at_mark(
+        &mut self,
+        byte: u8,
+        position: &mut Position<'_>,
+        depth: usize,
+        is_whole: bool,
+    ) -> Result<bool, AllocError>
+        requires in_document { IsIn self.old.bytes.now position.old }
+        requires has_text { position.old.text < length position.old.line.now }
+        requires not_code { position.old.indent < 4 }
+        ensures goes_on { IfOk result (λ goes_on. IsTrue goes_on
+            → position.old.at < position.new.at) }
+        ensures state { IfOk result (λ goes_on. byte ≡ get_or (text_at position.old) 0 0
+            → (defined : ℕ) × (is_alone : Bool) × (block_begun self.old.options.now is_alone defined
+            depth is_whole (rest_of position.old) (ending_of self.old.bytes.now position.old)
+            (state_of self.old)
+            ≡ (if goes_on then GoesOn (begun_of self.new position.new) else Ends (state_of self.new)))) }
+        ensures same_line { position.new.line ≡ position.old.line }
+        ensures same_ending { position.new.ending ≡ position.old.ending }
+        ensures document { self.new.bytes ≡ self.old.bytes }
+        ensures options { self.new.options ≡ self.old.options }
+    {
+        if self.begin_leaf(byte, position, depth, is_whole)? {
+            self.blank_line = None;
+            return Ok(false);
+        }
+        if self.begin_container(byte, position, depth, is_whole)? {
+            return Ok(true);
+        }
+        self.begin_text(position, depth, is_whole)?;
+        Ok(false)
+    }
+
+    /// Begins a table, or reads a line of text.
+    #[inline(always)]
+    fn begin_text(
+        &mut self,
+        position: &Position<'_>,
+        depth: usize,
+        is_whole: bool,
+    ) -> Result<(), AllocError>
+        requires in_document { IsIn self.old.bytes.now position.now }
+        ensures state { OnOk result ((defined : ℕ) × (state_of self.new
+            ≡ text_begun self.old.options.now defined depth is_whole (rest_of position.now)
+            (ending_of self.old.bytes.now position.now) (state_of self.old))) }
+        ensures document { self.new.bytes ≡ self.old.bytes }
+        ensures options { self.new.options ≡ self.old.options }
+    {
+        if !self.is_in_paragraph(is_whole) {
+            return self.read_text(position, depth, is_whole);
+        }
+        if self.begin_table(position)? {
+            return Ok(());
+        }
+        self.read_text(position, depth, is_whole)
     }
 
     /// Begins a leaf if the byte starts one, or reads its only line; returns whether it does.
@@ -339,6 +447,8 @@ impl<'a> Pass<'a> {
         ensures state { OnOk result (state_of self.new ≡ indented_read depth is_whole
             (rest_of position.old) (ending_of self.old.bytes.now position.old)
             (state_of self.old)) }
+        ensures same_line { position.new.line ≡ position.old.line }
+        ensures same_ending { position.new.ending ≡ position.old.ending }
         ensures document { self.new.bytes ≡ self.old.bytes }
         ensures options { self.new.options ≡ self.old.options }
     {
@@ -506,6 +616,8 @@ fn is_break_mark(byte: u8) -> bool
 
 /// Whether a byte can only begin text.
 #[inline(always)]
-fn is_text(byte: u8) -> bool {
+fn is_text(byte: u8) -> bool
+    ensures { result ≡ is_text byte }
+{
     byte >= 128 || is(byte, Class::Alphabetic)
 }
