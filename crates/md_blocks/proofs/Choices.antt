@@ -83,7 +83,7 @@ some_if : {A : Type 0} (is : Bool) (x y : A) → (if is then Some x else None) �
 some_if true x y is = grind arith
 some_if false x y is = refl
 
-abbrev followed : Rest → Option State → Option Begun
+abbrev pub followed : Rest → Option State → Option Begun
 followed rest found = elim found [ Some begun ↦ Some (with_rest rest begun) | None ↦ None ]
 
 none_followed : (is : Bool) (rest : Rest) (x y : State) → followed rest (if_begun is x) ≡ None →

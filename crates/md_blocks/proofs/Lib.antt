@@ -12,3 +12,4 @@ pub mod Fences
 pub mod Steps
 pub mod Choices
 pub mod TextBytes
+pub mod Folds

@@ -53,7 +53,7 @@ alike_taken defined lines state all one other =
 abbrev pub room_after : ℕ → State → State
 room_after depth closed = blank_written (with_a_child (list_closed (containers_closed depth closed)))
 
-abbrev break_after : ℕ → List ℕ → State → Option State
+abbrev pub break_after : ℕ → List ℕ → State → Option State
 break_after depth text closed =
     let mark = get_or text 0 0 in
     if mark == 42 || (mark == 45 || mark == 95)

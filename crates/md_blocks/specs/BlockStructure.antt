@@ -2,16 +2,16 @@
 -- the rest of a line after its indentation; `defined` is how many lines of the paragraph that is
 -- open before the line are definitions of links (4.7).
 use Rattle.std.specs.Prelude.{ℕ, Bool, Option, List, [], ◌==◌, ◌&&◌, ◌||◌, not, nat_lt, get_or}
-use Rattle.std.specs.Prelude.{Some, None, if◌then◌else◌}
+use Rattle.std.specs.Prelude.{Some, None, zero, suc, length, true, if◌then◌else◌}
 use Rattle.md_blocks.specs.declared.options.MarkdownOptions.{MarkdownOptions}
 use Rattle.md_blocks.specs.Marks.{opens_item, may_interrupt}
 use Rattle.md_blocks.specs.Leaves.{is_underline}
 use Rattle.md_blocks.specs.Entries.{Line}
-use Rattle.md_blocks.specs.Rests.{Rest, indent, unindented}
+use Rattle.md_blocks.specs.Rests.{Rest, indent, is_blank_rest, unindented}
 use Rattle.md_blocks.specs.States.{State, Leaf, InParagraph, is_in_paragraph, without_blank}
 use Rattle.md_blocks.specs.LeafBlocks.{break_begun, code_begun, heading_begun, heading_underlined}
 use Rattle.md_blocks.specs.LeafBlocks.{a_line, definitions_taken, html_begun, indented_read, kind_begun, table_begun}
-use Rattle.md_blocks.specs.LeafBlocks.{text_read}
+use Rattle.md_blocks.specs.LeafBlocks.{blank_read, blank_waits, text_read}
 use Rattle.md_blocks.specs.ContainerBlocks.{Begun, quote_begun, item_begun}
 use Rattle.md_blocks.specs.OwnBlocks.{footnote_begun, after_footnote, math_begun}
 
@@ -139,3 +139,24 @@ step_read options is_alone defined depth is_whole rest ending state =
     if nat_lt (indent rest) 4
     then block_begun options is_alone defined depth is_whole rest ending state
     else Ends (deep_read defined depth is_whole rest ending state)
+
+-- a blank rest of a line: a blank line, if no container begins in the line
+abbrev pub blank_or : ℕ → ℕ → Bool → Bool → Bool → Rest → List ℕ → State → State
+blank_or defined depth is_whole is_ended has_begun rest ending state =
+    if has_begun then state
+    else blank_waits is_ended (blank_read defined depth is_whole rest ending state)
+
+-- the blocks of a line after what it continues: containers, each at the rest that the one before
+-- leaves, and then what ends the line. Each takes a byte, so the length of the rest is enough `fuel`.
+-- At most one paragraph is open before the line, so that one number `defined` serves all steps
+abbrev pub begun : ℕ → MarkdownOptions → Bool → ℕ → ℕ → Bool → Bool → Bool → Rest → List ℕ → State →
+    State
+begun zero options is_alone defined depth is_whole is_ended has_begun rest ending state =
+    blank_or defined depth is_whole is_ended has_begun rest ending state
+begun (suc fuel) options is_alone defined depth is_whole is_ended has_begun rest ending state =
+    if is_blank_rest rest then blank_or defined depth is_whole is_ended has_begun rest ending state
+    else elim (step_read options is_alone defined depth is_whole rest ending state) [
+      | Ends after ↦ after
+      | GoesOn next ↦ begun fuel options is_alone defined (length next.state.containers) is_whole
+          is_ended true next.rest ending next.state
+    ]

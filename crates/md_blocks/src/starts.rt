@@ -2,9 +2,9 @@
 
 ghost use Rattle.std.specs.Prelude.{◌≡◌, ◌<◌, ◌∷◌, [], true, false, ℕ, Bool, IfOk, OnOk};
 ghost use Rattle.std.specs.Prelude.{IfSome, is_some, length, vec_len};
-ghost use Rattle.std.specs.Prelude.{◌&&◌, ◌||◌, ◌==◌, get_or, IsTrue, if◌then◌else◌};
+ghost use Rattle.std.specs.Prelude.{◌&&◌, ◌||◌, ◌==◌, get_or, IsTrue, nat_lt, if◌then◌else◌};
 ghost use Rattle.md_blocks.specs.BlockStructure.{break_at, leaf_begun, marks_begun, may_underline};
-ghost use Rattle.md_blocks.specs.BlockStructure.{Ends, GoesOn, block_begun, deep_read};
+ghost use Rattle.md_blocks.specs.BlockStructure.{Ends, GoesOn, begun, block_begun, deep_read};
 ghost use Rattle.md_blocks.specs.BlockStructure.{step_read, text_begun, unless_underlined};
 ghost use Rattle.md_blocks.specs.Progress.{is_text};
 ghost use Rattle.md_blocks.specs.LeafBlocks.{break_begun, code_begun, heading_begun, if_begun};
@@ -45,6 +45,10 @@ impl<'a> Pass<'a> {
         is_whole: bool,
     ) -> Result<(), AllocError>
         requires in_document { IsIn self.old.bytes.now position.old }
+        ensures state { OnOk result ((defined : ℕ) × (is_alone : Bool) × (state_of self.new
+            ≡ begun (length (rest_of position.old).text) self.old.options.now is_alone defined matched
+            is_whole (nat_lt 0 position.old.ending) false (rest_of position.old)
+            (ending_of self.old.bytes.now position.old) (state_of self.old))) }
         ensures document { self.new.bytes ≡ self.old.bytes }
         ensures options { self.new.options ≡ self.old.options }
     {
