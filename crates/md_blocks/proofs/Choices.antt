@@ -18,15 +18,15 @@ use Rattle.md_blocks.specs.LeafBlocks.{a_line, break_begun, html_begun, if_begun
 use Rattle.md_blocks.specs.Progress.{is_text}
 use Rattle.md_blocks.specs.Leaves.{delimiters, is_break, is_delimiter_row, is_underline, opens_code, opens_math}
 use Rattle.md_blocks.specs.Tables.{row_cells}
-use Rattle.md_blocks.specs.Marks.{may_interrupt, number_length, opens_heading}
-use Rattle.md_blocks.specs.OwnBlocks.{after_footnote, footnote_begun, label_of, math_begun, opens_footnote}
+use Rattle.md_blocks.specs.Marks.{ends_marker, is_digit, may_interrupt, number_length, opens_heading}
+use Rattle.md_blocks.specs.OwnBlocks.{after_footnote, label_of, math_begun, opens_footnote}
 use Rattle.md_blocks.specs.Rests.{Rest, indent, passed, rest_at, skipped, unindented}
 use Rattle.md_blocks.specs.Stack.{innermost}
 use Rattle.md_blocks.specs.States.{State, InParagraph, InTable, NoLeaf, blank_written, containers_closed, is_in_paragraph}
 use Rattle.md_blocks.specs.States.{opened_in, with_entries, with_leaf, without_blank}
 use Rattle.md_blocks.proofs.Steps.{IsAlike, all_defined, alike_taken, left_of, marks_of, no_underline, or_break, or_text}
 use Rattle.md_blocks.proofs.Steps.{room_after, tried, unchanged, untried, with_rest}
-use Rattle.md_blocks.proofs.TextBytes.{and_false, and_mid, no_item, no_row, other}
+use Rattle.md_blocks.proofs.TextBytes.{and_false, and_mid, no_item, no_item_at, no_row, other}
 
 -- an item after the leaf is closed
 abbrev list_after : ℕ → Bool → List ℕ → ℕ → State → State
@@ -374,3 +374,14 @@ text_block options n depth whole rest ending state is =
     ∙ ap (container_or options n depth whole on rest ending) (unchanged first n on text state refl may)
     ∙ ap (λ found. or_ends found (text_begun options n depth whole rest ending state)) no_container
     ∙ ap Ends (texted options n on rest ending state read (no_row text is))
+
+-- no item begins at another byte
+pub no_item_begun : (n depth : ℕ) (on : Bool) (rest : Rest) (ending : List ℕ) (state : State) →
+    is_digit (get_or (unindented rest) 0 0) ≡ false →
+    ends_marker 0 (get_or (unindented rest) 0 0) ≡ false →
+    item_at n depth on rest ending state ≡ None
+no_item_begun n depth on rest ending state no_digit no_mark =
+    let text = unindented rest in
+    ap (λ so. if nat_lt depth 95 && (so && (not on || may_interrupt text))
+    then Some (item_begun n depth rest ending state) else None) (no_item_at text no_digit no_mark)
+    ∙ ap (λ so. if so then Some (item_begun n depth rest ending state) else None) (and_false (nat_lt depth 95))

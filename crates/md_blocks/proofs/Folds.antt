@@ -1,32 +1,30 @@
 -- The blocks of a line, with one number of definitions for all of them.
 use Rattle.std.proofs.Common.{ℕ, Bool, List, [], ◌∷◌, ◌≡◌, ◌∙◌, ◌==◌, ◌&&◌, ◌+◌, ◌≤◌, ◌<◌, true, false, refl, sym, ap, Option, Some, None}
-use Rattle.std.proofs.Common.{arith, length, drop, take, get_or, nat_lt, not, inl, inr, zero, suc, cond, min}
+use Rattle.std.proofs.Common.{arith, length, drop, get_or, nat_lt, not, inl, inr, zero, suc}
 use Rattle.std.specs.Prelude.{◌||◌, ◌-◌, ◌%◌, replicate, if◌then◌else◌}
 use Rattle.std.proofs.lemmas.List.{length-append, length-drop, length-replicate}
-use Rattle.std.specs.List.{prefix_len}
 use Rattle.std.proofs.lemmas.Bool.{cases_Bool, eqb-true, false≢true}
 use Rattle.md_blocks.specs.declared.html.HtmlKind.{HtmlKind}
 use Rattle.md_blocks.specs.declared.options.MarkdownOptions.{MarkdownOptions}
-use Rattle.md_blocks.specs.BlockStructure.{Step, Ends, GoesOn, begins_item, begun, blank_or, block_begun, break_at}
-use Rattle.md_blocks.specs.BlockStructure.{container_begun, deep_read, footnote_at, item_at, leaf_begun, may_underline}
+use Rattle.md_blocks.specs.BlockStructure.{Step, Ends, GoesOn, begins_item, begun, blank_or, block_begun}
+use Rattle.md_blocks.specs.BlockStructure.{container_begun, deep_read, footnote_at, item_at, leaf_begun}
 use Rattle.md_blocks.specs.BlockStructure.{paragraph_lines, quote_at, step_read, text_begun, unless_underlined}
-use Rattle.md_blocks.specs.ContainerBlocks.{Begun, is_list_of, is_task, item_begun, list_begun, padding, quote_begun}
-use Rattle.md_blocks.specs.ContainerBlocks.{task_begun}
-use Rattle.md_blocks.specs.Entries.{Break, Heading, Line}
+use Rattle.md_blocks.specs.ContainerBlocks.{Begun, is_list_of, is_task, item_begun, quote_begun}
+use Rattle.md_blocks.specs.Entries.{Heading, Line}
 use Rattle.md_blocks.specs.HtmlBlocks.{is_html_end}
 use Rattle.md_blocks.specs.LeafBlocks.{a_line, fence_of, first_word, heading_of, html_ended, if_begun, indented_read, kind_begun}
 use Rattle.md_blocks.specs.LeafBlocks.{line_added, row_read, table_begun, text_read}
-use Rattle.md_blocks.specs.Leaves.{is_break, opens_code, opens_math}
-use Rattle.md_blocks.specs.Marks.{ends_marker, is_apart, is_digit, may_interrupt, number_length, opens_heading, opens_item, run_of}
-use Rattle.md_blocks.specs.OwnBlocks.{after_dollars, after_footnote, footnote_begun, opens_footnote}
+use Rattle.md_blocks.specs.Leaves.{opens_code, opens_math}
+use Rattle.md_blocks.specs.Marks.{ends_marker, is_digit, number_length, opens_heading, run_of}
+use Rattle.md_blocks.specs.OwnBlocks.{after_dollars, after_footnote, opens_footnote}
 use Rattle.md_blocks.specs.Rests.{Rest, first_of, indent, is_blank_rest, is_none, passed, rest_at, text_of, unindented}
 use Rattle.md_blocks.specs.Stack.{innermost}
 use Rattle.md_blocks.specs.States.{State, Leaf, InFenced, InHtml, InIndented, InMath, InParagraph, InTable, NoLeaf}
 use Rattle.md_blocks.specs.States.{closed_to, containers_closed, is_in_paragraph, leaf_closed, list_closed, with_a_child}
 use Rattle.md_blocks.specs.States.{with_entries, with_leaf}
-use Rattle.md_blocks.proofs.Choices.{chosen, container_or, containers_alike, followed, leaf_or, or_ends, tested}
+use Rattle.md_blocks.proofs.Choices.{container_or, containers_alike, followed, leaf_or, no_item_begun, or_ends, tested}
 use Rattle.md_blocks.proofs.Steps.{IsAlike, break_after, or_text, room_after, with_rest}
-use Rattle.md_blocks.proofs.TextBytes.{and_false, and_mid}
+use Rattle.md_blocks.proofs.TextBytes.{and_false}
 
 -- a leaf that is no paragraph is closed alike
 closed_by : (leaf : Leaf) (state : State) → is_in_paragraph leaf ≡ false →
@@ -118,8 +116,8 @@ steps_alike options alone one other depth whole rest ending state is =
     ∙ sym (ap (λ so. if so then text_read other depth whole line state
     else indented_read depth whole rest ending state) is) in
     let to : (n : ℕ) → block_begun options alone n depth whole rest ending state
-        ≡ leaf_or (leaf_begun options alone n depth false rest ending state)
-        (or_ends (container_begun options n depth false rest ending state) (text_read n depth whole line state)) =
+    ≡ leaf_or (leaf_begun options alone n depth false rest ending state)
+    (or_ends (container_begun options n depth false rest ending state) (text_read n depth whole line state)) =
     λ n. ap (λ o. leaf_or (leaf_begun options alone n depth o rest ending state)
     (container_or options n depth whole on rest ending (unless_underlined n on rest state))) off
     ∙ ap (leaf_or (leaf_begun options alone n depth false rest ending state))
@@ -149,28 +147,15 @@ container_of_step None None text next is = ap begun_in is
 container_of_step None (Some begun) text next is = ap begun_in is
 container_of_step (Some leaf) container text next is = absurd (false≢true (sym (ap is_end is)))
 
-pub no_item_at : (text : List ℕ) → is_digit (get_or text 0 0) ≡ false →
-    ends_marker 0 (get_or text 0 0) ≡ false → opens_item text ≡ false
-no_item_at [] no_digit no_mark = refl
-no_item_at (byte ∷ rest) no_digit no_mark =
-    ap (λ n. nat_lt n (length (byte ∷ rest))
-    && (ends_marker n (get_or (byte ∷ rest) n 0) && is_apart (drop (suc n) (byte ∷ rest))))
-    (ap (λ so. min 9 (cond so (1 + prefix_len is_digit rest) 0)) no_digit)
-    ∙ and_mid (nat_lt 0 (length (byte ∷ rest))) (ends_marker 0 byte) (is_apart rest) no_mark
-
 -- none begins where HTML may begin
 none_at_html : (options : MarkdownOptions) (n depth : ℕ) (on : Bool) (rest : Rest) (ending : List ℕ)
     (state : State) → get_or (unindented rest) 0 0 ≡ 60 →
     container_begun options n depth on rest ending state ≡ None
 none_at_html options n depth on rest ending state is =
-    let text = unindented rest in
     ap (λ first. if first == 62 then quote_at n depth rest state
     else if first == 91 then footnote_at options.footnotes n depth rest state
     else item_at n depth on rest ending state) is
-    ∙ ap (λ so. if nat_lt depth 95 && (so && (not on || may_interrupt text))
-    then Some (item_begun n depth rest ending state) else None)
-    (no_item_at text (ap is_digit is) (ap (ends_marker 0) is))
-    ∙ ap (λ so. if so then Some (item_begun n depth rest ending state) else None) (and_false (nat_lt depth 95))
+    ∙ no_item_begun n depth on rest ending state (ap is_digit is) (ap (ends_marker 0) is)
 
 -- a container begins whether or not a tag is alone on its line
 goes_alone : (options : MarkdownOptions) (alone other : Bool) (n depth : ℕ) (whole : Bool) (rest : Rest)
@@ -288,8 +273,10 @@ step_settles options alone n depth whole rest ending state next =
     settle (nat_lt (indent rest) 4) where
       on : Bool
       on = whole && is_in_paragraph state.leaf
+
       left : State
       left = unless_underlined n on rest state
+
       settle : (few : Bool) →
           shallow few (block_begun options alone n depth whole rest ending state)
           (deep_read n depth whole rest ending state) ≡ GoesOn next → is_settled next ≡ true

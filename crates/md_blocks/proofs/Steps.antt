@@ -43,7 +43,7 @@ alike_taken defined lines state all one other =
     let none : drop defined lines ≡ [] = drop_all defined lines (ltb-false defined (length lines) all) in
     let left = with_leaf (InParagraph []) state in
     let closed : (n : ℕ) → leaf_closed n (definitions_taken defined lines state)
-        ≡ with_leaf NoLeaf (with_entries (OnlyDefinitions ∷ []) left) =
+    ≡ with_leaf NoLeaf (with_entries (OnlyDefinitions ∷ []) left) =
     λ n. ap (λ those. leaf_closed n (with_leaf (InParagraph those) state)) none
     ∙ ap (λ so. with_leaf NoLeaf (if so then with_entries (Paragraph (drop n []) ∷ []) (blank_written left)
     else with_entries (OnlyDefinitions ∷ []) left)) (le-ltb n 0 (omega arith)) in

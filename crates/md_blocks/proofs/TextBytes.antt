@@ -1,15 +1,13 @@
 -- A byte that begins nothing but text begins no mark.
-use Rattle.std.proofs.Common.{ℕ, Bool, List, [], ◌∷◌, ◌≡◌, ◌≤◌, ◌∙◌, ◌==◌, ◌&&◌, ◌+◌, ◌-◌, ◌++◌, true, false, refl, sym, ap, Some, None}
-use Rattle.std.proofs.Common.{arith, inl, inr, length, drop, take, get_or, nat_lt, not, suc, zero, cond}
+use Rattle.std.proofs.Common.{ℕ, Bool, List, [], ◌∷◌, ◌≡◌, ◌≤◌, ◌∙◌, ◌==◌, ◌&&◌, ◌+◌, ◌-◌, ◌++◌, true, false, refl, sym, ap}
+use Rattle.std.proofs.Common.{arith, inl, inr, length, drop, take, get_or, nat_lt, not, suc, cond}
 use Rattle.std.specs.Prelude.{◌||◌, reverse, min, if◌then◌else◌}
 use Rattle.std.specs.List.{list_all, onto_first, prefix_len, suffix_len}
 use Rattle.std.proofs.lemmas.Bool.{agree_below_at, cases_Bool, false≢true, ltb-true, ne_eqb}
 use Rattle.std.proofs.lemmas.List.{reverse-append, length-reverse}
 use Rattle.md_lines.specs.Lines.{is_blank}
-use Rattle.md_blocks.specs.declared.options.MarkdownOptions.{MarkdownOptions}
-use Rattle.md_blocks.specs.BlockStructure.{Ends, block_begun, begins_item}
 use Rattle.md_blocks.specs.Leaves.{cells, delimiters, is_delimiter, is_delimiter_row, without_blanks, without_first}
-use Rattle.md_blocks.specs.Marks.{ends_marker, is_apart, is_digit, number_length, opens_item}
+use Rattle.md_blocks.specs.Marks.{ends_marker, is_apart, is_digit, opens_item}
 use Rattle.md_blocks.specs.Progress.{is_text}
 
 -- no such byte is another one
@@ -48,12 +46,17 @@ no_marker byte is =
     ∙ ap (λ so. so || byte == 45) (other 43 byte is refl)
     ∙ other 45 byte is refl
 
-pub no_item : (text : List ℕ) → is_text (get_or text 0 0) ≡ true → opens_item text ≡ false
-no_item [] is = absurd (false≢true is)
-no_item (byte ∷ rest) is =
+-- no item begins at a byte that is no digit and no mark of an item
+pub no_item_at : (text : List ℕ) → is_digit (get_or text 0 0) ≡ false →
+    ends_marker 0 (get_or text 0 0) ≡ false → opens_item text ≡ false
+no_item_at [] no_digit no_mark = refl
+no_item_at (byte ∷ rest) no_digit no_mark =
     ap (λ n. opens_at n (byte ∷ rest))
-    (ap (λ so. min 9 (cond so (1 + prefix_len is_digit rest) 0)) (no_digit byte is))
-    ∙ and_mid (nat_lt 0 (length (byte ∷ rest))) (ends_marker 0 byte) (is_apart rest) (no_marker byte is)
+    (ap (λ so. min 9 (cond so (1 + prefix_len is_digit rest) 0)) no_digit)
+    ∙ and_mid (nat_lt 0 (length (byte ∷ rest))) (ends_marker 0 byte) (is_apart rest) no_mark
+
+pub no_item : (text : List ℕ) → is_text (get_or text 0 0) ≡ true → opens_item text ≡ false
+no_item text is = no_item_at text (no_digit (get_or text 0 0) is) (no_marker (get_or text 0 0) is)
 
 prefix_before : (p : ℕ → Bool) (xs : List ℕ) (x : ℕ) → p x ≡ false →
     prefix_len p (xs ++ x ∷ []) ≤ length xs

@@ -2,16 +2,17 @@
 -- the rest of a line after its indentation; `defined` is how many lines of the paragraph that is
 -- open before the line are definitions of links (4.7).
 use Rattle.std.specs.Prelude.{ℕ, Bool, Option, List, [], ◌==◌, ◌&&◌, ◌||◌, not, nat_lt, get_or}
-use Rattle.std.specs.Prelude.{Some, None, zero, suc, length, true, if◌then◌else◌}
+use Rattle.std.specs.Prelude.{Some, None, zero, suc, length, true, false, if◌then◌else◌}
 use Rattle.md_blocks.specs.declared.options.MarkdownOptions.{MarkdownOptions}
 use Rattle.md_blocks.specs.Marks.{opens_item, may_interrupt}
 use Rattle.md_blocks.specs.Leaves.{is_underline}
 use Rattle.md_blocks.specs.Entries.{Line}
 use Rattle.md_blocks.specs.Rests.{Rest, indent, is_blank_rest, unindented}
-use Rattle.md_blocks.specs.States.{State, Leaf, InParagraph, is_in_paragraph, without_blank}
+use Rattle.md_blocks.specs.States.{State, Leaf, InParagraph, InFenced, InMath, InHtml, is_in_paragraph, without_blank}
+use Rattle.md_blocks.specs.Containers.{matched}
 use Rattle.md_blocks.specs.LeafBlocks.{break_begun, code_begun, heading_begun, heading_underlined}
 use Rattle.md_blocks.specs.LeafBlocks.{a_line, definitions_taken, html_begun, indented_read, kind_begun, table_begun}
-use Rattle.md_blocks.specs.LeafBlocks.{blank_read, blank_waits, text_read}
+use Rattle.md_blocks.specs.LeafBlocks.{blank_read, blank_waits, fenced_read, html_read, text_read}
 use Rattle.md_blocks.specs.ContainerBlocks.{Begun, quote_begun, item_begun}
 use Rattle.md_blocks.specs.OwnBlocks.{footnote_begun, after_footnote, math_begun}
 
@@ -160,3 +161,28 @@ begun (suc fuel) options is_alone defined depth is_whole is_ended has_begun rest
       | GoesOn next ↦ begun fuel options is_alone defined (length next.state.containers) is_whole
           is_ended true next.rest ending next.state
     ]
+
+-- 4.5, 4.6: a line of fenced code, of math or of HTML, if it belongs to that
+abbrev pub leaf_continued : Rest → List ℕ → State → Option State
+leaf_continued rest ending state = elim state.leaf [
+  | InFenced fence info lines ↦ Some (fenced_read fence rest ending state)
+  | InMath fence lines ↦ Some (fenced_read fence rest ending state)
+  | InHtml kind lines ↦ html_read kind rest ending state
+  | _ ↦ None
+]
+
+-- a line after so many open containers (steps 2 and 3)
+abbrev pub line_after : MarkdownOptions → Bool → ℕ → ℕ → Bool → Bool → Rest → List ℕ → State → State
+line_after options is_alone defined depth is_whole is_ended rest ending state =
+    elim (if is_whole then leaf_continued rest ending state else None) [
+      | Some longer ↦ longer
+      | None ↦ begun (length rest.text) options is_alone defined depth is_whole is_ended false rest
+          ending state
+    ]
+
+-- a line: it continues open containers (step 1), and is read after them
+abbrev pub line_read : MarkdownOptions → Bool → ℕ → Bool → Rest → List ℕ → State → State
+line_read options is_alone defined is_ended line ending state =
+    let after = matched 0 state.containers line in
+    line_after options is_alone defined after.count (after.count == length state.containers) is_ended
+    after.rest ending state

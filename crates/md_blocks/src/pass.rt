@@ -1,7 +1,7 @@
 //! The pass over the lines of a document.
 
 ghost use Rattle.std.specs.Prelude.{◌≡◌, ◌≤◌, ◌<◌, ◌+◌, ◌++◌, ◌∷◌, []};
-ghost use Rattle.std.specs.Prelude.{false, true, length, vec_len, List, OnOk, IfOk, IsTrue, nat_lt};
+ghost use Rattle.std.specs.Prelude.{ℕ, Bool, None, ◌&&◌, if◌then◌else◌, false, true, length, vec_len, List, OnOk, IfOk, IsTrue, nat_lt};
 ghost use Rattle.md_blocks.specs.Tape.{enters, exits};
 ghost use Rattle.md_blocks.specs.Tapes.{has_info};
 
@@ -107,7 +107,9 @@ pub(crate) struct Pass<'a> {
 }
 
 impl<'a> Pass<'a> {
-    ghost use Rattle.md_blocks.specs.LeafBlocks.{blank_read, blank_waits, line_added};
+    ghost use Rattle.md_blocks.specs.BlockStructure.{leaf_continued, line_after, line_read};
+    ghost use Rattle.md_blocks.specs.LeafBlocks.{blank_read, blank_waits, if_begun, line_added};
+    ghost use Rattle.md_blocks.specs.Rests.{is_blank_rest};
     ghost use Rattle.md_blocks.specs.Passes.{defined_by, leaf_of, state_of};
     ghost use Rattle.md_blocks.specs.Positions.{IsIn, ending_of, rest_of};
     ghost use Rattle.md_blocks.specs.States.{opened_in, with_a_child, with_entries, with_leaf};
@@ -199,28 +201,96 @@ impl<'a> Pass<'a> {
         }
     }
 
-    /// Reads a line.
+    /// Reads a line. After a blank line that changes nothing more, further ones are skipped.
     #[inline(always)]
     fn read_line(&mut self, position: &mut Position<'_>) -> Result<(), AllocError>
         requires in_document { IsIn self.old.bytes.now position.old }
+        ensures state { (self.old.is_after_blank && is_blank_rest (rest_of position.old)) ≡ false
+            → OnOk result ((defined : ℕ) × (is_alone : Bool) × (state_of self.new
+            ≡ line_read self.old.options.now is_alone defined (nat_lt 0 position.old.ending)
+            (rest_of position.old) (ending_of self.old.bytes.now position.old)
+            (state_of self.old))) }
         ensures document { self.new.bytes ≡ self.old.bytes }
         ensures options { self.new.options ≡ self.old.options }
     {
-        if self.is_after_blank {
-            if position.is_blank() {
-                self.at = position.at;
-                return Ok(());
-            }
-            self.is_after_blank = false;
+        if self.is_skipped(position) {
+            self.at = position.at;
+            return Ok(());
         }
+        self.is_after_blank = false;
+        self.read_in_containers(position)
+    }
+
+    /// Whether a line is a further blank line, and changes nothing.
+    #[inline(always)]
+    fn is_skipped(&self, position: &Position<'_>) -> bool
+        ensures { result ≡ (self.now.is_after_blank && is_blank_rest (rest_of position.now)) }
+    {
+        self.is_after_blank && position.is_blank()
+    }
+
+    /// Reads a line that isn't skipped.
+    #[inline(always)]
+    fn read_in_containers(&mut self, position: &mut Position<'_>) -> Result<(), AllocError>
+        requires in_document { IsIn self.old.bytes.now position.old }
+        ensures state { OnOk result ((defined : ℕ) × (is_alone : Bool) × (state_of self.new
+            ≡ line_read self.old.options.now is_alone defined (nat_lt 0 position.old.ending)
+            (rest_of position.old) (ending_of self.old.bytes.now position.old)
+            (state_of self.old))) }
+        ensures document { self.new.bytes ≡ self.old.bytes }
+        ensures options { self.new.options ≡ self.old.options }
+    {
         let matched = match_containers(self.nesting.stack.as_slice(), position);
         self.at = position.at;
         let is_whole = matched == self.nesting.depth();
-        if !(is_whole && self.continue_leaf(position)?) {
-            self.begin_blocks(position, matched, is_whole)?;
-        }
+        self.read_after(position, matched, is_whole)?;
         self.at = position.at;
         Ok(())
+    }
+
+    /// Reads a line after the prefixes of `matched` open blocks.
+    #[inline(always)]
+    fn read_after(
+        &mut self,
+        position: &mut Position<'_>,
+        matched: usize,
+        is_whole: bool,
+    ) -> Result<(), AllocError>
+        requires in_document { IsIn self.old.bytes.now position.old }
+        ensures state { OnOk result ((defined : ℕ) × (is_alone : Bool) × (state_of self.new
+            ≡ line_after self.old.options.now is_alone defined matched is_whole
+            (nat_lt 0 position.old.ending) (rest_of position.old)
+            (ending_of self.old.bytes.now position.old) (state_of self.old))) }
+        ensures document { self.new.bytes ≡ self.old.bytes }
+        ensures options { self.new.options ≡ self.old.options }
+    {
+        if self.continue_if(is_whole, position)? {
+            return Ok(());
+        }
+        self.begin_blocks(position, matched, is_whole)
+    }
+
+    /// Reads a line in a leaf that accepts any line, if the line continues all open containers.
+    #[inline(always)]
+    fn continue_if(
+        &mut self,
+        is_whole: bool,
+        position: &mut Position<'_>,
+    ) -> Result<bool, AllocError>
+        requires in_document { IsIn self.old.bytes.now position.old }
+        ensures document { self.new.bytes ≡ self.old.bytes }
+        ensures options { self.new.options ≡ self.old.options }
+        ensures state { IfOk result (λ goes_on. (if is_whole then leaf_continued (rest_of position.old)
+            (ending_of self.old.bytes.now position.old) (state_of self.old) else None)
+            ≡ if_begun goes_on (state_of self.new)) }
+        ensures stays { IfOk result (λ goes_on.
+            goes_on ≡ false → state_of self.new ≡ state_of self.old) }
+        ensures same { IfOk result (λ goes_on. goes_on ≡ false → position.new ≡ position.old) }
+    {
+        if !is_whole {
+            return Ok(false);
+        }
+        self.continue_leaf(position)
     }
 
     /// Reads a line in a leaf that accepts any line; returns whether the open leaf is one.
@@ -229,6 +299,11 @@ impl<'a> Pass<'a> {
         requires in_document { IsIn self.old.bytes.now position.old }
         ensures document { self.new.bytes ≡ self.old.bytes }
         ensures options { self.new.options ≡ self.old.options }
+        ensures state { IfOk result (λ goes_on. leaf_continued (rest_of position.old)
+            (ending_of self.old.bytes.now position.old) (state_of self.old)
+            ≡ if_begun goes_on (state_of self.new)) }
+        ensures stays { IfOk result (λ goes_on.
+            goes_on ≡ false → state_of self.new ≡ state_of self.old) }
         ensures same { IfOk result (λ goes_on. goes_on ≡ false → position.new ≡ position.old) }
     {
         match self.leaf {

@@ -120,10 +120,10 @@ impl<'a> Pass<'a> {
         ensures document { self.new.bytes ≡ self.old.bytes }
         ensures options { self.new.options ≡ self.old.options }
     {
-        if self.leaf.is_paragraph() {
-            return self.read_text(position, depth, is_whole);
+        if !self.leaf.is_paragraph() {
+            return self.read_indented(position, depth, is_whole);
         }
-        self.read_indented(position, depth, is_whole)
+        self.read_text(position, depth, is_whole)
     }
 
     /// Begins a block at a byte that may be its mark, or reads the line as text; returns whether a

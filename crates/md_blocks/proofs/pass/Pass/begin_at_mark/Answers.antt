@@ -1,5 +1,5 @@
 -- A leaf is tried first, then a container, then text.
-use Rattle.std.proofs.Common.{ℕ, Bool, ap, sym, refl, ◌∙◌, ◌≡◌, ◌&&◌, true, false, Some, None}
+use Rattle.std.proofs.Common.{ap, sym, refl, ◌∙◌, ◌≡◌, ◌&&◌, Some, None}
 use Rattle.std.specs.Prelude.{if◌then◌else◌}
 use Rattle.md_blocks.specs.BlockStructure.{Ends, GoesOn, container_begun, text_begun}
 use Rattle.md_blocks.specs.LeafBlocks.{if_begun}

@@ -1,5 +1,5 @@
 -- The indentation and the first byte decide.
-use Rattle.std.proofs.Common.{ℕ, Bool, ap, sym, subst, ◌∙◌, ◌≡◌, true, false}
+use Rattle.std.proofs.Common.{ℕ, Bool, ap, sym, ◌∙◌, ◌≡◌, true, false}
 use Rattle.std.specs.Prelude.{get_or, nat_lt, if◌then◌else◌}
 use Rattle.std.proofs.lemmas.Bool.{le-ltb, lt-ltb}
 use Rattle.std.proofs.lemmas.Result.{IfOk-weaker}
@@ -31,7 +31,7 @@ returns-then-position-ge-CODE_INDENT-clause-state c is =
       n,
       false,
       ap (λ so. shallow so (block_begun p.options.now false n depth whole rest ending (state_of p))
-      (deep_read n depth whole rest ending (state_of p)))
+          (deep_read n depth whole rest ending (state_of p)))
           (ap (λ i. nat_lt i 4) (sym place.indents) ∙ le-ltb place.indent 4 c.if-position-ge-CODE_INDENT.true)
           ∙ ap Ends (sym c.in_ok-read_deep.ensures.state),
     )
@@ -51,7 +51,7 @@ returns-then-is_text-clause-state c is =
       n,
       false,
       ap (λ so. shallow so (block_begun p.options.now false n depth whole rest ending (state_of p))
-      (deep_read n depth whole rest ending (state_of p)))
+          (deep_read n depth whole rest ending (state_of p)))
           (ap (λ i. nat_lt i 4) (sym place.indents) ∙ lt-ltb place.indent 4 c.if-position-ge-CODE_INDENT.false)
           ∙ text_block p.options.now n depth whole rest ending (state_of p) text
           ∙ ap (λ t. Ends (text_read n depth whole (a_line t ending) (state_of p))) (text_is place)
@@ -82,6 +82,6 @@ returns-clause-state c =
       begun.0,
       begun.1,
       ap (λ so. shallow so (block_begun p.options.now begun.1 begun.0 depth whole rest ending (state_of p))
-      (deep_read begun.0 depth whole rest ending (state_of p))) few ∙ begun.2,
+          (deep_read begun.0 depth whole rest ending (state_of p))) few ∙ begun.2,
     ))
     c.begin_at_mark.ensures.state

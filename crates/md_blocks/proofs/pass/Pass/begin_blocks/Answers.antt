@@ -8,7 +8,7 @@ use Rattle.md_blocks.specs.LeafBlocks.{blank_read, blank_waits}
 use Rattle.md_blocks.specs.Passes.{defined_by, state_of}
 use Rattle.md_blocks.specs.Positions.{ending_of, rest_of}
 use Rattle.md_blocks.specs.Progress.{begun_of}
-use Rattle.md_blocks.specs.Rests.{first, unindented}
+use Rattle.md_blocks.specs.Rests.{unindented}
 use Rattle.md_blocks.specs.States.{State}
 use Rattle.md_blocks.proofs.Folds.{Left, begun_blank, ends_so, first_is, goes_on, long, no_text, some_text}
 use Rattle.md_blocks.proofs.LineLemmas.{text_is}
@@ -49,7 +49,7 @@ returns-then-not-branch-clause-state c =
     let ending_is : ending_of q.bytes.now at ≡ ending =
     ap (λ b. ending_of b.now at) inv.document ∙ same_ending p.bytes.now place at inv.line inv.ending in
     let step : step_read p.options.now found.1 found.0 depth whole rest ending (state_of q)
-        ≡ Ends (state_of new.self) =
+    ≡ Ends (state_of new.self) =
     ap (λ o. step_read o.now found.1 found.0 depth whole rest ending (state_of q)) (sym inv.options)
     ∙ ap (λ e. step_read q.options.now found.1 found.0 depth whole rest e (state_of q)) (sym ending_is)
     ∙ found.2
@@ -100,11 +100,11 @@ parts-preserved c =
       options = c.begin_block.ensures.options ∙ inv.options;
       first = λ none. absurd (false≢true (sym none));
       left = subst (λ d. Left (length new.position.line.now - new.position.at) p.options.now d whole ended true
-      (rest_of new.position) ending (state_of new.self) line)
-      (sym (c.depth-depth.ensures ∙ new.self.nesting.stack.ok.0))
-      (goes_on (length at.line.now - at.at) (length new.position.line.now - new.position.at) p.options.now
-      found.1 found.0 depth whole ended c.parts.has_begun rest ending (state_of q) next line
-      (some_text (unindented rest) c.in-Some.byte some) less step inv.left);
+          (rest_of new.position) ending (state_of new.self) line)
+          (sym (c.depth-depth.ensures ∙ new.self.nesting.stack.ok.0))
+          (goes_on (length at.line.now - at.at) (length new.position.line.now - new.position.at) p.options.now
+          found.1 found.0 depth whole ended c.parts.has_begun rest ending (state_of q) next line
+          (some_text (unindented rest) c.in-Some.byte some) less step inv.left);
     }
 
 pub returns-then-has_begun-clause-state : goal.returns-then-has_begun-clause-state
@@ -124,7 +124,7 @@ returns-then-has_begun-clause-state c =
       given.0,
       given.1,
       sym (begun_blank inv.left.0 p.options.now false 0 depth whole ended c.parts.has_begun rest ending (state_of q) blank
-      ∙ ap (λ so. blank_or 0 depth whole ended so rest ending (state_of q)) c.if-has_begun.true)
+          ∙ ap (λ so. blank_or 0 depth whole ended so rest ending (state_of q)) c.if-has_begun.true)
           ∙ given.2,
     )
 

@@ -1,5 +1,5 @@
 -- The first byte says whether a break may begin.
-use Rattle.std.proofs.Common.{ℕ, List, ap, sym, ◌∙◌, ◌≡◌, ◌==◌, Option, Some, None}
+use Rattle.std.proofs.Common.{ℕ, List, ap, sym, ◌∙◌, ◌≡◌, ◌==◌, Option, None}
 use Rattle.std.specs.Prelude.{◌||◌, get_or, if◌then◌else◌}
 use Rattle.std.proofs.lemmas.Result.{IfOk-weaker}
 use Rattle.md_blocks.specs.LeafBlocks.{break_begun, if_begun}

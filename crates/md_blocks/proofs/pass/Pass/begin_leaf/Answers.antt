@@ -1,5 +1,5 @@
 -- The first byte says which leaf may begin.
-use Rattle.std.proofs.Common.{ℕ, Bool, List, ap, sym, subst, refl, ◌∙◌, ◌≡◌, ◌==◌, ◌&&◌, true, false, Option, Some, None}
+use Rattle.std.proofs.Common.{ℕ, Bool, List, ap, sym, subst, refl, ◌∙◌, ◌≡◌, ◌==◌, ◌&&◌, true, false, Option, None}
 use Rattle.std.specs.Prelude.{◌||◌, get_or, not, if◌then◌else◌}
 use Rattle.std.proofs.lemmas.Bool.{ne_eqb}
 use Rattle.std.proofs.lemmas.Result.{IfOk-weaker}
@@ -12,7 +12,7 @@ use Rattle.md_blocks.specs.Positions.{ending_of, rest_of, text_at}
 use Rattle.md_blocks.specs.Rests.{Rest, unindented}
 use Rattle.md_blocks.specs.States.{State, is_in_paragraph}
 use Rattle.md_blocks.proofs.LineLemmas.{text_is}
-use Rattle.md_blocks.proofs.Steps.{alone_is, both_ok, fence_is_none, left_of, no_underline, unchanged}
+use Rattle.md_blocks.proofs.Steps.{alone_is, both_ok, fence_is_none, no_underline, unchanged}
 use Rattle.md_blocks.proofs.pass.Pass.begin_leaf.Goals as goal
 
 -- what may begin, by tests of the first byte
@@ -93,7 +93,7 @@ returns-then-is_fence_mark-clause-state c =
           false begun.0 depth on rest ending (state_of p)) fence
           ∙ begun.1,
       λ none. same none ∙ sym (stays byte begun.0 on rest (state_of p) (sym first)
-      (fence_is_none byte fence)),
+          (fence_is_none byte fence)),
     ))
     c.begin_fenced.ensures.state c.begin_fenced.ensures.same
 

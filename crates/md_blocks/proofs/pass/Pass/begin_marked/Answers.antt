@@ -1,12 +1,11 @@
 -- An item begins where its marker is.
-use Rattle.std.proofs.Common.{ℕ, Bool, List, ap, sym, ◌∙◌, ◌≡◌, ◌&&◌, nat_lt, not, true, false, Some, None}
-use Rattle.std.specs.Prelude.{◌||◌, if◌then◌else◌}
+use Rattle.std.proofs.Common.{ap, sym, ◌∙◌, ◌&&◌, nat_lt, true, false, Some, None}
+use Rattle.std.specs.Prelude.{if◌then◌else◌}
 use Rattle.std.proofs.lemmas.Bool.{lt-ltb}
 use Rattle.md_blocks.specs.BlockStructure.{begins_item}
 use Rattle.md_blocks.specs.ContainerBlocks.{item_begun}
 use Rattle.md_blocks.specs.Passes.{state_of}
 use Rattle.md_blocks.specs.Positions.{ending_of, rest_of}
-use Rattle.md_blocks.specs.Rests.{unindented}
 use Rattle.md_blocks.proofs.LineLemmas.{text_is}
 use Rattle.md_blocks.proofs.Steps.{with_rest}
 use Rattle.md_blocks.proofs.pass.Pass.begin_marked.Goals as goal

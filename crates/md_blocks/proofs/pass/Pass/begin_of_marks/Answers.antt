@@ -1,11 +1,9 @@
 -- An underline is tried first; where it makes no heading, a break.
-use Rattle.std.proofs.Common.{ℕ, Bool, List, ap, sym, ◌∙◌, ◌≡◌, ◌&&◌, nat_lt, true, false, Option, Some, None}
+use Rattle.std.proofs.Common.{ℕ, ap, sym, ◌∙◌, ◌≡◌, false}
 use Rattle.std.proofs.Common.{refl, subst}
-use Rattle.std.specs.Prelude.{get_or, if◌then◌else◌}
+use Rattle.std.specs.Prelude.{get_or}
 use Rattle.std.proofs.lemmas.Bool.{and_parts, false≢true}
-use Rattle.std.proofs.lemmas.Result.{IfOk-weaker}
-use Rattle.md_blocks.specs.BlockStructure.{break_at, may_underline, paragraph_lines}
-use Rattle.md_blocks.specs.Entries.{Line}
+use Rattle.md_blocks.specs.BlockStructure.{break_at, paragraph_lines}
 use Rattle.md_blocks.specs.LeafBlocks.{definitions_taken, heading_underlined, if_begun}
 use Rattle.md_blocks.specs.Leaves.{is_underline}
 use Rattle.md_blocks.specs.Passes.{defined_by, leaf_lines, leaf_of, state_of}
@@ -38,7 +36,7 @@ returns-then-not-may_underline-clause-state c =
       ap (λ t. marks_of t defined depth on (state_of p)) (text_is place)
           ∙ untried byte defined depth on text (state_of p) is may_not ∙ begun is,
       λ none. same none ∙ sym (ap (λ t. left_of t defined on (state_of p)) (text_is place)
-      ∙ unchanged byte defined on text (state_of p) is may_not),
+          ∙ unchanged byte defined on text (state_of p) is may_not),
     ))
     c.begin_break_at.ensures.state c.begin_break_at.ensures.same
 

@@ -1,5 +1,5 @@
 -- A table is tried in a paragraph.
-use Rattle.std.proofs.Common.{ℕ, Bool, List, Option, Some, None, ap, sym, ◌∙◌, ◌≡◌, ◌&&◌, true}
+use Rattle.std.proofs.Common.{None, ap, sym, ◌∙◌, ◌≡◌}
 use Rattle.std.specs.Prelude.{if◌then◌else◌}
 use Rattle.std.proofs.lemmas.Bool.{and_parts}
 use Rattle.std.proofs.lemmas.Result.{on_ok_weaker}
@@ -8,7 +8,6 @@ use Rattle.md_blocks.specs.LeafBlocks.{a_line, if_begun, table_begun, text_read}
 use Rattle.md_blocks.specs.Passes.{defined_by, leaf_lines, leaf_of, state_of}
 use Rattle.md_blocks.specs.Positions.{ending_of, rest_of, text_at}
 use Rattle.md_blocks.specs.Rests.{unindented}
-use Rattle.md_blocks.specs.States.{State, is_in_paragraph}
 use Rattle.md_blocks.proofs.LineLemmas.{text_is}
 use Rattle.md_blocks.proofs.Steps.{or_text, texts_alike}
 use Rattle.md_blocks.proofs.pass.Pass.begin_text.Goals as goal
@@ -55,9 +54,9 @@ returns-then-branch-clause-state c =
     let read = text_read found.0 depth whole (a_line text ending) state in (
       found.0,
       sym (ap (λ so. or_text (if so then table else None) read) on
-      ∙ ap (λ t. or_text (table_begun tables found.0 t ending (paragraph_lines state.leaf) state) read) (text_is place)
-      ∙ ap (λ those. or_text (table_begun tables found.0 (text_at place) ending those state) read) lines
-      ∙ ap (λ t. or_text t read) (found.1 ∙ ap (λ so. if_begun so (state_of new)) c.if-branch.true)),
+          ∙ ap (λ t. or_text (table_begun tables found.0 t ending (paragraph_lines state.leaf) state) read) (text_is place)
+          ∙ ap (λ those. or_text (table_begun tables found.0 (text_at place) ending those state) read) lines
+          ∙ ap (λ t. or_text t read) (found.1 ∙ ap (λ so. if_begun so (state_of new)) c.if-branch.true)),
     )
 
 pub returns-clause-state : goal.returns-clause-state
