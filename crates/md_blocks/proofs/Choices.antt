@@ -1,5 +1,6 @@
 -- What a line begins, with one number of definitions for all steps.
-use Rattle.std.proofs.Common.{ℕ, Bool, List, [], ◌∷◌, ◌≡◌, ◌∙◌, ◌==◌, ◌&&◌, ◌+◌, true, false, refl, sym, ap, Option, Some, None}
+use Rattle.std.proofs.Common.{ℕ, Bool, List, [], ◌∷◌, ◌≡◌, ◌∙◌, ◌==◌, ◌&&◌, ◌+◌, true, false}
+use Rattle.std.proofs.Common.{refl, sym, ap, Option, Some, None}
 use Rattle.std.proofs.Common.{arith, length, drop, take, get_or, nat_lt, not, inl, inr}
 use Rattle.std.specs.Prelude.{◌||◌, if◌then◌else◌}
 use Rattle.std.proofs.lemmas.Bool.{and_parts, cases_Bool, eqb-true, false≢true, ltb-false}
@@ -7,24 +8,30 @@ use Rattle.std.proofs.lemmas.List.{drop_all}
 use Rattle.md_blocks.specs.declared.block.ContainerKind.TheVariants.{FootnoteDefinition, Item, Quote}
 use Rattle.md_blocks.specs.declared.html.HtmlKind.{HtmlKind}
 use Rattle.md_blocks.specs.declared.options.MarkdownOptions.{MarkdownOptions}
-use Rattle.md_blocks.specs.BlockStructure.{Step, Ends, GoesOn, begins_item, block_begun, break_at, container_begun}
+use Rattle.md_blocks.specs.BlockStructure.{Step, Ends, GoesOn, begins_item, block_begun, break_at}
+use Rattle.md_blocks.specs.BlockStructure.{container_begun}
 use Rattle.md_blocks.specs.BlockStructure.{footnote_at, item_at, leaf_begun, marks_begun, may_underline}
 use Rattle.md_blocks.specs.BlockStructure.{paragraph_lines, quote_at, text_begun, unless_underlined}
 use Rattle.md_blocks.specs.ContainerBlocks.{Begun, container_of, is_list_of, is_task, item_begun, list_kind}
 use Rattle.md_blocks.specs.ContainerBlocks.{padding, quote_begun, task_begun}
-use Rattle.md_blocks.specs.Entries.{FootnoteBegins, Heading, ItemBegins, Line, ListBegins, QuoteBegins, last_line}
+use Rattle.md_blocks.specs.Entries.{FootnoteBegins, Heading, ItemBegins, Line, ListBegins}
+use Rattle.md_blocks.specs.Entries.{QuoteBegins, last_line}
 use Rattle.md_blocks.specs.LeafBlocks.{code_begun, definitions_taken, heading_begun, heading_underlined}
-use Rattle.md_blocks.specs.LeafBlocks.{a_line, break_begun, html_begun, if_begun, kind_begun, paragraph_split, table_begun, text_read}
+use Rattle.md_blocks.specs.LeafBlocks.{a_line, break_begun, html_begun, if_begun, kind_begun}
+use Rattle.md_blocks.specs.LeafBlocks.{paragraph_split, table_begun, text_read}
 use Rattle.md_blocks.specs.Progress.{is_text}
-use Rattle.md_blocks.specs.Leaves.{delimiters, is_break, is_delimiter_row, is_underline, opens_code, opens_math}
+use Rattle.md_blocks.specs.Leaves.{delimiters, is_break, is_delimiter_row, is_underline}
+use Rattle.md_blocks.specs.Leaves.{opens_code, opens_math}
 use Rattle.md_blocks.specs.Tables.{row_cells}
 use Rattle.md_blocks.specs.Marks.{ends_marker, is_digit, may_interrupt, number_length, opens_heading}
 use Rattle.md_blocks.specs.OwnBlocks.{after_footnote, label_of, math_begun, opens_footnote}
 use Rattle.md_blocks.specs.Rests.{Rest, indent, passed, rest_at, skipped, unindented}
 use Rattle.md_blocks.specs.Stack.{innermost}
-use Rattle.md_blocks.specs.States.{State, InParagraph, InTable, NoLeaf, blank_written, containers_closed, is_in_paragraph}
+use Rattle.md_blocks.specs.States.{State, InParagraph, InTable, NoLeaf, blank_written}
+use Rattle.md_blocks.specs.States.{containers_closed, is_in_paragraph}
 use Rattle.md_blocks.specs.States.{opened_in, with_entries, with_leaf, without_blank}
-use Rattle.md_blocks.proofs.Steps.{IsAlike, all_defined, alike_taken, left_of, marks_of, no_underline, or_break, or_text}
+use Rattle.md_blocks.proofs.Steps.{IsAlike, all_defined, alike_taken, left_of, marks_of}
+use Rattle.md_blocks.proofs.Steps.{no_underline, or_break, or_text}
 use Rattle.md_blocks.proofs.Steps.{room_after, tried, unchanged, untried, with_rest}
 use Rattle.md_blocks.proofs.TextBytes.{and_false, and_mid, no_item, no_item_at, no_row, other}
 
@@ -111,7 +118,8 @@ container_none options one other depth on rest ending state =
     either_none (first == 62) _ _ _ _
     (some_if (nat_lt depth 96) (quote_begun one depth rest state) (quote_begun other depth rest state))
     (either_none (first == 91) _ _ _ _
-    (footnote_none (options.footnotes && nat_lt depth 96) (opens_footnote (unindented rest)) (after_footnote rest) _ _)
+    (footnote_none (options.footnotes && nat_lt depth 96) (opens_footnote (unindented rest))
+    (after_footnote rest) _ _)
     (some_if (nat_lt depth 95 && begins_item on (unindented rest)) (item_begun one depth rest ending state)
     (item_begun other depth rest ending state)))
 
@@ -150,7 +158,8 @@ marks_broken n depth on text state =
     by_break (may_underline on (get_or text 0 0)) (is_underline (get_or text 0 0) text)
     (nat_lt n (length (paragraph_lines state.leaf))) n depth text state _ _
 
-abbrev pub tested : Bool → Bool → Bool → Bool → ℕ → MarkdownOptions → Bool → ℕ → ℕ → Bool → Rest → List ℕ → State → Option State
+abbrev pub tested : Bool → Bool → Bool → Bool → ℕ → MarkdownOptions → Bool → ℕ → ℕ → Bool → Rest →
+    List ℕ → State → Option State
 tested heading fence math html first options alone defined depth on rest ending state =
     if heading then heading_begun defined depth (unindented rest) state
     else if fence then code_begun defined first depth rest state
@@ -285,7 +294,8 @@ block_is options alone taken defined depth whole true rest ending state left ste
     (is_underline (get_or text 0 0) text) gone state refl refl in (
       taken,
       alone,
-      ap (λ l. leaf_or l (container_or options taken depth whole on rest ending (unless_underlined taken on rest state))) no_leaf
+      ap (λ l. leaf_or l (container_or options taken depth whole on rest ending
+          (unless_underlined taken on rest state))) no_leaf
           ∙ ap (container_or options taken depth whole on rest ending) (sym is_left ∙ lost)
           ∙ emptied options taken defined depth whole on rest ending taken lines state
           (all_are options alone taken depth on rest ending state line no_leaf)
@@ -295,11 +305,13 @@ block_is options alone taken defined depth whole true rest ending state left ste
 block_is options alone taken defined depth whole false rest ending state left step line no_leaf is_left is =
     let on = whole && is_in_paragraph state.leaf in
     let lines = paragraph_lines state.leaf in
-    let same : left ≡ state = is_left ∙ ap (λ so. if so then definitions_taken taken lines state else state) line in
+    let same : left ≡ state = is_left
+    ∙ ap (λ so. if so then definitions_taken taken lines state else state) line in
     let kept : (whole && is_in_paragraph left.leaf) ≡ on = ap (λ s. whole && is_in_paragraph s.leaf) same in (
       defined,
       alone,
-      ap (λ l. leaf_or l (container_or options defined depth whole on rest ending (unless_underlined defined on rest state)))
+      ap (λ l. leaf_or l (container_or options defined depth whole on rest ending
+          (unless_underlined defined on rest state)))
           (leaf_none options alone taken defined depth on rest ending state line no_leaf)
           ∙ ap (λ so. container_or options defined depth whole on rest ending
           (if so then definitions_taken defined lines state else state)) line
@@ -318,9 +330,11 @@ leaf_ends options alone n depth whole rest ending state begun =
     (unless_underlined n on rest state)))
 
 -- where a byte begins nothing but text
-texted : (options : MarkdownOptions) (n : ℕ) (on : Bool) (rest : Rest) (ending : List ℕ) (state text : State) →
+texted : (options : MarkdownOptions) (n : ℕ) (on : Bool) (rest : Rest) (ending : List ℕ)
+    (state text : State) →
     is_delimiter_row (unindented rest) ≡ false →
-    or_text (if on then table_begun options.tables n (unindented rest) ending (paragraph_lines state.leaf) state
+    or_text (if on then table_begun options.tables n (unindented rest) ending
+    (paragraph_lines state.leaf) state
     else None) text ≡ text
 texted options n false rest ending state text none = refl
 texted options n true rest ending state text none =
@@ -344,9 +358,11 @@ text_block options n depth whole rest ending state is =
     (ap (λ so. so || first == 45) (other 61 first is refl) ∙ other 45 first is refl) in
     let read = text_read n depth whole (a_line text ending) state in
     let no_leaf : leaf_begun options false n depth on rest ending state ≡ None =
-    ap (λ so. tested so (first == 96 || first == 126) (first == 36) (first == 60) first options false n depth on rest ending state)
+    ap (λ so. tested so (first == 96 || first == 126) (first == 36)
+    (first == 60) first options false n depth on rest ending state)
     (other 35 first is refl)
-    ∙ ap (λ so. tested false (so || first == 126) (first == 36) (first == 60) first options false n depth on rest ending state)
+    ∙ ap (λ so. tested false (so || first == 126) (first == 36)
+    (first == 60) first options false n depth on rest ending state)
     (other 96 first is refl)
     ∙ ap (λ so. tested false so (first == 36) (first == 60) first options false n depth on rest ending state)
     (other 126 first is refl)
@@ -368,8 +384,10 @@ text_block options n depth whole rest ending state is =
     else item_at n depth on rest ending state) (other 91 first is refl)
     ∙ ap (λ so. if nat_lt depth 95 && (so && (not on || may_interrupt text))
     then Some (item_begun n depth rest ending state) else None) (no_item text is)
-    ∙ ap (λ so. if so then Some (item_begun n depth rest ending state) else None) (and_false (nat_lt depth 95)) in
-    ap (λ found. leaf_or found (container_or options n depth whole on rest ending (unless_underlined n on rest state)))
+    ∙ ap (λ so. if so then Some (item_begun n depth rest ending state) else None) (and_false
+    (nat_lt depth 95)) in
+    ap (λ found. leaf_or found (container_or options n depth whole on rest ending
+    (unless_underlined n on rest state)))
     no_leaf
     ∙ ap (container_or options n depth whole on rest ending) (unchanged first n on text state refl may)
     ∙ ap (λ found. or_ends found (text_begun options n depth whole rest ending state)) no_container
@@ -384,4 +402,5 @@ no_item_begun n depth on rest ending state no_digit no_mark =
     let text = unindented rest in
     ap (λ so. if nat_lt depth 95 && (so && (not on || may_interrupt text))
     then Some (item_begun n depth rest ending state) else None) (no_item_at text no_digit no_mark)
-    ∙ ap (λ so. if so then Some (item_begun n depth rest ending state) else None) (and_false (nat_lt depth 95))
+    ∙ ap (λ so. if so then Some (item_begun n depth rest ending state) else None) (and_false
+    (nat_lt depth 95))

@@ -1,5 +1,6 @@
 -- The blocks of a line, with one number of definitions for all of them.
-use Rattle.std.proofs.Common.{ℕ, Bool, List, [], ◌∷◌, ◌≡◌, ◌∙◌, ◌==◌, ◌&&◌, ◌+◌, ◌≤◌, ◌<◌, true, false, refl, sym, ap, Option, Some, None}
+use Rattle.std.proofs.Common.{ℕ, Bool, List, [], ◌∷◌, ◌≡◌, ◌∙◌, ◌==◌, ◌&&◌, ◌+◌, ◌≤◌, ◌<◌, true}
+use Rattle.std.proofs.Common.{false, refl, sym, ap, Option, Some, None}
 use Rattle.std.proofs.Common.{arith, length, drop, get_or, nat_lt, not, inl, inr, zero, suc}
 use Rattle.std.specs.Prelude.{◌||◌, ◌-◌, ◌%◌, replicate, if◌then◌else◌}
 use Rattle.std.proofs.lemmas.List.{length-append, length-drop, length-replicate}
@@ -8,21 +9,27 @@ use Rattle.md_blocks.specs.declared.html.HtmlKind.{HtmlKind}
 use Rattle.md_blocks.specs.declared.options.MarkdownOptions.{MarkdownOptions}
 use Rattle.md_blocks.specs.BlockStructure.{Step, Ends, GoesOn, begins_item, begun, blank_or, block_begun}
 use Rattle.md_blocks.specs.BlockStructure.{container_begun, deep_read, footnote_at, item_at, leaf_begun}
-use Rattle.md_blocks.specs.BlockStructure.{paragraph_lines, quote_at, step_read, text_begun, unless_underlined}
+use Rattle.md_blocks.specs.BlockStructure.{paragraph_lines, quote_at, step_read, text_begun}
+use Rattle.md_blocks.specs.BlockStructure.{unless_underlined}
 use Rattle.md_blocks.specs.ContainerBlocks.{Begun, is_list_of, is_task, item_begun, quote_begun}
 use Rattle.md_blocks.specs.Entries.{Heading, Line}
 use Rattle.md_blocks.specs.HtmlBlocks.{is_html_end}
-use Rattle.md_blocks.specs.LeafBlocks.{a_line, fence_of, first_word, heading_of, html_ended, if_begun, indented_read, kind_begun}
+use Rattle.md_blocks.specs.LeafBlocks.{a_line, fence_of, first_word, heading_of, html_ended}
+use Rattle.md_blocks.specs.LeafBlocks.{if_begun, indented_read, kind_begun}
 use Rattle.md_blocks.specs.LeafBlocks.{line_added, row_read, table_begun, text_read}
 use Rattle.md_blocks.specs.Leaves.{opens_code, opens_math}
 use Rattle.md_blocks.specs.Marks.{ends_marker, is_digit, number_length, opens_heading, run_of}
 use Rattle.md_blocks.specs.OwnBlocks.{after_dollars, after_footnote, opens_footnote}
-use Rattle.md_blocks.specs.Rests.{Rest, first_of, indent, is_blank_rest, is_none, passed, rest_at, text_of, unindented}
+use Rattle.md_blocks.specs.Rests.{Rest, first_of, indent, is_blank_rest, is_none, passed, rest_at}
+use Rattle.md_blocks.specs.Rests.{text_of, unindented}
 use Rattle.md_blocks.specs.Stack.{innermost}
-use Rattle.md_blocks.specs.States.{State, Leaf, InFenced, InHtml, InIndented, InMath, InParagraph, InTable, NoLeaf}
-use Rattle.md_blocks.specs.States.{closed_to, containers_closed, is_in_paragraph, leaf_closed, list_closed, with_a_child}
+use Rattle.md_blocks.specs.States.{State, Leaf, InFenced, InHtml, InIndented, InMath, InParagraph}
+use Rattle.md_blocks.specs.States.{InTable, NoLeaf}
+use Rattle.md_blocks.specs.States.{closed_to, containers_closed, is_in_paragraph, leaf_closed}
+use Rattle.md_blocks.specs.States.{list_closed, with_a_child}
 use Rattle.md_blocks.specs.States.{with_entries, with_leaf}
-use Rattle.md_blocks.proofs.Choices.{container_or, containers_alike, followed, leaf_or, no_item_begun, or_ends, tested}
+use Rattle.md_blocks.proofs.Choices.{container_or, containers_alike, followed, leaf_or}
+use Rattle.md_blocks.proofs.Choices.{no_item_begun, or_ends, tested}
 use Rattle.md_blocks.proofs.Steps.{IsAlike, break_after, or_text, room_after, with_rest}
 use Rattle.md_blocks.proofs.TextBytes.{and_false}
 
@@ -124,9 +131,11 @@ steps_alike options alone one other depth whole rest ending state is =
     (outside options n depth whole on rest ending state off is) in
     ap (λ d. if few then block_begun options alone one depth whole rest ending state else Ends d) deep
     ∙ ap (λ b. if few then b else Ends (deep_read other depth whole rest ending state)) (to one
-    ∙ ap (λ l. leaf_or l (or_ends (container_begun options one depth false rest ending state) (text_read one depth whole line state)))
+    ∙ ap (λ l. leaf_or l (or_ends (container_begun options one depth false rest ending state)
+    (text_read one depth whole line state)))
     (leaves_alike options alone one other depth rest ending state alike)
-    ∙ ap (λ c. leaf_or (leaf_begun options alone other depth false rest ending state) (or_ends c (text_read one depth whole line state)))
+    ∙ ap (λ c. leaf_or (leaf_begun options alone other depth false rest ending state) (or_ends c
+    (text_read one depth whole line state)))
     (containers_alike options one other depth false rest ending state alike)
     ∙ ap (λ t. leaf_or (leaf_begun options alone other depth false rest ending state)
     (or_ends (container_begun options other depth false rest ending state) t))
@@ -169,7 +178,8 @@ goes_alone options alone other n depth whole rest ending state next is =
     let container = container_begun options n depth on rest ending left in
     let text = text_begun options n depth whole rest ending left in
     elim (cases_Bool (first == 60)) [
-      | inl e ↦ absurd (some_not next (sym (none_at_html options n depth on rest ending left (eqb-true first 60 e))
+      | inl e ↦ absurd (some_not next (sym (none_at_html options n depth on rest ending left
+          (eqb-true first 60 e))
           ∙ container_of_step (leaf_begun options alone n depth on rest ending state) container text next is))
       | inr e ↦ ap (λ found. leaf_or found (or_ends container text))
           (ap (λ so. tested (first == 35) (first == 96 || first == 126) (first == 36) so first options
@@ -254,9 +264,11 @@ settled_there options n depth on rest ending state =
     let marker = get_or text digits 0 in
     let after = passed (digits + 1) rest in
     either (first == 62) _ _
-    (settles_if (nat_lt depth 96) (quote_begun n depth rest state) (settled_with (quote_begun n depth rest state).rest (quote_begun n depth rest state).state closed))
+    (settles_if (nat_lt depth 96) (quote_begun n depth rest state) (settled_with
+    (quote_begun n depth rest state).rest (quote_begun n depth rest state).state closed))
     (either (first == 91) _ _
-    (settles_footnote (options.footnotes && nat_lt depth 96) (opens_footnote text) (after_footnote rest) _ closed)
+    (settles_footnote (options.footnotes && nat_lt depth 96) (opens_footnote text)
+    (after_footnote rest) _ closed)
     (settles_if (nat_lt depth 95 && begins_item on text) (item_begun n depth rest ending state)
     (settled_item (is_task after) after _ _ _ _
     (in_list_leaf (innermost (is_list_of (nat_lt 0 digits) marker) (closed_to n depth state).containers) _ _
@@ -305,7 +317,8 @@ steps_follow : (fuel : ℕ) (options : MarkdownOptions) (alone : Bool) (one othe
     step_read options alone other depth whole rest ending state ≡ step →
     ((next : Begun) → is_settled next ≡ true →
     begun fuel options alone one (length next.state.containers) whole ended true next.rest ending next.state
-    ≡ begun fuel options alone other (length next.state.containers) whole ended true next.rest ending next.state) →
+    ≡ begun fuel options alone other
+    (length next.state.containers) whole ended true next.rest ending next.state) →
     followed_by fuel options alone one whole ended ending step
     ≡ followed_by fuel options alone other whole ended ending step
 steps_follow fuel options alone one other depth whole ended rest ending state (Ends after) is inner = refl
@@ -376,21 +389,24 @@ pub goes_on : (count later : ℕ) (options : MarkdownOptions) (taken : Bool) (de
     step_read options taken defined depth whole rest ending state ≡ GoesOn next →
     Left count options depth whole ended has rest ending state line →
     Left later options (length next.state.containers) whole ended true next.rest ending next.state line
-goes_on count later options taken defined depth whole ended has rest ending state next line no_blank less is (zero, enough, reads) =
+goes_on count later options taken defined depth whole ended has rest ending state next line
+    no_blank less is (zero, enough, reads) =
     absurd (omega (arith, less, enough))
-goes_on count later options taken defined depth whole ended has rest ending state next line no_blank less is (suc fuel, enough, reads) = (
-  fuel,
-  omega (arith, less, enough),
-  λ n alone. let whole_line = reads defined alone in (
-    whole_line.0,
-    whole_line.1,
-    begun_alike fuel options alone n defined (length next.state.containers) whole ended next.rest ending next.state
-        (step_settles options taken defined depth whole rest ending state next is)
-        ∙ sym (begun_step fuel options alone defined depth whole ended has rest ending state (GoesOn next)
-        no_blank (step_alone options taken alone defined depth whole rest ending state next is))
-        ∙ whole_line.2,
-  ),
-)
+goes_on count later options taken defined depth whole ended has rest ending state next line
+    no_blank less is (suc fuel, enough, reads) = (
+      fuel,
+      omega (arith, less, enough),
+      λ n alone. let whole_line = reads defined alone in (
+        whole_line.0,
+        whole_line.1,
+        begun_alike fuel options alone n defined
+            (length next.state.containers) whole ended next.rest ending next.state
+            (step_settles options taken defined depth whole rest ending state next is)
+            ∙ sym (begun_step fuel options alone defined depth whole ended has rest ending state (GoesOn next)
+            no_blank (step_alone options taken alone defined depth whole rest ending state next is))
+            ∙ whole_line.2,
+      ),
+    )
 
 -- what ends the line gives its state
 pub ends_so : (count : ℕ) (options : MarkdownOptions) (taken : Bool) (defined depth : ℕ)
@@ -399,13 +415,16 @@ pub ends_so : (count : ℕ) (options : MarkdownOptions) (taken : Bool) (defined 
     step_read options taken defined depth whole rest ending state ≡ Ends after →
     Left count options depth whole ended has rest ending state line →
     (m : ℕ) × (other : Bool) × (after ≡ line m other)
-ends_so count options taken defined depth whole ended has rest ending state after line no_blank some is (zero, enough, reads) =
+ends_so count options taken defined depth whole ended has rest ending state after line no_blank
+    some is (zero, enough, reads) =
     absurd (omega (arith, some, enough))
-ends_so count options taken defined depth whole ended has rest ending state after line no_blank some is (suc fuel, enough, reads) =
+ends_so count options taken defined depth whole ended has rest ending state after line no_blank
+    some is (suc fuel, enough, reads) =
     let whole_line = reads defined taken in (
       whole_line.0,
       whole_line.1,
-      sym (begun_step fuel options taken defined depth whole ended has rest ending state (Ends after) no_blank is)
+      sym (begun_step fuel options taken defined depth whole ended has rest ending state
+          (Ends after) no_blank is)
           ∙ whole_line.2,
     )
 

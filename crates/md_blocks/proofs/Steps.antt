@@ -1,5 +1,6 @@
 -- How a line begins a block.
-use Rattle.std.proofs.Common.{ℕ, Bool, List, [], ◌∷◌, ◌≡◌, ◌∙◌, ◌==◌, true, false, refl, sym, ap, Option, Some, None}
+use Rattle.std.proofs.Common.{ℕ, Bool, List, [], ◌∷◌, ◌≡◌, ◌∙◌, ◌==◌, true, false, refl, sym, ap}
+use Rattle.std.proofs.Common.{Option, Some, None}
 use Rattle.std.proofs.Common.{arith, length, drop, get_or, nat_lt, ◌&&◌}
 use Rattle.std.specs.Prelude.{Result, Ok, Err, IfOk, ◌||◌, if◌then◌else◌}
 use Rattle.std.proofs.Common.{inl, inr, not}
@@ -8,10 +9,12 @@ use Rattle.std.proofs.lemmas.List.{drop_all}
 use Rattle.md_blocks.specs.BlockStructure.{break_at, may_underline, paragraph_lines}
 use Rattle.md_blocks.specs.ContainerBlocks.{Begun}
 use Rattle.md_blocks.specs.Entries.{Break, Heading, Line, OnlyDefinitions, Paragraph}
-use Rattle.md_blocks.specs.LeafBlocks.{definitions_taken, heading_underlined, if_begun, line_added, row_read, text_read}
+use Rattle.md_blocks.specs.LeafBlocks.{definitions_taken, heading_underlined, if_begun}
+use Rattle.md_blocks.specs.LeafBlocks.{line_added, row_read, text_read}
 use Rattle.md_blocks.specs.Leaves.{is_break, is_underline}
 use Rattle.md_blocks.specs.Rests.{Rest}
-use Rattle.md_blocks.specs.States.{State, InParagraph, NoLeaf, blank_written, containers_closed, is_in_paragraph, room_for_text}
+use Rattle.md_blocks.specs.States.{State, InParagraph, NoLeaf, blank_written, containers_closed}
+use Rattle.md_blocks.specs.States.{is_in_paragraph, room_for_text}
 use Rattle.md_blocks.specs.States.{leaf_closed, list_closed, with_a_child, with_entries, with_leaf}
 
 -- two facts of a result are a third one
@@ -151,7 +154,8 @@ pub breaks_or : (mark taken defined depth : ℕ) (on is_line has : Bool) (text :
     (is_line ≡ false → left ≡ state) →
     break_at defined depth text left ≡ if_begun has new → (has ≡ false → new ≡ left) →
     BreakOr text depth on state has new
-breaks_or mark taken defined depth on true has text state left new is may line not_head is_left same begun stays =
+breaks_or mark taken defined depth on true has text state left new is may line not_head is_left
+    same begun stays =
     let lines = paragraph_lines state.leaf in
     let left_there = left_is mark taken on true text state is may line in
     let made = with_leaf NoLeaf (with_entries (Heading (if mark == 61 then 1 else 2) (drop taken lines) ∷ [])
@@ -168,10 +172,12 @@ breaks_or mark taken defined depth on true has text state left new is may line n
           ∙ ap (break_at defined depth text) (sym is_left) ∙ begun,
       λ none. stays none ∙ is_left ∙ sym left_there,
     )
-breaks_or mark taken defined depth on false has text state left new is may line not_head is_left same begun stays =
+breaks_or mark taken defined depth on false has text state left new is may line not_head is_left
+    same begun stays =
     let lines = paragraph_lines state.leaf in
     let left_there = left_is mark defined on false text state is may line in
-    let made = with_leaf NoLeaf (with_entries (Heading (if mark == 61 then 1 else 2) (drop defined lines) ∷ [])
+    let made = with_leaf NoLeaf (with_entries (Heading (if mark == 61 then 1 else 2)
+    (drop defined lines) ∷ [])
     (blank_written state)) in (
       defined,
       tried mark defined depth on text state is may

@@ -1,12 +1,14 @@
 -- A byte that begins nothing but text begins no mark.
-use Rattle.std.proofs.Common.{ℕ, Bool, List, [], ◌∷◌, ◌≡◌, ◌≤◌, ◌∙◌, ◌==◌, ◌&&◌, ◌+◌, ◌-◌, ◌++◌, true, false, refl, sym, ap}
+use Rattle.std.proofs.Common.{ℕ, Bool, List, [], ◌∷◌, ◌≡◌, ◌≤◌, ◌∙◌, ◌==◌, ◌&&◌, ◌+◌, ◌-◌, ◌++◌}
+use Rattle.std.proofs.Common.{true, false, refl, sym, ap}
 use Rattle.std.proofs.Common.{arith, inl, inr, length, drop, take, get_or, nat_lt, not, suc, cond}
 use Rattle.std.specs.Prelude.{◌||◌, reverse, min, if◌then◌else◌}
 use Rattle.std.specs.List.{list_all, onto_first, prefix_len, suffix_len}
 use Rattle.std.proofs.lemmas.Bool.{agree_below_at, cases_Bool, false≢true, ltb-true, ne_eqb}
 use Rattle.std.proofs.lemmas.List.{reverse-append, length-reverse}
 use Rattle.md_lines.specs.Lines.{is_blank}
-use Rattle.md_blocks.specs.Leaves.{cells, delimiters, is_delimiter, is_delimiter_row, without_blanks, without_first}
+use Rattle.md_blocks.specs.Leaves.{cells, delimiters, is_delimiter, is_delimiter_row}
+use Rattle.md_blocks.specs.Leaves.{without_blanks, without_first}
 use Rattle.md_blocks.specs.Marks.{ends_marker, is_apart, is_digit, opens_item}
 use Rattle.md_blocks.specs.Progress.{is_text}
 
@@ -17,7 +19,8 @@ other k byte is not_k =
 
 above : (byte : ℕ) → is_text byte ≡ true → nat_lt byte 58 ≡ false
 above byte is = elim (cases_Bool (nat_lt byte 58)) [
-  | inl e ↦ absurd (false≢true (sym (agree_below_at is_text (λ _. false) 58 byte refl (ltb-true byte 58 e)) ∙ is))
+  | inl e ↦ absurd (false≢true (sym (agree_below_at is_text (λ _. false) 58 byte refl
+      (ltb-true byte 58 e)) ∙ is))
   | inr e ↦ e
 ]
 

@@ -1,6 +1,6 @@
--- Which blocks begin at the text of a line (the specification's appendix, phase 1, step 2). A text is
--- the rest of a line after its indentation; `defined` is how many lines of the paragraph that is
--- open before the line are definitions of links (4.7).
+-- Which blocks a line continues and begins, and what it is else (the specification's appendix,
+-- phase 1, for one line). A text is the rest of a line after its indentation; `defined` is how many
+-- lines of the paragraph that is open before the line are definitions of links (4.7).
 use Rattle.std.specs.Prelude.{ℕ, Bool, Option, List, [], ◌==◌, ◌&&◌, ◌||◌, not, nat_lt, get_or}
 use Rattle.std.specs.Prelude.{Some, None, zero, suc, length, true, false, if◌then◌else◌}
 use Rattle.md_blocks.specs.declared.options.MarkdownOptions.{MarkdownOptions}
@@ -8,10 +8,12 @@ use Rattle.md_blocks.specs.Marks.{opens_item, may_interrupt}
 use Rattle.md_blocks.specs.Leaves.{is_underline}
 use Rattle.md_blocks.specs.Entries.{Line}
 use Rattle.md_blocks.specs.Rests.{Rest, indent, is_blank_rest, unindented}
-use Rattle.md_blocks.specs.States.{State, Leaf, InParagraph, InFenced, InMath, InHtml, is_in_paragraph, without_blank}
+use Rattle.md_blocks.specs.States.{State, Leaf, InParagraph, InFenced, InMath, InHtml}
+use Rattle.md_blocks.specs.States.{is_in_paragraph, without_blank}
 use Rattle.md_blocks.specs.Containers.{matched}
 use Rattle.md_blocks.specs.LeafBlocks.{break_begun, code_begun, heading_begun, heading_underlined}
-use Rattle.md_blocks.specs.LeafBlocks.{a_line, definitions_taken, html_begun, indented_read, kind_begun, table_begun}
+use Rattle.md_blocks.specs.LeafBlocks.{a_line, definitions_taken, html_begun, indented_read}
+use Rattle.md_blocks.specs.LeafBlocks.{kind_begun, table_begun}
 use Rattle.md_blocks.specs.LeafBlocks.{blank_read, blank_waits, fenced_read, html_read, text_read}
 use Rattle.md_blocks.specs.ContainerBlocks.{Begun, quote_begun, item_begun}
 use Rattle.md_blocks.specs.OwnBlocks.{footnote_begun, after_footnote, math_begun}
@@ -84,7 +86,7 @@ marks_begun defined depth in_paragraph rest state =
     ] else break_at defined depth text state
 
 -- 4 Leaf blocks: the one that begins at a text, by its first byte; `is_alone` says whether the text
--- is a tag alone on its line (6.10), which interrupts no paragraph
+-- is a tag alone on its line (6.10), which begins no block in a paragraph
 abbrev pub leaf_begun : MarkdownOptions → Bool → ℕ → ℕ → Bool → Rest → List ℕ → State → Option State
 leaf_begun options is_alone defined depth in_paragraph rest ending state =
     let text = unindented rest in

@@ -43,7 +43,8 @@ returns-then-branch-2-clause-state c is =
     (leaf.2 ∙ ap (λ so. if_begun so (state_of l)) c.if-branch.false)
     (leaf.3 c.if-branch.false)
     (ap (λ b. or_ends b (text_begun p.options.now found.0 depth whole rest ending (state_of l)))
-    (ap (λ o. container_begun o.now found.0 depth still rest ending (state_of l)) (sym c.begin_leaf.ensures.options)
+    (ap (λ o. container_begun o.now found.0 depth still rest ending (state_of l))
+    (sym c.begin_leaf.ensures.options)
     ∙ ap (λ b. container_begun l.options.now found.0 depth still rest (ending_of b.now place) (state_of l))
     (sym c.begin_leaf.ensures.document)
     ∙ found.1 ∙ ap (λ so. if so then Some (begun_of new.self new.position) else None) c.if-branch-2.true))
@@ -66,7 +67,8 @@ returns-clause-state c is =
     let stays = c.in_ok-begin_container.ensures.stays c.if-branch-2.false in
     let still = whole && is_in_paragraph (state_of l).leaf in
     let none : container_begun p.options.now found.0 depth still rest ending (state_of l) ≡ None =
-    ap (λ o. container_begun o.now found.0 depth still rest ending (state_of l)) (sym c.begin_leaf.ensures.options)
+    ap (λ o. container_begun o.now found.0 depth still rest ending (state_of l))
+    (sym c.begin_leaf.ensures.options)
     ∙ ap (λ b. container_begun l.options.now found.0 depth still rest (ending_of b.now place) (state_of l))
     (sym c.begin_leaf.ensures.document)
     ∙ found.1 ∙ ap (λ so. if so then Some (begun_of k.self k.position) else None) c.if-branch-2.false in
@@ -76,11 +78,14 @@ returns-clause-state c is =
     (leaf.3 c.if-branch.false)
     (ap (λ b. or_ends b (text_begun p.options.now text.0 depth whole rest ending (state_of l)))
     (container_none p.options.now found.0 text.0 depth still rest ending (state_of l) none)
-    ∙ ap (λ o. Ends (text_begun o.now text.0 depth whole rest ending (state_of l))) (sym c.begin_leaf.ensures.options)
+    ∙ ap (λ o. Ends (text_begun o.now text.0 depth whole rest ending (state_of l)))
+    (sym c.begin_leaf.ensures.options)
     ∙ ap (λ b. Ends (text_begun l.options.now text.0 depth whole rest (ending_of b.now place) (state_of l)))
     (sym c.begin_leaf.ensures.document)
-    ∙ ap (λ s. Ends (text_begun s.options.now text.0 depth whole rest (ending_of s.bytes.now place) (state_of s)))
+    ∙ ap (λ s. Ends (text_begun s.options.now text.0 depth whole rest
+    (ending_of s.bytes.now place) (state_of s)))
     (sym stays.0)
-    ∙ ap (λ q. Ends (text_begun k.self.options.now text.0 depth whole (rest_of q) (ending_of k.self.bytes.now q) (state_of k.self)))
+    ∙ ap (λ q. Ends (text_begun k.self.options.now text.0 depth whole (rest_of q)
+    (ending_of k.self.bytes.now q) (state_of k.self)))
     (sym stays.1)
     ∙ ap Ends (sym text.1))

@@ -47,12 +47,14 @@ returns-then-is_text-clause-state c is =
     let ending = ending_of p.bytes.now place in
     let n = defined_by p new in
     let text : is_text (get_or (unindented rest) 0 0) ≡ true =
-    ap is_text (ap (λ t. get_or t 0 0) (text_is place) ∙ sym is) ∙ sym c.is_text.ensures ∙ c.if-is_text.true in (
+    ap is_text (ap (λ t. get_or t 0 0) (text_is place) ∙ sym is) ∙ sym c.is_text.ensures
+    ∙ c.if-is_text.true in (
       n,
       false,
       ap (λ so. shallow so (block_begun p.options.now false n depth whole rest ending (state_of p))
           (deep_read n depth whole rest ending (state_of p)))
-          (ap (λ i. nat_lt i 4) (sym place.indents) ∙ lt-ltb place.indent 4 c.if-position-ge-CODE_INDENT.false)
+          (ap (λ i. nat_lt i 4) (sym place.indents)
+          ∙ lt-ltb place.indent 4 c.if-position-ge-CODE_INDENT.false)
           ∙ text_block p.options.now n depth whole rest ending (state_of p) text
           ∙ ap (λ t. Ends (text_read n depth whole (a_line t ending) (state_of p))) (text_is place)
           ∙ ap Ends (sym c.in_ok-read_text.ensures.state),
@@ -75,7 +77,8 @@ returns-clause-state c =
     × (block_begun p.options.now alone n depth whole rest ending (state_of p)
     ≡ (if on then GoesOn (begun_of new.self new.position) else Ends (state_of new.self))))
     (λ on. byte ≡ get_or (text_at place) 0 0 → (n : ℕ) × (alone : Bool)
-    × (shallow (nat_lt (indent rest) 4) (block_begun p.options.now alone n depth whole rest ending (state_of p))
+    × (shallow (nat_lt (indent rest) 4) (block_begun p.options.now alone n depth whole rest ending
+    (state_of p))
     (deep_read n depth whole rest ending (state_of p))
     ≡ (if on then GoesOn (begun_of new.self new.position) else Ends (state_of new.self))))
     (λ on found is. let begun = found is in (

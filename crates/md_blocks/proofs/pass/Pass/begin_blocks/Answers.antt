@@ -1,5 +1,6 @@
 -- Each step begins what the definition says.
-use Rattle.std.proofs.Common.{ℕ, Bool, ap, sym, subst, refl, ◌∙◌, ◌≡◌, ◌<◌, ◌-◌, true, false, length, nat_lt, arith, is_some}
+use Rattle.std.proofs.Common.{ℕ, Bool, ap, sym, subst, refl, ◌∙◌, ◌≡◌, ◌<◌, ◌-◌, true, false}
+use Rattle.std.proofs.Common.{length, nat_lt, arith, is_some}
 use Rattle.std.specs.Prelude.{get_or, if◌then◌else◌}
 use Rattle.std.proofs.lemmas.Bool.{false≢true}
 use Rattle.std.proofs.lemmas.Result.{on_ok_weaker}
@@ -55,7 +56,8 @@ returns-then-not-branch-clause-state c =
     ∙ found.2
     ∙ ap (λ so. if so then GoesOn (begun_of new.self new.position) else Ends (state_of new.self))
     c.if-not-branch.true in
-    ends_so (length at.line.now - at.at) p.options.now found.1 found.0 depth whole ended c.parts.has_begun rest
+    ends_so (length at.line.now - at.at) p.options.now found.1 found.0 depth whole ended
+    c.parts.has_begun rest
     ending (state_of q) (state_of new.self)
     (λ n alone. begun (length (rest_of place).text) p.options.now alone n c.args.matched whole ended false
     (rest_of place) ending (state_of p))
@@ -91,7 +93,8 @@ parts-preserved c =
     ap (λ l. length l.now) c.begin_block.ensures.same_line in
     let less : length new.position.line.now - new.position.at < length at.line.now - at.at =
     omega (arith, further, line_is, c.byte.ensures.there (ap is_some c.in-Some.is), at.before_text) in
-    let line : ℕ → Bool → State = λ n alone. begun (length (rest_of place).text) p.options.now alone n c.args.matched whole ended
+    let line : ℕ → Bool → State = λ n alone. begun (length
+    (rest_of place).text) p.options.now alone n c.args.matched whole ended
     false (rest_of place) ending (state_of p) in
     record {
       line = c.begin_block.ensures.same_line ∙ inv.line;
@@ -99,7 +102,8 @@ parts-preserved c =
       document = c.begin_block.ensures.document ∙ inv.document;
       options = c.begin_block.ensures.options ∙ inv.options;
       first = λ none. absurd (false≢true (sym none));
-      left = subst (λ d. Left (length new.position.line.now - new.position.at) p.options.now d whole ended true
+      left = subst (λ d. Left (length new.position.line.now - new.position.at) p.options.now d
+          whole ended true
           (rest_of new.position) ending (state_of new.self) line)
           (sym (c.depth-depth.ensures ∙ new.self.nesting.stack.ok.0))
           (goes_on (length at.line.now - at.at) (length new.position.line.now - new.position.at) p.options.now
@@ -123,7 +127,8 @@ returns-then-has_begun-clause-state c =
     let given = inv.left.2 0 false in (
       given.0,
       given.1,
-      sym (begun_blank inv.left.0 p.options.now false 0 depth whole ended c.parts.has_begun rest ending (state_of q) blank
+      sym (begun_blank inv.left.0 p.options.now false 0 depth whole ended c.parts.has_begun rest
+          ending (state_of q) blank
           ∙ ap (λ so. blank_or 0 depth whole ended so rest ending (state_of q)) c.if-has_begun.true)
           ∙ given.2,
     )
@@ -151,10 +156,13 @@ returns-else-has_begun-clause-state c =
       given.0,
       given.1,
       read
-          ∙ ap (λ b. blank_waits (nat_lt 0 b) (blank_read n matched whole rest (ending_of q.bytes.now at) (state_of q))) inv.ending
+          ∙ ap (λ b. blank_waits (nat_lt 0 b) (blank_read n matched whole rest
+          (ending_of q.bytes.now at) (state_of q))) inv.ending
           ∙ ap (λ e. blank_waits ended (blank_read n matched whole rest e (state_of q))) ending_is
-          ∙ ap (λ d. blank_waits ended (blank_read n d whole rest ending (state_of q))) (sym (inv.first c.if-has_begun.false))
-          ∙ sym (begun_blank inv.left.0 p.options.now false n depth whole ended c.parts.has_begun rest ending (state_of q) blank
+          ∙ ap (λ d. blank_waits ended (blank_read n d whole rest ending (state_of q))) (sym
+          (inv.first c.if-has_begun.false))
+          ∙ sym (begun_blank inv.left.0 p.options.now false n depth whole ended c.parts.has_begun
+          rest ending (state_of q) blank
           ∙ ap (λ so. blank_or n depth whole ended so rest ending (state_of q)) c.if-has_begun.false)
           ∙ given.2,
     )) c.read_blank_line.ensures.state

@@ -1,6 +1,7 @@
 -- The first byte says which container may begin.
-use Rattle.std.proofs.Common.{ℕ, Bool, List, ap, sym, ◌∙◌, ◌≡◌, ◌==◌, ◌&&◌, nat_lt, true, false, Some, None, Option}
-use Rattle.std.specs.Prelude.{get_or, not, if◌then◌else◌}
+use Rattle.std.proofs.Common.{ℕ, Bool, List, ap, sym, ◌∙◌, ◌≡◌, ◌==◌, ◌&&◌, true, false}
+use Rattle.std.proofs.Common.{Some, None, Option}
+use Rattle.std.specs.Prelude.{get_or, if◌then◌else◌}
 use Rattle.std.proofs.lemmas.Bool.{le-ltb, lt-ltb, ne_eqb}
 use Rattle.std.proofs.lemmas.Result.{IfOk-weaker}
 use Rattle.md_blocks.specs.declared.options.MarkdownOptions.{MarkdownOptions}
@@ -176,7 +177,8 @@ returns-clause-state c =
           (ne_eqb c.args.byte 62 c.if-byte-eq62.false)
           ∙ ap (λ so. by_tests false so p.options.now found.0 depth on rest ending (state_of p))
           (ne_eqb c.args.byte 91 c.if-byte-eq91.false)
-          ∙ ap (λ so. item_at found.0 depth so rest ending (state_of p)) (sym c.is_in_paragraph-in_paragraph.ensures.value)
+          ∙ ap (λ so. item_at found.0 depth so rest ending (state_of p))
+          (sym c.is_in_paragraph-in_paragraph.ensures.value)
           ∙ found.1,
     ))
     c.begin_marked.ensures.state

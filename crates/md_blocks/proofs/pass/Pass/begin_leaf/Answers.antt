@@ -1,6 +1,7 @@
 -- The first byte says which leaf may begin.
-use Rattle.std.proofs.Common.{ℕ, Bool, List, ap, sym, subst, refl, ◌∙◌, ◌≡◌, ◌==◌, ◌&&◌, true, false, Option, None}
-use Rattle.std.specs.Prelude.{◌||◌, get_or, not, if◌then◌else◌}
+use Rattle.std.proofs.Common.{ℕ, Bool, List, ap, sym, subst, refl, ◌∙◌, ◌≡◌, ◌==◌, ◌&&◌, true}
+use Rattle.std.proofs.Common.{false, None}
+use Rattle.std.specs.Prelude.{◌||◌, get_or, if◌then◌else◌}
 use Rattle.std.proofs.lemmas.Bool.{ne_eqb}
 use Rattle.std.proofs.lemmas.Result.{IfOk-weaker}
 use Rattle.md_blocks.specs.declared.options.MarkdownOptions.{MarkdownOptions}
@@ -11,29 +12,16 @@ use Rattle.md_blocks.specs.Passes.{defined_by, state_of}
 use Rattle.md_blocks.specs.Positions.{ending_of, rest_of, text_at}
 use Rattle.md_blocks.specs.Rests.{Rest, unindented}
 use Rattle.md_blocks.specs.States.{State, is_in_paragraph}
+use Rattle.md_blocks.proofs.Choices.{chosen, tested}
 use Rattle.md_blocks.proofs.LineLemmas.{text_is}
 use Rattle.md_blocks.proofs.Steps.{alone_is, both_ok, fence_is_none, no_underline, unchanged}
 use Rattle.md_blocks.proofs.pass.Pass.begin_leaf.Goals as goal
 
--- what may begin, by tests of the first byte
-abbrev tested : Bool → Bool → Bool → Bool → ℕ → MarkdownOptions → Bool → ℕ → ℕ → Bool → Rest → List ℕ → State → Option State
-tested heading fence math html first options alone defined depth on rest ending state =
-    if heading then heading_begun defined depth (unindented rest) state
-    else if fence then code_begun defined first depth rest state
-    else if math then (if options.math then math_begun defined depth rest ending state else None)
-    else if html
-    then html_begun defined depth (kind_begun (alone && not on) (unindented rest)) rest ending state
-    else marks_begun defined depth on rest state
-
-abbrev chosen : ℕ → MarkdownOptions → Bool → ℕ → ℕ → Bool → Rest → List ℕ → State → Option State
-chosen first options alone defined depth on rest ending state =
-    tested (first == 35) (first == 96 || first == 126) (first == 36) (first == 60) first options alone
-    defined depth on rest ending state
-
 -- what is claimed of it
 abbrev Claim : MarkdownOptions → ℕ → Bool → Rest → List ℕ → State → Bool → State → Type 0
 Claim options depth on rest ending state has new =
-    (n : ℕ) × (alone : Bool) × (chosen (get_or (unindented rest) 0 0) options alone n depth on rest ending state
+    (n : ℕ) × (alone : Bool) × (chosen (get_or
+    (unindented rest) 0 0) options alone n depth on rest ending state
     ≡ if_begun has new) × (has ≡ false → new ≡ unless_underlined n on rest state)
 
 -- nothing is changed where the byte underlines nothing
@@ -58,7 +46,8 @@ returns-then-byte-eq35-clause-state c =
     (λ has. has ≡ false → state_of new ≡ state_of p)
     (λ has. c.args.byte ≡ get_or (text_at place) 0 0
     → Claim p.options.now depth on rest ending (state_of p) has (state_of new))
-    (λ has begun same is. let first = ap (λ t. get_or t 0 0) (text_is place) ∙ sym is ∙ c.if-byte-eq35.true in (
+    (λ has begun same is. let first = ap (λ t. get_or t 0 0) (text_is place) ∙ sym is
+    ∙ c.if-byte-eq35.true in (
       defined,
       false,
       ap (λ byte. chosen byte p.options.now false defined depth on rest ending (state_of p)) first
@@ -127,7 +116,8 @@ returns-then-byte-eq36-clause-state c =
     (λ has. has ≡ false → state_of new ≡ state_of p)
     (λ has. c.args.byte ≡ get_or (text_at place) 0 0
     → Claim p.options.now depth on rest ending (state_of p) has (state_of new))
-    (λ has begun same is. let first = ap (λ t. get_or t 0 0) (text_is place) ∙ sym is ∙ c.if-byte-eq36.true in (
+    (λ has begun same is. let first = ap (λ t. get_or t 0 0) (text_is place) ∙ sym is
+    ∙ c.if-byte-eq36.true in (
       begun.0,
       false,
       ap (λ byte. chosen byte p.options.now false begun.0 depth on rest ending (state_of p)) first
@@ -155,7 +145,8 @@ returns-then-byte-eq60-clause-state c =
     (λ has. has ≡ false → state_of new ≡ state_of p)
     (λ has. c.args.byte ≡ get_or (text_at place) 0 0
     → Claim p.options.now depth on rest ending (state_of p) has (state_of new))
-    (λ has begun same is. let first = ap (λ t. get_or t 0 0) (text_is place) ∙ sym is ∙ c.if-byte-eq60.true in (
+    (λ has begun same is. let first = ap (λ t. get_or t 0 0) (text_is place) ∙ sym is
+    ∙ c.if-byte-eq60.true in (
       begun.1,
       begun.0,
       ap (λ byte. chosen byte p.options.now begun.0 begun.1 depth on rest ending (state_of p)) first

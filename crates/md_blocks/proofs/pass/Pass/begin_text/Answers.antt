@@ -49,12 +49,14 @@ returns-then-branch-clause-state c =
     let tables = p.options.now.tables in
     let on = sym c.is_in_paragraph.ensures.value ∙ c.if-not-is_in_paragraph.false in
     let lines : paragraph_lines state.leaf ≡ leaf_lines p =
-    ap (λ l. paragraph_lines (leaf_of l (leaf_lines p))) (c.is_in_paragraph.ensures.is c.if-not-is_in_paragraph.false) in
+    ap (λ l. paragraph_lines (leaf_of l (leaf_lines p)))
+    (c.is_in_paragraph.ensures.is c.if-not-is_in_paragraph.false) in
     let table = table_begun tables found.0 text ending (paragraph_lines state.leaf) state in
     let read = text_read found.0 depth whole (a_line text ending) state in (
       found.0,
       sym (ap (λ so. or_text (if so then table else None) read) on
-          ∙ ap (λ t. or_text (table_begun tables found.0 t ending (paragraph_lines state.leaf) state) read) (text_is place)
+          ∙ ap (λ t. or_text (table_begun tables found.0 t ending
+          (paragraph_lines state.leaf) state) read) (text_is place)
           ∙ ap (λ those. or_text (table_begun tables found.0 (text_at place) ending those state) read) lines
           ∙ ap (λ t. or_text t read) (found.1 ∙ ap (λ so. if_begun so (state_of new)) c.if-branch.true)),
     )
@@ -75,7 +77,8 @@ returns-clause-state c =
     let tables = p.options.now.tables in
     let on = sym c.is_in_paragraph.ensures.value ∙ c.if-not-is_in_paragraph.false in
     let lines : paragraph_lines state.leaf ≡ leaf_lines p =
-    ap (λ l. paragraph_lines (leaf_of l (leaf_lines p))) (c.is_in_paragraph.ensures.is c.if-not-is_in_paragraph.false) in
+    ap (λ l. paragraph_lines (leaf_of l (leaf_lines p)))
+    (c.is_in_paragraph.ensures.is c.if-not-is_in_paragraph.false) in
     let table = table_begun tables found.0 text ending (paragraph_lines state.leaf) state in
     let same = c.in_ok-begin_table.ensures.same c.if-branch.false in
     let line = a_line text ending in
@@ -83,11 +86,14 @@ returns-clause-state c =
     on_ok_weaker c.read_text-2.result (λ begun. (
       found.0,
       begun
-          ∙ ap (λ q. text_read (defined_by t new) depth whole (a_line (text_at place) (ending_of q.bytes.now place)) (state_of q)) same
-          ∙ ap (λ those. text_read (defined_by t new) depth whole (a_line those ending) state) (sym (text_is place))
+          ∙ ap (λ q. text_read (defined_by t new) depth whole (a_line (text_at place)
+          (ending_of q.bytes.now place)) (state_of q)) same
+          ∙ ap (λ those. text_read (defined_by t new) depth whole (a_line those ending) state)
+          (sym (text_is place))
           ∙ texts_alike (defined_by t new) found.0 depth whole line state (and_parts _ _ on).1
           ∙ sym (ap (λ so. or_text (if so then table else None) read) on
-          ∙ ap (λ those. or_text (table_begun tables found.0 those ending (paragraph_lines state.leaf) state) read) (text_is place)
+          ∙ ap (λ those. or_text (table_begun tables found.0 those ending
+          (paragraph_lines state.leaf) state) read) (text_is place)
           ∙ ap (λ those. or_text (table_begun tables found.0 (text_at place) ending those state) read) lines
           ∙ ap (λ so. or_text so read) (found.1 ∙ ap (λ so. if_begun so (state_of t)) c.if-branch.false)),
     )) c.read_text-2.ensures.state

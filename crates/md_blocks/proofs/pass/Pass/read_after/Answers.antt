@@ -42,7 +42,8 @@ returns-clause-state c =
           (c.in_ok-continue_if.ensures.same c.if-branch.false)
           ∙ ap (λ o. begun (length rest.text) o.now read.1 read.0 matched whole (nat_lt 0 place.ending)
           false rest (ending_of l.bytes.now place) (state_of l)) c.continue_if.ensures.options
-          ∙ ap (λ b. begun (length rest.text) p.options.now read.1 read.0 matched whole (nat_lt 0 place.ending)
+          ∙ ap (λ b. begun (length rest.text) p.options.now read.1 read.0 matched whole
+          (nat_lt 0 place.ending)
           false rest (ending_of b.now place) (state_of l)) c.continue_if.ensures.document
           ∙ ap (begun (length rest.text) p.options.now read.1 read.0 matched whole (nat_lt 0 place.ending)
           false rest ending) (c.in_ok-continue_if.ensures.stays c.if-branch.false)
