@@ -8,7 +8,7 @@ use Rattle.md_blocks.specs.Marks.{opens_item, may_interrupt}
 use Rattle.md_blocks.specs.Leaves.{is_underline}
 use Rattle.md_blocks.specs.Entries.{Line}
 use Rattle.md_blocks.specs.Rests.{Rest, indent, is_blank_rest, unindented}
-use Rattle.md_blocks.specs.States.{State, Leaf, InParagraph, InFenced, InMath, InHtml}
+use Rattle.md_blocks.specs.States.{State, Leaf, NoLeaf, InParagraph, InFenced, InMath, InHtml}
 use Rattle.md_blocks.specs.States.{is_in_paragraph, without_blank}
 use Rattle.md_blocks.specs.Containers.{matched}
 use Rattle.md_blocks.specs.LeafBlocks.{break_begun, code_begun, heading_begun, heading_underlined}
@@ -17,6 +17,10 @@ use Rattle.md_blocks.specs.LeafBlocks.{kind_begun, table_begun}
 use Rattle.md_blocks.specs.LeafBlocks.{blank_read, blank_waits, fenced_read, html_read, text_read}
 use Rattle.md_blocks.specs.ContainerBlocks.{Begun, quote_begun, item_begun}
 use Rattle.md_blocks.specs.OwnBlocks.{footnote_begun, after_footnote, math_begun}
+
+-- the state before the first line
+abbrev pub started : State
+started = record { entries = []; containers = []; leaf = NoLeaf; blank = None; lacking = 0 }
 
 -- 5.1: a quote, unless it would be the 97th container that is open, by the parser's own rule
 abbrev pub quote_at : ℕ → ℕ → Rest → State → Option Begun

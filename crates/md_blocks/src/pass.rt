@@ -107,7 +107,7 @@ pub(crate) struct Pass<'a> {
 }
 
 impl<'a> Pass<'a> {
-    ghost use Rattle.md_blocks.specs.BlockStructure.{leaf_continued, line_after, line_read};
+    ghost use Rattle.md_blocks.specs.BlockStructure.{leaf_continued, line_after, line_read, started};
     ghost use Rattle.md_blocks.specs.LeafBlocks.{blank_read, blank_waits, if_begun, line_added};
     ghost use Rattle.md_blocks.specs.Rests.{is_blank_rest};
     ghost use Rattle.md_blocks.specs.Passes.{defined_by, leaf_of, state_of};
@@ -121,7 +121,12 @@ impl<'a> Pass<'a> {
         alloc: Global,
         bytes: &'a [u8],
         options: &'a MarkdownOptions,
-    ) -> Result<Self, AllocError> {
+    ) -> Result<Self, AllocError>
+        ensures state { IfOk result (λ pass. state_of pass ≡ started) }
+        ensures document { IfOk result (λ pass. pass.bytes.now ≡ bytes.now) }
+        ensures options { IfOk result (λ pass. pass.options.now ≡ options.now) }
+        ensures not_skipped { IfOk result (λ pass. pass.is_after_blank ≡ false) }
+    {
         if bytes.len() > MOST_BYTES {
             return Err(AllocError);
         }
