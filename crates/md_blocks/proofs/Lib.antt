@@ -13,3 +13,4 @@ pub mod Steps
 pub mod Choices
 pub mod TextBytes
 pub mod Folds
+pub mod Skipping

@@ -109,7 +109,11 @@ pub(crate) struct Pass<'a> {
 impl<'a> Pass<'a> {
     ghost use Rattle.md_blocks.specs.BlockStructure.{leaf_continued, line_after, line_read, started};
     ghost use Rattle.md_blocks.specs.LeafBlocks.{blank_read, blank_waits, if_begun, line_added};
+    ghost use Rattle.md_blocks.specs.Progress.{SkipsBlank};
     ghost use Rattle.md_blocks.specs.Rests.{is_blank_rest};
+    ghost use Rattle.md_blocks.specs.Stack.{is_quote};
+    ghost use Rattle.md_blocks.specs.States.{NoLeaf};
+    ghost use Rattle.std.specs.List.{list_any};
     ghost use Rattle.md_blocks.specs.Passes.{defined_by, leaf_of, state_of};
     ghost use Rattle.md_blocks.specs.Positions.{IsIn, ending_of, rest_of};
     ghost use Rattle.md_blocks.specs.States.{opened_in, with_a_child, with_entries, with_leaf};
@@ -210,11 +214,13 @@ impl<'a> Pass<'a> {
     #[inline(always)]
     fn read_line(&mut self, position: &mut Position<'_>) -> Result<(), AllocError>
         requires in_document { IsIn self.old.bytes.now position.old }
-        ensures state { (self.old.is_after_blank && is_blank_rest (rest_of position.old)) ≡ false
+        ensures state { (self.old.is_after_blank ≡ true → SkipsBlank (state_of self.old))
             → OnOk result ((defined : ℕ) × (is_alone : Bool) × (state_of self.new
             ≡ line_read self.old.options.now is_alone defined (nat_lt 0 position.old.ending)
             (rest_of position.old) (ending_of self.old.bytes.now position.old)
             (state_of self.old))) }
+        ensures skips { (self.old.is_after_blank ≡ true → SkipsBlank (state_of self.old))
+            → OnOk result (self.new.is_after_blank ≡ true → SkipsBlank (state_of self.new)) }
         ensures document { self.new.bytes ≡ self.old.bytes }
         ensures options { self.new.options ≡ self.old.options }
     {
@@ -242,35 +248,44 @@ impl<'a> Pass<'a> {
             ≡ line_read self.old.options.now is_alone defined (nat_lt 0 position.old.ending)
             (rest_of position.old) (ending_of self.old.bytes.now position.old)
             (state_of self.old))) }
+        ensures skips { OnOk result
+            (self.new.is_after_blank ≡ true → SkipsBlank (state_of self.new)) }
         ensures document { self.new.bytes ≡ self.old.bytes }
         ensures options { self.new.options ≡ self.old.options }
     {
         let matched = match_containers(self.nesting.stack.as_slice(), position);
         self.at = position.at;
         let is_whole = matched == self.nesting.depth();
-        self.read_after(position, matched, is_whole)?;
+        let is_ended = position.ending > 0;
+        let is_blank = self.read_after(position, matched, is_whole)?;
         self.at = position.at;
+        self.is_after_blank = self.skips_next(is_blank, is_ended);
         Ok(())
     }
 
-    /// Reads a line after the prefixes of `matched` open blocks.
+    /// Reads a line after the prefixes of `matched` open blocks; returns whether it is a blank line.
     #[inline(always)]
     fn read_after(
         &mut self,
         position: &mut Position<'_>,
         matched: usize,
         is_whole: bool,
-    ) -> Result<(), AllocError>
+    ) -> Result<bool, AllocError>
         requires in_document { IsIn self.old.bytes.now position.old }
         ensures state { OnOk result ((defined : ℕ) × (is_alone : Bool) × (state_of self.new
             ≡ line_after self.old.options.now is_alone defined matched is_whole
             (nat_lt 0 position.old.ending) (rest_of position.old)
             (ending_of self.old.bytes.now position.old) (state_of self.old))) }
+        ensures blank { IfOk result (λ is_blank. is_blank ≡ true
+            → (is_blank_rest (rest_of position.old) ≡ true) × ((defined : ℕ) × (state_of self.new
+            ≡ blank_waits (nat_lt 0 position.old.ending) (blank_read defined matched is_whole
+            (rest_of position.old) (ending_of self.old.bytes.now position.old)
+            (state_of self.old))))) }
         ensures document { self.new.bytes ≡ self.old.bytes }
         ensures options { self.new.options ≡ self.old.options }
     {
         if self.continue_if(is_whole, position)? {
-            return Ok(());
+            return Ok(false);
         }
         self.begin_blocks(position, matched, is_whole)
     }
@@ -336,15 +351,28 @@ impl<'a> Pass<'a> {
         ensures options { self.new.options ≡ self.old.options }
     {
         self.close_at_blank_line(position, matched, is_whole)?;
-        self.is_after_blank = self.may_skip_blank_lines();
         self.note_blank_line(position.text_line());
         Ok(())
     }
 
+    /// Whether further blank lines change nothing after a line: it is blank, and not the last one.
+    #[inline(always)]
+    fn skips_next(&self, is_blank: bool, is_ended: bool) -> bool
+        ensures blank { IsTrue result → is_blank ≡ true }
+        ensures ended { IsTrue result → is_ended ≡ true }
+        ensures leaf { IsTrue result → (state_of self.now).leaf ≡ NoLeaf }
+        ensures quotes { IsTrue result → list_any is_quote self.now.nesting.stack.items ≡ false }
+    {
+        is_blank && is_ended && self.may_skip_blank_lines()
+    }
+
     /// Whether more blank lines change nothing: no leaf and no quote is open.
     #[inline(always)]
-    fn may_skip_blank_lines(&self) -> bool {
-        self.leaf == OpenLeaf::None && !self.nesting.has_quote()
+    fn may_skip_blank_lines(&self) -> bool
+        ensures leaf { IsTrue result → (state_of self.now).leaf ≡ NoLeaf }
+        ensures quotes { IsTrue result → list_any is_quote self.now.nesting.stack.items ≡ false }
+    {
+        matches!(self.leaf, OpenLeaf::None) && !self.nesting.has_quote()
     }
 
     /// Adds a blank line to indented code, or closes the leaf and the containers that it doesn't

@@ -6,7 +6,9 @@ ghost use Rattle.std.specs.Prelude.{◌&&◌, ◌||◌, ◌==◌, get_or, IsTrue
 ghost use Rattle.md_blocks.specs.BlockStructure.{break_at, leaf_begun, marks_begun, may_underline};
 ghost use Rattle.md_blocks.specs.BlockStructure.{Ends, GoesOn, begun, block_begun, deep_read};
 ghost use Rattle.md_blocks.specs.BlockStructure.{step_read, text_begun, unless_underlined};
+ghost use Rattle.md_blocks.specs.LeafBlocks.{blank_read, blank_waits};
 ghost use Rattle.md_blocks.specs.Progress.{is_text};
+ghost use Rattle.md_blocks.specs.Rests.{is_blank_rest};
 ghost use Rattle.md_blocks.specs.LeafBlocks.{break_begun, code_begun, heading_begun, if_begun};
 ghost use Rattle.md_blocks.specs.Entries.{last_line};
 ghost use Rattle.md_blocks.specs.LeafBlocks.{definitions_taken, heading_underlined, html_begun};
@@ -37,18 +39,23 @@ impl<'a> Pass<'a> {
     ghost use Rattle.md_blocks.specs.Progress.{begun_of};
 
     /// Reads a line after the prefixes of `matched` open blocks, if no leaf accepted it; `is_whole`
-    /// says that these are all open blocks.
+    /// says that these are all open blocks. Returns whether it is a blank line.
     pub(crate) fn begin_blocks(
         &mut self,
         position: &mut Position<'_>,
         matched: usize,
         is_whole: bool,
-    ) -> Result<(), AllocError>
+    ) -> Result<bool, AllocError>
         requires in_document { IsIn self.old.bytes.now position.old }
         ensures state { OnOk result ((defined : ℕ) × (is_alone : Bool) × (state_of self.new
             ≡ begun (length (rest_of position.old).text) self.old.options.now is_alone defined matched
             is_whole (nat_lt 0 position.old.ending) false (rest_of position.old)
             (ending_of self.old.bytes.now position.old) (state_of self.old))) }
+        ensures blank { IfOk result (λ is_blank. is_blank ≡ true
+            → (is_blank_rest (rest_of position.old) ≡ true) × ((defined : ℕ) × (state_of self.new
+            ≡ blank_waits (nat_lt 0 position.old.ending) (blank_read defined matched is_whole
+            (rest_of position.old) (ending_of self.old.bytes.now position.old)
+            (state_of self.old))))) }
         ensures document { self.new.bytes ≡ self.old.bytes }
         ensures options { self.new.options ≡ self.old.options }
     {
@@ -56,16 +63,16 @@ impl<'a> Pass<'a> {
         let mut has_begun = false;
         'parts: while let Some(byte) = position.byte() {
             if !self.begin_block(byte, position, depth, is_whole)? {
-                return Ok(());
+                return Ok(false);
             }
             has_begun = true;
             depth = self.nesting.depth();
         }
         if has_begun {
-            Ok(())
-        } else {
-            self.read_blank_line(position, matched, is_whole)
+            return Ok(false);
         }
+        self.read_blank_line(position, matched, is_whole)?;
+        Ok(true)
     }
 
     /// Begins a block at the text, or reads the line as text; returns whether a container begins,

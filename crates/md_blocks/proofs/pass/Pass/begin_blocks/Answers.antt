@@ -3,13 +3,12 @@ use Rattle.std.proofs.Common.{ℕ, Bool, ap, sym, subst, refl, ◌∙◌, ◌≡
 use Rattle.std.proofs.Common.{length, nat_lt, arith, is_some}
 use Rattle.std.specs.Prelude.{get_or, if◌then◌else◌}
 use Rattle.std.proofs.lemmas.Bool.{false≢true}
-use Rattle.std.proofs.lemmas.Result.{on_ok_weaker}
 use Rattle.md_blocks.specs.BlockStructure.{Ends, GoesOn, begun, blank_or, step_read}
 use Rattle.md_blocks.specs.LeafBlocks.{blank_read, blank_waits}
 use Rattle.md_blocks.specs.Passes.{defined_by, state_of}
 use Rattle.md_blocks.specs.Positions.{ending_of, rest_of}
 use Rattle.md_blocks.specs.Progress.{begun_of}
-use Rattle.md_blocks.specs.Rests.{unindented}
+use Rattle.md_blocks.specs.Rests.{is_blank_rest, unindented}
 use Rattle.md_blocks.specs.States.{State}
 use Rattle.md_blocks.proofs.Folds.{Left, begun_blank, ends_so, first_is, goes_on, long, no_text, some_text}
 use Rattle.md_blocks.proofs.LineLemmas.{text_is}
@@ -24,6 +23,7 @@ parts-init c =
       document = refl;
       options = refl;
       first = λ _. refl;
+      same = λ _. (refl, refl);
       left = (
         length (rest_of place).text,
         long place.line.now place.at place.column place.is_in_tab,
@@ -102,6 +102,7 @@ parts-preserved c =
       document = c.begin_block.ensures.document ∙ inv.document;
       options = c.begin_block.ensures.options ∙ inv.options;
       first = λ none. absurd (false≢true (sym none));
+      same = λ none. absurd (false≢true (sym none));
       left = subst (λ d. Left (length new.position.line.now - new.position.at) p.options.now d
           whole ended true
           (rest_of new.position) ending (state_of new.self) line)
@@ -133,8 +134,8 @@ returns-then-has_begun-clause-state c =
           ∙ given.2,
     )
 
-pub returns-else-has_begun-clause-state : goal.returns-else-has_begun-clause-state
-returns-else-has_begun-clause-state c =
+pub returns-clause-state : goal.returns-clause-state
+returns-clause-state c =
     let p = c.args.self.now in
     let q = c.parts.self in
     let place = c.args.position.now in
@@ -152,7 +153,7 @@ returns-else-has_begun-clause-state c =
     ap (λ b. ending_of b.now at) inv.document ∙ same_ending p.bytes.now place at inv.line inv.ending in
     let blank = no_text (unindented rest) (sym c.byte.ensures.value ∙ c.in_default.is) in
     let given = inv.left.2 n false in
-    on_ok_weaker c.read_blank_line.result (λ read. (
+    let read = c.in_ok-read_blank_line.ensures.state in (
       given.0,
       given.1,
       read
@@ -165,4 +166,25 @@ returns-else-has_begun-clause-state c =
           rest ending (state_of q) blank
           ∙ ap (λ so. blank_or n depth whole ended so rest ending (state_of q)) c.if-has_begun.false)
           ∙ given.2,
-    )) c.read_blank_line.ensures.state
+    )
+
+pub returns-clause-blank : goal.returns-clause-blank
+returns-clause-blank c _ =
+    let q = c.parts.self in
+    let place = c.args.position.now in
+    let at = c.parts.position in
+    let whole = c.args.is_whole in
+    let matched = c.args.matched in
+    let n = defined_by q c.read_blank_line.new.self in
+    let same = c.parts.invariant.same c.if-has_begun.false in
+    let blank = no_text (unindented (rest_of at)) (sym c.byte.ensures.value ∙ c.in_default.is) in (
+      ap (λ a. is_blank_rest (rest_of a)) (sym same.1) ∙ blank,
+      (
+        n,
+        c.in_ok-read_blank_line.ensures.state
+            ∙ ap (λ a. blank_waits (nat_lt 0 a.ending) (blank_read n matched whole (rest_of a)
+            (ending_of q.bytes.now a) (state_of q))) same.1
+            ∙ ap (λ s. blank_waits (nat_lt 0 place.ending) (blank_read n matched whole (rest_of place)
+            (ending_of s.bytes.now place) (state_of s))) same.0,
+      ),
+    )

@@ -13,6 +13,7 @@ invariant-parts l = record {
   document : l.self.bytes ≡ l.initial.self.bytes;
   options : l.self.options ≡ l.initial.self.options;
   first : l.has_begun ≡ false → l.depth ≡ l.matched;
+  same : l.has_begun ≡ false → (l.self ≡ l.initial.self) × (l.position ≡ l.initial.position);
   left : Left (length l.position.line.now - l.position.at) l.initial.self.options.now l.depth l.is_whole
       (nat_lt 0 l.initial.position.ending) l.has_begun (rest_of l.position)
       (ending_of l.initial.self.bytes.now l.initial.position) (state_of l.self)
