@@ -17,3 +17,5 @@ pub mod Passes
 pub mod LeafBlocks
 pub mod ContainerBlocks
 pub mod OwnBlocks
+pub mod BlockStructure
+pub mod Progress

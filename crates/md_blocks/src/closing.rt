@@ -36,6 +36,7 @@ impl<'a> Pass<'a> {
             → defined_by self.old self.new
             ≡ defined_to (vec_len self.old.nesting.leaves.lines) self.old) }
         ensures document { self.new.bytes ≡ self.old.bytes }
+        ensures options { self.new.options ≡ self.old.options }
     {
         self.close_leaf()?;
         self.nesting.close_to(depth, self.at)?;
@@ -52,6 +53,7 @@ impl<'a> Pass<'a> {
             → defined_by self.old self.new
             ≡ defined_to (vec_len self.old.nesting.leaves.lines) self.old) }
         ensures document { self.new.bytes ≡ self.old.bytes }
+        ensures options { self.new.options ≡ self.old.options }
     {
         self.make_room_for_text(depth)?;
         self.put_blank_line()
@@ -67,6 +69,7 @@ impl<'a> Pass<'a> {
             → defined_by self.old self.new
             ≡ defined_to (vec_len self.old.nesting.leaves.lines) self.old) }
         ensures document { self.new.bytes ≡ self.old.bytes }
+        ensures options { self.new.options ≡ self.old.options }
     {
         self.close_unmatched(depth)?;
         self.add_child()
@@ -81,6 +84,7 @@ impl<'a> Pass<'a> {
             ≡ with_a_child (list_closed (state_of self.old))) }
         ensures leaves { self.new.nesting.leaves ≡ self.old.nesting.leaves }
         ensures document { self.new.bytes ≡ self.old.bytes }
+        ensures options { self.new.options ≡ self.old.options }
     {
         self.nesting.close_list(self.at)?;
         self.note_child();
@@ -98,6 +102,7 @@ impl<'a> Pass<'a> {
         ensures leaves { self.new.nesting.leaves ≡ self.old.nesting.leaves }
         ensures state { OnOk result (state_of self.new ≡ blank_written (state_of self.old)) }
         ensures document { self.new.bytes ≡ self.old.bytes }
+        ensures options { self.new.options ≡ self.old.options }
     {
         let Some(blank) = self.blank_line else {
             return Ok(());
@@ -132,6 +137,7 @@ impl<'a> Pass<'a> {
         ensures whole { OnOk result (HasWholeLines end self.old
             → defined_to end self.old ≡ defined_lines (lines_to end self.old)) }
         ensures document { self.new.bytes ≡ self.old.bytes }
+        ensures options { self.new.options ≡ self.old.options }
     {
         let nesting = &self.nesting;
         let start = after_definitions(
@@ -155,6 +161,7 @@ impl<'a> Pass<'a> {
             ≡ defined_to (vec_len self.old.nesting.leaves.lines) self.old) }
         ensures lines { self.new.nesting.leaves.lines ≡ self.old.nesting.leaves.lines }
         ensures document { self.new.bytes ≡ self.old.bytes }
+        ensures options { self.new.options ≡ self.old.options }
     {
         let leaf = self.leaf;
         self.leaf = OpenLeaf::None;
@@ -187,6 +194,7 @@ impl<'a> Pass<'a> {
         ensures leaf { self.new.leaf ≡ self.old.leaf }
         ensures lines { self.new.nesting.leaves.lines ≡ self.old.nesting.leaves.lines }
         ensures document { self.new.bytes ≡ self.old.bytes }
+        ensures options { self.new.options ≡ self.old.options }
     {
         if self.take_definitions(end)? {
             self.put_blank_line()?;
