@@ -107,9 +107,6 @@ pub record EndsAlike (whole text : List (List ℕ)) : Type 0 where
   pub enough : size text ≤ most
   pub same : after_opening (size whole) whole ≡ after_opening most text
 
-some-size : (line : List ℕ) (lines : List (List ℕ)) → 0 < size (line ∷ lines)
-some-size line lines = omega arith
-
 -- no attribute comes next
 pub ends : (whole : List (List ℕ)) (line : List ℕ) (lines : List (List ℕ)) →
     EndsAlike whole (line ∷ lines) → has_attribute (line ∷ lines) ≡ false →
