@@ -272,8 +272,9 @@ def is_task(rest):
 def task_begun(rest, ending, state):
     """A box; the text after it is a paragraph, whatever it begins with."""
     left = unindented(passed(3, rest))
-    is_done = unindented(rest)[1] != SPACE
-    begun = with_a_child(with_entries((Entry("Task", number=int(is_done)),), state))
+    box = unindented(rest)[:4]
+    task = Entry("Task", number=int(box[1] != SPACE), text=box[3:])
+    begun = with_a_child(with_entries((task,), state))
     if not left:
         return begun
     return with_leaf(Leaf(LeafKind.PARAGRAPH, (Line(left, ending),)), begun)

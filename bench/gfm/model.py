@@ -14,7 +14,7 @@ import sys
 if __name__ == "__main__":
     sys.path.insert(0, str(pathlib.Path(__file__).resolve().parents[1]))
 
-from gfm.blocks import blocks_of
+from gfm.blocks import blocks_of, lines_of
 from gfm.footnotes import Footnotes
 from gfm.inlines import Context, inlines, links_of
 from gfm.links import text_form
@@ -27,6 +27,7 @@ class Parsed:
 
     def __init__(self, options, document):
         entries, definitions = blocks_of(options, document)
+        self.ending = next((line.ending for line in lines_of(document) if line.ending), b"\n")
         self.tree = tree_of(entries)
         self.labels = [text_form(entry.text) for entry in entries
                        if entry.name == "FootnoteBegins"]
@@ -50,7 +51,7 @@ def printed(parsed, dropped):
 
 
 def html_of(document, options=Options()):
-    """The HTML of a document. Each line ending is a line feed."""
+    """The HTML of a document, which has its first line ending for each."""
     parsed = Parsed(options, document)
     _, footnotes = printed(parsed, frozenset())
     printer, _ = printed(parsed, footnotes.uncalled())

@@ -1,4 +1,4 @@
-"""The HTML of a document's entries. Each line ending is printed as a line feed."""
+"""The HTML of a document's entries. Each line ending is printed as the document's first one."""
 
 import re
 from typing import NamedTuple
@@ -88,10 +88,11 @@ def code_text(text, is_cell):
 
 
 class Inlines:
-    """Prints the inlines of leaves."""
+    """Prints the inlines of leaves, with a line ending for each line feed between two lines."""
 
-    def __init__(self, footnotes):
+    def __init__(self, footnotes, ending):
         self.footnotes = footnotes
+        self.ending = ending
         self.is_cell = False
 
     def all(self, nodes, is_alt=False, is_linked=False):
@@ -121,8 +122,10 @@ class Inlines:
         if node.kind == "break":
             return b"" if is_alt else b"<br />"
         if node.kind == "ending":
-            return b"\n"
-        return escaped(decoded(node.text, False) if node.kind == "reference" else node.text)
+            return self.ending
+        if node.kind == "reference":
+            return escaped(decoded(node.text, False))
+        return escaped(node.text.replace(b"\n", self.ending))
 
     def resource(self, node, is_alt, is_linked):
         """A link or an image."""
@@ -130,7 +133,8 @@ class Inlines:
         inner = self.all(node.items, is_alt or is_image, is_linked or not is_image)
         if is_alt:
             return inner
-        title = b' title="' + escaped(decoded(node.title)) + b'"' if node.title else b""
+        title = (node.title or b"").replace(b"\n", self.ending)
+        title = b' title="' + escaped(decoded(title)) + b'"' if title else b""
         url = url_of(decoded(node.text), SRC if is_image else HREF)
         if is_image:
             return b'<img src="' + url + b'" alt="' + inner + b'"' + title + b" />"
@@ -164,7 +168,8 @@ class Printer:
 
     def __init__(self, parsed, footnotes):
         self.parsed = parsed
-        self.inlines = Inlines(footnotes)
+        self.ending = parsed.ending
+        self.inlines = Inlines(footnotes, parsed.ending)
         self.footnotes = footnotes
         self.out = b""
 
@@ -175,7 +180,7 @@ class Printer:
     def begin_line(self):
         """Prints a line ending, unless a line begins."""
         if self.out and self.out[-1:] not in b"\n\r":
-            self.out += b"\n"
+            self.out += self.ending
 
     def line(self, text):
         """Prints a text that begins a line."""
@@ -224,19 +229,19 @@ class Printer:
         self.line(b"<hr />")
 
     def code(self, entry):
-        """Prints code or math. A last line that is nothing has the ending of the one before."""
+        """Prints code or math, each line with an ending."""
         info = escaped(decoded(entry.text))
         name = b' class="language-' + info + b'"' if info else b""
         if entry.name == "Math":
             name = b' class="language-math math-display"'
         self.line(b"<pre><code" + name + b">")
-        self.say(escaped(b"".join(line.text + b"\n" for line in entry.lines)))
+        self.say(escaped(b"".join(line.text + self.ending for line in entry.lines)))
         self.say(b"</code></pre>")
 
     def html(self, entry):
         """Prints a block of HTML as text, in which a tab that is used in part is whole."""
         texts = [b"\t" + line.text[line.tab:] if line.tab else line.text for line in entry.lines]
-        self.line(escaped(b"\n".join(texts)))
+        self.line(escaped(self.ending.join(texts)))
 
     def table(self, entry):
         """Prints a table."""
@@ -300,9 +305,9 @@ class Printer:
         self.say(b"</li>")
 
     def box(self, entry):
-        """Prints the box of a task."""
+        """Prints the box of a task, and the space or tab after it."""
         checked = b'checked="" ' if entry.number else b""
-        self.say(b'<input type="checkbox" disabled="" ' + checked + b"/> ")
+        self.say(b'<input type="checkbox" disabled="" ' + checked + b"/>" + entry.text)
 
     def footnote(self, block):
         """Keeps the HTML of a footnote for the end."""
@@ -318,12 +323,15 @@ class Printer:
         notes = self.footnotes.shown()
         if not notes:
             return
-        self.line(FOOTNOTES)
+        self.line(FOOTNOTES.replace(b"\n", self.ending))
         for note in notes:
-            self.line(b'<li id="user-content-fn-%s">\n' % name_of(note.form))
-            self.say(with_ways_back(note))
+            self.line(b'<li id="user-content-fn-%s">' % name_of(note.form))
+            self.begin_line()
+            self.say(with_ways_back(note, self.ending))
             self.line(b"</li>")
-        self.say(b"\n</ol>\n</section>\n")
+        self.line(b"</ol>")
+        self.line(b"</section>")
+        self.begin_line()
 
 
 LEAVES = {
@@ -348,7 +356,7 @@ def is_loose(block):
                for child in children)
 
 
-def with_ways_back(note):
+def with_ways_back(note, ending):
     """A footnote with a link to each call: at the end of its last paragraph, or after it."""
     ways, name = [], name_of(note.form)
     for count in range(1, note.calls + 1):
@@ -357,7 +365,7 @@ def with_ways_back(note):
         ways.append(b'<a href="#user-content-fnref-%s%s" data-footnote-backref="" '
                     b'aria-label="Back to content" class="data-footnote-backref">'
                     b"\xe2\x86\xa9%s</a>" % (name, suffix, mark))
-    text = note.html.rstrip(b"\n")
+    text = note.html.rstrip(b"\r\n")
     if text.endswith(b"</p>"):
         return text[:-len(b"</p>")] + b" " + b" ".join(ways) + b"</p>"
-    return text + (b"\n" if text else b"") + b" ".join(ways)
+    return text + (ending if text else b"") + b" ".join(ways)
