@@ -9,7 +9,7 @@ from gfm.characters import class_after
 from gfm.marks import BRACKET, BRACKET_END, COLON, STOP
 from gfm.texts import ALPHANUMERIC, LETTERS, begins_with, count_in, get_or, prefix_len
 
-AT, SLASH, SEMICOLON = b"@/;"
+AT, SEMICOLON = b"@;"
 ADDRESS_NAME = ALPHANUMERIC | frozenset(b".+-_")
 PROTOCOLS = (b"http://", b"https://")
 

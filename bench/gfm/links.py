@@ -7,7 +7,7 @@ from typing import NamedTuple, Optional
 
 from gfm.marks import BRACKET, BRACKET_END, COLON, GREATER, LESS, PARENTHESIS, PARENTHESIS_END
 from gfm.marks import is_escape
-from gfm.texts import BACKSLASH, PUNCTUATION, blanks, is_blank, is_blank_text, printed
+from gfm.texts import blanks, is_blank, is_blank_text, printed
 
 MOST_OF_LABEL, MOST_PARENTHESES = 999, 32
 QUOTES = b"\"'"

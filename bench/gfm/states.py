@@ -8,7 +8,7 @@ from enum import Enum
 from typing import NamedTuple, Optional
 
 from gfm.html_blocks import HtmlKind
-from gfm.links import Definition, defined_lines, definitions_of
+from gfm.links import defined_lines, definitions_of
 from gfm.texts import is_blank_text
 
 

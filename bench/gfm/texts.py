@@ -6,7 +6,7 @@ stands for each line ending.
 
 import string
 
-SPACE, TAB, LINE_FEED, CARRIAGE_RETURN, BACKSLASH = b" \t\n\r\\"
+SPACE, TAB, LINE_FEED, BACKSLASH = b" \t\n\\"
 BYTE_ORDER_MARK = b"\xef\xbb\xbf"
 BLANKS = b" \t"
 PUNCTUATION = frozenset(string.punctuation.encode())

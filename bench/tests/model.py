@@ -41,9 +41,12 @@ OTHER_OPTIONS = (
     ("--math", "--hard-breaks", "--no-tables"),
     ("--no-footnotes", "--no-tables", "--no-bare-links"),
 )
-# Such a line of a quote is no link for the parser in a bracket that ends nowhere, and is one with a
-# space after the mark: `> [a\n>www.b.c`.
-FAULT = re.compile(rb">www\.", re.IGNORECASE)
+# Two faults of the parser, in random documents alone. In a bracket that ends nowhere it finds no
+# link in such a line of a quote, and finds it with a space after the mark: `> [a\n>www.b.c`. It
+# prints an empty line for a footnote between paragraphs of an item:
+# `- a\n\n  [^1]: b\n\n  c[^1]`.
+LINK_AT_MARK = re.compile(rb">www\.", re.IGNORECASE)
+EMPTY_LINE = re.compile(rb"</p>(\r\n|\n|\r)\1<p>")
 BLOCK_MARKS = (
     "> ", ">", "- ", "-", "1. ", "2) ", "+ ", "\t", " ", "  ", "    ", "\n", "\n", "\n\n", "a", "b",
     "# ", "```", "~~~", "    c", "[x] ", "[ ] ", "[x]\t", "| a |", "|-|", "---", "===", "***",
@@ -66,15 +69,17 @@ def with_endings(text, ending):
 
 
 def is_same(document, meant, text):
-    """Whether two texts are the same HTML of a document."""
-    kinds = set(re.findall(rb"\r\n?|\n", document))
-    if text is None or len(kinds) < 2:
+    """Whether the model's text and the parser's are the same HTML of a document."""
+    if text is None:
+        return False
+    text = EMPTY_LINE.sub(rb"</p>\1<p>", text)
+    if len(set(re.findall(rb"\r\n?|\n", document))) < 2:
         return meant == text
     return with_endings(meant, b"\n") == with_endings(text, b"\n")
 
 
 def differing(program, given, words):
-    """The documents whose HTML differs under options: the document, the model's and the parser's."""
+    """The documents whose HTML differs under options: each with the model's and the parser's."""
     options = options_of(words)
     found = []
     for document, text in zip(given, markdown.framed(program, given, *words)):
@@ -161,7 +166,7 @@ def one_random(bases, generator):
     """A random document, whose line endings are like its first."""
     while True:
         text = short(generator) if generator.random() < .5 else changed(bases, generator)
-        if not FAULT.search(text):
+        if not LINK_AT_MARK.search(text):
             first = re.search(rb"\r\n?|\n", text)
             return with_endings(text, first[0]) if first else text
 
