@@ -11,8 +11,10 @@ the model prints only the first kind:
   under the options that the model has;
 - COUNT random documents (10,000), the same ones for the same SEED (1): examples and own cases that
   are changed, and short texts of marks. Some are read under other options.
-The specifications are those of Debian's cmark-gfm and of its crate of pulldown-cmark: a set whose
-file is missing is left out, which is reported. The status is 1 if a document differs.
+Before that it compares the names of the definitions of blocks with the model's functions
+(bench/gfm/names.py). The specifications are those of Debian's cmark-gfm and of its crate of
+pulldown-cmark: a set whose file is missing is left out, which is reported. The status is 1 if
+something differs.
 """
 
 import glob
@@ -30,6 +32,7 @@ sys.path[:0] = [str(ROOT / "bench"), str(ROOT / "clients" / "tests")]
 sys.dont_write_bytecode = True
 
 import documents
+from gfm import names
 from gfm.model import html_of
 from gfm.options import options_of
 
@@ -101,6 +104,15 @@ def report(name, program, cases):
     for words, document, meant, text in sorted(different, key=lambda one: len(one[1]))[:SHOWN]:
         print(f"model: {' '.join(words)} {document!r}\n    model  {meant!r}\n    mdhtml {text!r}")
     return len(different)
+
+
+def by_name():
+    """Prints how many definitions of blocks there are; returns how many only one side has."""
+    count, found = names.differences()
+    print(f"model: {count} definitions of blocks, each also in the model")
+    for fault in found:
+        print(f"model: {fault}")
+    return len(found)
 
 
 def commonmark():
@@ -185,7 +197,7 @@ def main(arguments):
     """Compares the sets; the status to end with."""
     program = os.path.abspath(arguments[0])
     count, seed = map(int, (arguments[1:] + [COUNT, SEED][len(arguments) - 1:])[:2])
-    bases, wrong = list(documents.OWN) * 30 + list(markdown_cases.AS_GFM), 0
+    bases, wrong = list(documents.OWN) * 30 + list(markdown_cases.AS_GFM), by_name()
     has_gfm = documents.SPECIFICATION.exists()
     sets = (("GFM", documents.examples() if has_gfm else [], "cmark-gfm"),
             ("CommonMark", commonmark(), "librust-pulldown-cmark-dev"))
