@@ -368,4 +368,5 @@ def with_ways_back(note, ending):
     text = note.html.rstrip(b"\r\n")
     if text.endswith(b"</p>"):
         return text[:-len(b"</p>")] + b" " + b" ".join(ways) + b"</p>"
-    return text + (ending if text else b"") + b" ".join(ways)
+    is_ended = note.html[-1:] in (b"", b"\r", b"\n")
+    return note.html + (b"" if is_ended else ending) + b" ".join(ways)
