@@ -53,10 +53,11 @@ def printed(parsed, dropped):
 def html_of(document, options=Options()):
     """The HTML of a document, which has its first line ending for each."""
     parsed = Parsed(options, document)
-    _, footnotes = printed(parsed, frozenset())
-    printer, _ = printed(parsed, footnotes.uncalled())
+    printer, footnotes = printed(parsed, frozenset())
+    if footnotes.uncalled():
+        printer, _ = printed(parsed, footnotes.uncalled())
     printer.section()
-    return printer.out
+    return bytes(printer.out)
 
 
 def main(arguments):

@@ -171,7 +171,7 @@ class Printer:
         self.ending = parsed.ending
         self.inlines = Inlines(footnotes, parsed.ending)
         self.footnotes = footnotes
-        self.out = b""
+        self.out = bytearray()
 
     def say(self, text):
         """Prints a text."""
@@ -312,10 +312,10 @@ class Printer:
     def footnote(self, block):
         """Keeps the HTML of a footnote for the end."""
         label = text_form(block.entry.text)
-        before, self.out = self.out, b""
+        before, self.out = self.out, bytearray()
         self.footnotes.enter(label)
         self.blocks(block.children)
-        self.footnotes.exit(label, self.out)
+        self.footnotes.exit(label, bytes(self.out))
         self.out = before
 
     def section(self):

@@ -137,6 +137,23 @@ def page_cases():
     return cases
 
 
+def limits():
+    """Documents at each limit of the parser, and beyond it."""
+    texts = ["[a](b\x7fc) [a](<b\x7fc>)\n", "[a]: b\x7fc\n\n[a]\n", "[a](b (c(d))\n",
+             "[a]: b (c(d)\n\n[a]\n", "|a" * 1024 + "\n" + "|-" * 1024 + "\n" + "|a\n" * 520]
+    for count in (1, 2):
+        texts += [f"[a]({'(' * 31}{'(' * count}{')' * 31}{')' * count})\n",
+                  f"<a{'b' * 30}{'c' * count}:d> <a@{'b' * 62}{'c' * count}.d>\n"]
+        for label in ("a" * 998, "a\n" * 499):
+            label += "b" * count
+            texts.append(f"[{label}]\n[c][{label}]\n\n[{label}]: d\n")
+        label = "a" * 997 + "b" * count
+        texts.append(f"[^{label}]\n\n[^{label}]: d\n")
+    for depth in range(93, 98):
+        texts += [">" * depth + "- a\n", ">" * depth + "[^a]: b\n", "- " * (depth // 2) + "> a\n"]
+    return texts
+
+
 def encoded(texts):
     """Texts as documents."""
     return [text.encode("utf-8") for text in texts]
@@ -145,7 +162,7 @@ def encoded(texts):
 def own_cases():
     """Our own documents with their options, where the model has these."""
     texts = [*markdown_cases.AS_GFM, *documents.OWN, markdown_cases.references()[0],
-             markdown_cases.deep(200, markdown.MOST_DEPTH)[0]]
+             markdown_cases.deep(200, markdown.MOST_DEPTH)[0], *limits()]
     most = markdown.MOST_NESTED
     for depth in (most, most + 1, 3 * most):
         texts += [text for text, _ in markdown_cases.nested(depth, most)]
