@@ -150,7 +150,7 @@ def limits():
         label = "a" * 997 + "b" * count
         texts.append(f"[^{label}]\n\n[^{label}]: d\n")
     for depth in range(93, 98):
-        texts += [">" * depth + "- a\n", ">" * depth + "[^a]: b\n", "- " * (depth // 2) + "> a\n"]
+        texts += [">" * depth + "- a\n", ">" * depth + "[^a]: b c\n", "- " * (depth // 2) + "> a\n"]
     return texts
 
 
