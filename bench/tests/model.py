@@ -138,8 +138,9 @@ def page_cases():
 
 
 def limits():
-    """Documents at each limit of the parser, and beyond it."""
-    texts = ["[a](b\x7fc) [a](<b\x7fc>)\n", "[a]: b\x7fc\n\n[a]\n", "[a](b (c(d))\n",
+    """Documents at each limit of the parser and beyond it, and what is rare in random documents."""
+    texts = ["> - <div>\n>\ta\n>\t b\n", ">\t\t- a\n>\n>\t\tb\n",
+             "[a](b\x7fc) [a](<b\x7fc>)\n", "[a]: b\x7fc\n\n[a]\n", "[a](b (c(d))\n",
              "[a]: b (c(d)\n\n[a]\n", "|a" * 1024 + "\n" + "|-" * 1024 + "\n" + "|a\n" * 520]
     for count in (1, 2):
         texts += [f"[a]({'(' * 31}{'(' * count}{')' * 31}{')' * count})\n",
