@@ -22,7 +22,7 @@ LISTS = {"book": 1 + 6 * 2, "rules": 0, "manual": 1, "interface": 0, "design": 6
 SKIPPED = {"book": "6 drafts, 1 name with _", "rules": "1 node_modules", "design": "4 drafts"}
 TAGS = set("html head meta title style body nav details summary ul ol li a main h1 h2 h3 h4 h5 h6 "
            "p code pre em strong del table thead tbody tr th td blockquote hr br img sup section "
-           "input".split())
+           "input div".split())
 
 
 class Reader(html.parser.HTMLParser):

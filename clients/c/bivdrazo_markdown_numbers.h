@@ -27,6 +27,10 @@ enum {
     BIVDRAZO_MARKDOWN_HTML_LEFT_OUT = 1,
     /* Leave out comments, and print the rest as text. */
     BIVDRAZO_MARKDOWN_HTML_WITHOUT_COMMENTS = 2,
+    /* Keep the tags that authors may write, and leave out the rest. */
+    BIVDRAZO_MARKDOWN_HTML_KEPT = 3,
+    /* Keep these tags, and print the rest as text, without comments. */
+    BIVDRAZO_MARKDOWN_HTML_KEPT_OR_TEXT = 4,
 };
 
 /* The numbers of options: `index`, if an option is invalid. */

@@ -88,6 +88,46 @@ static void test_options(void) {
     check(renders("[d](e)", &options, "<p><a href=\"https://a.b/c/e\">d</a></p>\n"), "a base");
 }
 
+/* HTML of authors: kept tags, and what is done with the rest. */
+static void test_kept(void) {
+    static const char *const cases[][3] = {
+        {"H<sub>2</sub>O", "<p>H<sub>2</sub>O</p>\n", "<p>H<sub>2</sub>O</p>\n"},
+        {"a <font>b</font>", "<p>a b</p>\n", "<p>a &lt;font&gt;b&lt;/font&gt;</p>\n"},
+        {"<b>a <i>b</b> c</i>", "<p><b>a b</b> c</p>\n",
+         "<p><b>a &lt;i&gt;b</b> c&lt;/i&gt;</p>\n"},
+        {"a<!-- b -->", "<p>a</p>\n", "<p>a</p>\n"},
+        {"a <script>b</script>", "<p>a b</p>\n", "<p>a &lt;script&gt;b&lt;/script&gt;</p>\n"},
+        {"<a href=\"javascript:b\" onclick=\"c\">d</a>", "<p><a>d</a></p>\n",
+         "<p><a>d</a></p>\n"},
+        {"a < b", "<p>a &lt; b</p>\n", "<p>a &lt; b</p>\n"}};
+    bivdrazo_markdown_options options = bivdrazo_markdown_options_default();
+    for (size_t at = 0; at < sizeof cases / sizeof *cases; at++) {
+        options.html = BIVDRAZO_MARKDOWN_HTML_KEPT;
+        check(renders(cases[at][0], &options, cases[at][1]), "kept HTML");
+        options.html = BIVDRAZO_MARKDOWN_HTML_KEPT_OR_TEXT;
+        check(renders(cases[at][0], &options, cases[at][2]), "kept HTML, the rest as text");
+    }
+    options.html = BIVDRAZO_MARKDOWN_HTML_KEPT;
+    options.rel = text_of("ugc");
+    check(renders("<a href=\"b\">a</a>", &options, "<p><a href=\"b\" rel=\"ugc\">a</a></p>\n"),
+          "a link of an author");
+    options.heading_ids = text_of("p");
+    check(renders("<h2>a</h2>", &options, "<h2 id=\"p1\">a</h2>\n"), "a heading of an author");
+    options = bivdrazo_markdown_options_default();
+    options.html = BIVDRAZO_MARKDOWN_HTML_KEPT;
+    options.max_input = 9;
+    options.max_output = 17;
+    check(renders("<b>a</b>b", &options, "<p><b>a</b>b</p>\n"), "a text within its bound");
+    check(fails("<b>a</b>bc", 10, &options, BIVDRAZO_MARKDOWN_INPUT_TOO_LONG, 0),
+          "an input past its bound");
+    options.max_output = 16;
+    check(fails("<b>a</b>b", 9, &options, BIVDRAZO_MARKDOWN_OUTPUT_TOO_LONG, 0),
+          "a text past its bound");
+    options.max_output = SIZE_MAX;
+    options.max_work = 1;
+    check(fails("<b>a</b>b", 9, &options, BIVDRAZO_MARKDOWN_TOO_MUCH_WORK, 0), "too much work");
+}
+
 /* What is read besides CommonMark. */
 static void test_readings(void) {
     static const char table[] = "|a|\n|-|\n";
@@ -342,7 +382,7 @@ static void test_failures(void) {
     options.version++;
     check(fails("a", 1, &options, BIVDRAZO_MARKDOWN_NO_VERSION, 0), "another version");
     options = bivdrazo_markdown_options_default();
-    options.html = 3;
+    options.html = BIVDRAZO_MARKDOWN_HTML_KEPT_OR_TEXT + 1;
     check(fails("a", 1, &options, BIVDRAZO_NO_OPTION, BIVDRAZO_MARKDOWN_OPTION_HTML),
           "a number for HTML");
     test_flags();
@@ -380,6 +420,7 @@ static void test_threads(void) {
 int main(void) {
     test_texts();
     test_options();
+    test_kept();
     test_readings();
     test_front_matter();
     test_buffers();

@@ -2,8 +2,9 @@
  * Calls bivdrazo_markdown() under options, for libFuzzer. The first two bytes of an input are the
  * options, the rest is the document, which ends at a page that can't be read. The call must return
  * a text, unless the document isn't UTF-8 or exceeds a limit, and the text must be in the HTML
- * grammar.
+ * grammar, or with kept HTML be safe.
  */
+#include "bivdrazo.h"
 #include "bivdrazo_markdown.h"
 #include "guard.h"
 #include "html.h"
@@ -16,7 +17,7 @@ static bivdrazo_markdown_options options_of(uint8_t flags, uint8_t bounds) {
     options.number_ids = flags & 1;
     options.hard_breaks = flags >> 1 & 1;
     options.bare_links = flags >> 2 & 1;
-    options.html = (uint8_t)((flags >> 3 & 3) % 3);
+    options.html = (uint8_t)((flags >> 3 & 3) + (bounds & 1));
     options.math = bounds >> 4 & 1;
     options.front_matter = bounds >> 5 & 1;
     options.footnotes = !(bounds >> 6 & 1);
@@ -36,7 +37,11 @@ static bivdrazo_markdown_options options_of(uint8_t flags, uint8_t bounds) {
 
 static void check_text(const char *html, size_t length, const bivdrazo_markdown_options *options) {
     size_t where = 0;
-    const char *fault = html_fault(html, length, &where);
+    const char *fault = NULL;
+    if (options->html < BIVDRAZO_MARKDOWN_HTML_KEPT)
+        fault = html_fault(html, length, &where);
+    else if (!bivdrazo_is_safe_html((const uint8_t *)html, length))
+        fault = "HTML that isn't safe";
     if (fault != NULL)
         fail(fault, where);
     if (strlen(html) != length || length > options->max_output)

@@ -1,5 +1,5 @@
 /** How to treat HTML in the document. */
-export type DocumentHtml = 'text' | 'left-out' | 'without-comments';
+export type DocumentHtml = 'text' | 'left-out' | 'without-comments' | 'kept' | 'kept-or-text';
 
 /** The options of a call. The HTML is safe under all of them. */
 export interface Options {
@@ -17,7 +17,8 @@ export interface Options {
   /** Make links of bare URLs and addresses; by default true. */
   bareLinks?: boolean | undefined;
   /** How to treat HTML in the document: `text`, the default, prints it as text; `left-out` leaves it
-   *  out; `without-comments` leaves out comments and prints the rest as text. */
+   *  out; `without-comments` leaves out comments and prints the rest as text; `kept` keeps the tags
+   *  that authors may write and leaves out the rest; `kept-or-text` prints the rest as text. */
   html?: DocumentHtml | undefined;
   /** Read `$a$`, and blocks between lines of `$$`, as math. */
   math?: boolean | undefined;

@@ -69,7 +69,7 @@ function limit(name, value) {
   return value;
 }
 
-const HTML = ['text', 'left-out', 'without-comments'];
+const HTML = ['text', 'left-out', 'without-comments', 'kept', 'kept-or-text'];
 
 function html(name, value) {
   const number = HTML.indexOf(string(name, value));

@@ -4,7 +4,7 @@
 
 OUT is the folder that clients/build wrote, with bivdrazo-tests in target/release and
 markdown_file. All ways with the library's parser must make the same text, and no text may hold what
-isn't permitted. Requires html5lib.
+isn't permitted; with kept HTML none may be unsafe. Requires html5lib.
 """
 
 import pathlib
@@ -46,6 +46,8 @@ def main():
     own = ways(out) | node_way()
     cmark = out / "bivdrazo-render-cmark"
     others = {cmark.name: [cmark]} if cmark.exists() else {}
+    kept = {f"--html {choice}": [out / "bivdrazo-render", "--html", choice]
+            for choice in ("kept", "kept-or-text")}
     wrong = 0
     attacks = [markdown for _, markdown in ATTACKS] + list(MORE)
     with tempfile.TemporaryDirectory() as folder:
@@ -54,6 +56,7 @@ def main():
             path.write_bytes(attack.encode("utf-8"))
             texts = {name: rendered(command, path) for name, command in (own | others).items()}
             found = [f"{name}: {fault}" for name, text in texts.items() for fault in faults(text)]
+            texts |= {name: rendered(command, path) for name, command in kept.items()}
             found += [f"{name}: unsafe" for name, text in texts.items()
                      if is_unsafe(text.decode("utf-8"))]
             if len({texts[name] for name in own}) != 1:
@@ -61,7 +64,7 @@ def main():
             for fault in found:
                 wrong += 1
                 print(f"{attack!r}: {fault}")
-    print(f"attacks: {len(attacks)} by {len(own | others)} ways, {wrong} faults")
+    print(f"attacks: {len(attacks)} by {len(own | others | kept)} ways, {wrong} faults")
     return 1 if wrong else 0
 
 

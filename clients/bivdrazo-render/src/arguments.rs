@@ -141,7 +141,7 @@ pub struct Arguments {
     #[arg(long)]
     pub no_tables: bool,
 
-    /// How to treat HTML in the document: by default text, for a folder without-comments.
+    /// How to treat HTML in the document: by default text, for a folder kept-or-text.
     #[arg(long, value_enum)]
     pub html: Option<Html>,
 
@@ -237,6 +237,10 @@ pub enum Html {
     LeftOut,
     /// Leave out comments, and print the rest as text.
     WithoutComments,
+    /// Keep the tags that authors may write, and leave out the rest.
+    Kept,
+    /// Keep these tags, and print the rest as text, without comments.
+    KeptOrText,
 }
 
 impl Arguments {
@@ -419,10 +423,12 @@ impl Arguments {
             .with_tables(!self.no_tables)
             .with_number_ids(self.number_ids);
         options.html = match self.html {
-            None if self.is_site => DocumentHtml::WithoutComments,
+            None if self.is_site => DocumentHtml::KeptOrText,
             None | Some(Html::Text) => DocumentHtml::Text,
             Some(Html::LeftOut) => DocumentHtml::LeftOut,
             Some(Html::WithoutComments) => DocumentHtml::WithoutComments,
+            Some(Html::Kept) => DocumentHtml::Kept,
+            Some(Html::KeptOrText) => DocumentHtml::KeptOrText,
         };
         options.footnote_prefix = self.footnote_prefix.clone();
         options.footnote_label = self.footnote_label.clone();

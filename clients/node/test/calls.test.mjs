@@ -34,6 +34,8 @@ const BY_OPTION = [
     ['text', '&lt;b&gt;c&lt;/b&gt; &lt;!-- d --&gt;'],
     ['left-out', '<p>a c </p>\n'],
     ['without-comments', '<p>a &lt;b&gt;c&lt;/b&gt; </p>\n'],
+    ['kept', '<p>a <b>c</b> </p>\n'],
+    ['kept-or-text', '<p>a <b>c</b> </p>\n'],
   ],
   ['math', '$a$', [true, 'math-inline'], [false, '<p>$a$</p>\n']],
   ['frontMatter', '---\na: b\n---\nc\n', [true, '<p>c</p>\n'], [false, '<h2>a: b</h2>']],
@@ -124,6 +126,34 @@ describe('options', () => {
     assert.equal(Object.keys(all).length, 19);
     const options = { ...all, maxInput: 100, maxOutput: 100, maxDepth: 9 };
     assert.equal(markdownToHtml('a', options), '<p>a</p>\n');
+  });
+});
+
+describe('kept HTML', () => {
+  it('has the tags that authors may write', () => {
+    for (const [text, kept, keptOrText] of [
+      ['H<sub>2</sub>O', 'H<sub>2</sub>O', 'H<sub>2</sub>O'],
+      ['a <font>b</font>', 'a b', 'a &lt;font&gt;b&lt;/font&gt;'],
+      ['<b>a <i>b</b> c</i>', '<b>a b</b> c', '<b>a &lt;i&gt;b</b> c&lt;/i&gt;'],
+      ['a<!-- b -->', 'a', 'a'],
+      ['a <script>b</script>', 'a b', 'a &lt;script&gt;b&lt;/script&gt;'],
+      ['<a href="javascript:b" onclick="c">d</a>', '<a>d</a>', '<a>d</a>'],
+    ]) {
+      assert.equal(markdownToHtml(text, { html: 'kept' }), `<p>${kept}</p>\n`);
+      assert.equal(markdownToHtml(text, { html: 'kept-or-text' }), `<p>${keptOrText}</p>\n`);
+    }
+  });
+
+  it('gets attributes, and has limits', () => {
+    const text = '<h2>A <a href="b">c</a></h2>\n';
+    const wanted = '<h2 id="a-c">A <a href="b" rel="ugc">c</a></h2>\n';
+    const options = { html: 'kept', rel: 'ugc', headingSlugs: true, maxInput: text.length };
+    const fits = { ...options, maxOutput: wanted.length };
+    assert.equal(markdownToHtml(text, fits), wanted);
+    for (const less of [{ maxInput: text.length - 1 }, { maxOutput: wanted.length - 1 }]) {
+      assert.throws(() => markdownToHtml(text, { ...fits, ...less }));
+    }
+    assert.throws(() => markdownToHtml(text, { html: 'kept', maxWork: 1 }));
   });
 });
 

@@ -23,7 +23,8 @@ LEAST_WORK = 1 << 20
 WORK_OF_A_BYTE = 64
 
 HTML = {"text": DocumentHtml.TEXT, "left-out": DocumentHtml.LEFT_OUT,
-        "without-comments": DocumentHtml.WITHOUT_COMMENTS}
+        "without-comments": DocumentHtml.WITHOUT_COMMENTS, "kept": DocumentHtml.KEPT,
+        "kept-or-text": DocumentHtml.KEPT_OR_TEXT}
 
 TEXTS = "footnote_prefix", "footnote_label", "footnote_back_label", "base", "rel", "heading_ids"
 
@@ -63,7 +64,7 @@ def markdown_to_html(
     footnote_back_label: str | None = None,
     hard_breaks: bool = False,
     bare_links: bool = True,
-    html: Literal["text", "left-out", "without-comments"] = "text",
+    html: Literal["text", "left-out", "without-comments", "kept", "kept-or-text"] = "text",
     math: bool = False,
     front_matter: bool = False,
     footnotes: bool = True,
@@ -94,7 +95,8 @@ def markdown_to_html(
     hard_breaks: write `<br />` for a soft break.
     bare_links: make links of bare URLs and addresses.
     html: how to treat HTML in the document: "text" prints it as text, "left-out" leaves it out, and
-    "without-comments" leaves out comments and prints the rest as text.
+    "without-comments" leaves out comments and prints the rest as text; "kept" keeps the tags that
+    authors may write and leaves out the rest, and "kept-or-text" prints the rest as text.
     math: read `$a$`, and blocks between lines of `$$`, as math.
     front_matter: leave out text between lines of `---` at the beginning; front_matter_of returns
     it.

@@ -343,3 +343,7 @@ class DocumentHtml(enum.IntEnum):
     LEFT_OUT = 1
     # Leave out comments, and print the rest as text.
     WITHOUT_COMMENTS = 2
+    # Keep the tags that authors may write, and leave out the rest.
+    KEPT = 3
+    # Keep these tags, and print the rest as text, without comments.
+    KEPT_OR_TEXT = 4

@@ -148,6 +148,41 @@ class Texts(unittest.TestCase):
         self.assertEqual(markdown_to_html(text, html="without-comments"), "<p>&lt;b&gt;a</p>\n")
         self.assertEqual(len(bivdrazo.markdown.HTML), len(DocumentHtml))
 
+    def test_kept_html(self):
+        for text, kept, kept_or_text in [
+                ("H<sub>2</sub>O", "H<sub>2</sub>O", "H<sub>2</sub>O"),
+                ("a <font>b</font>", "a b", "a &lt;font&gt;b&lt;/font&gt;"),
+                ("<b>a <i>b</b> c</i>", "<b>a b</b> c", "<b>a &lt;i&gt;b</b> c&lt;/i&gt;"),
+                ("a<!-- b -->", "a", "a"),
+                ("a <script>b</script>", "a b", "a &lt;script&gt;b&lt;/script&gt;"),
+                ("<a href='javascript:b' onclick='c'>d</a>", "<a>d</a>", "<a>d</a>"),
+                ('<a href="b">*[c](d)*</a> <b>e</b>', '<em><a href="d">c</a></em> <b>e</b>',
+                 '&lt;a href=&quot;b&quot;&gt;<em><a href="d">c</a></em>&lt;/a&gt; <b>e</b>'),
+                ("a < b", "a &lt; b", "a &lt; b")]:
+            with self.subTest(text=text):
+                self.assertEqual(markdown_to_html(text, html="kept"), f"<p>{kept}</p>\n")
+                self.assertEqual(markdown_to_html(text, html="kept-or-text"),
+                                 f"<p>{kept_or_text}</p>\n")
+        self.assertTrue(bivdrazo.is_safe_html(markdown_to_html("<b>a</b>", html="kept")))
+        text = "<ul></i><li>a</li></ul>\n\n<b>c</b>\n"
+        self.assertEqual(markdown_to_html(text, html="kept"),
+                         "<ul><li>a</li></ul>\n<p><b>c</b></p>\n")
+        self.assertEqual(markdown_to_html(text, html="kept-or-text"),
+                         "&lt;ul&gt;&lt;/i&gt;&lt;li&gt;a&lt;/li&gt;&lt;/ul&gt;\n<p><b>c</b></p>\n")
+
+    def test_kept_html_with_other_options(self):
+        text = "<h2>A <a href='b'>c</a></h2>\n\n# A c\n"
+        call = functools.partial(markdown_to_html, text, html="kept", rel="ugc",
+                                 heading_slugs=True)
+        wanted = ('<h2 id="a-c">A <a href="b" rel="ugc">c</a></h2>\n'
+                  '<h1 id="a-c-1">A c</h1>\n')
+        self.assertEqual(call(max_input=len(text), max_output=len(wanted)), wanted)
+        for bounds in {"max_input": len(text) - 1}, {"max_output": len(wanted) - 1}:
+            with self.subTest(bounds=bounds), self.assertRaises(TooLong):
+                call(**bounds)
+        with self.assertRaises(TooMuchWork):
+            call(max_work=1)
+
     def test_bounds(self):
         self.assertEqual(markdown_to_html("\u00e9", max_input=2, max_output=10), "<p>\u00e9</p>\n")
         for bounds, what, limit in [({"max_input": 1}, "input", 1),

@@ -58,7 +58,7 @@ class Answers(unittest.TestCase):
     def test_markdown(self):
         for text in ("", "a", "\u00e9" * 100_000):
             self.assertIs(type(markdown_to_html(text)), SafeHtml)
-        for choice in ("text", "left-out", "without-comments"):
+        for choice in ("text", "left-out", "without-comments", "kept", "kept-or-text"):
             made, headings = markdown_with_headings("# a <b>", "p-", html=choice)
             self.assertIs(type(made), SafeHtml)
             self.assertIs(type(headings[0].text), SafeHtml)

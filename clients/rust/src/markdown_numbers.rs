@@ -10,3 +10,5 @@ pub(crate) const STATUS_TOO_MUCH_WORK: u32 = 37;
 pub(crate) const HTML_TEXT: u8 = 0;
 pub(crate) const HTML_LEFT_OUT: u8 = 1;
 pub(crate) const HTML_WITHOUT_COMMENTS: u8 = 2;
+pub(crate) const HTML_KEPT: u8 = 3;
+pub(crate) const HTML_KEPT_OR_TEXT: u8 = 4;

@@ -92,16 +92,16 @@ fn compile_read_safely(
 /// # Errors
 ///
 /// Returns an error only if memory runs out.
-pub fn add_asked(
+pub fn add_asked<H: Html>(
     alloc: Global,
-    html: &SafeHtml,
+    html: &H,
     rel: Option<&str>,
     prefix: Option<&str>,
 ) -> Result<Attributed, AllocError>
-    ensures listed { IfOk result (λ made. (x : List Token) → IsTokenized html.now x
+    ensures listed { IfOk result (λ made. (x : List Token) → IsTokenized (H.text html.now) x
         → IsListedAfter (option_copied prefix.entry) (with_rel (option_copied rel.entry) x)
         made.start (string_bytes made.whole)) }
-    ensures tree { IfOk result (λ made. IsBuiltAsWritten html.now
+    ensures tree { IfOk result (λ made. IsBuiltAsWritten (H.text html.now)
         → IsBuiltAsWritten (take made.start (string_bytes made.whole))) }
 {
     match rel {

@@ -9,3 +9,9 @@ pub mod StateLemmas
 pub mod LineLemmas
 pub mod Markers
 pub mod Fences
+pub mod LinkLemmas
+pub mod Steps
+pub mod Choices
+pub mod TextBytes
+pub mod Folds
+pub mod Skipping

@@ -32,7 +32,7 @@ use Rattle.md_blocks.specs.States.{State, Leaf, without_blank_end, containers_cl
 use Rattle.md_blocks.specs.States.{is_in_paragraph, leaf_closed, with_leaf, room, blank_written, list_closed}
 use Rattle.md_blocks.specs.Tapes.{has_info, underlined, line_of, text_of_line, entry_of, entries_of}
 
-abbrev st : List Entry → List Open → Leaf → Option ℕ → ℕ → State
+abbrev pub st : List Entry → List Open → Leaf → Option ℕ → ℕ → State
 st entries containers leaf blank lacking = record {
   entries = entries;
   containers = containers;

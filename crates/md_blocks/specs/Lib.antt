@@ -12,7 +12,10 @@ pub mod BlankLines
 pub mod Entries
 pub mod Tapes
 pub mod States
+pub mod LinkDefinitions
 pub mod Passes
 pub mod LeafBlocks
 pub mod ContainerBlocks
 pub mod OwnBlocks
+pub mod BlockStructure
+pub mod Progress

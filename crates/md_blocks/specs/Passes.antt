@@ -1,9 +1,13 @@
 -- For the code alone: the state for which a pass stands.
-use Rattle.std.specs.Prelude.{ℕ, List, ◌-◌, map, drop, take, option_map}
+use Rattle.std.specs.Prelude.{ℕ, List, ◌≡◌, ◌-◌, map, drop, take, option_map}
+use Rattle.std.specs.List.{All}
+use Rattle.md_lines.specs.declared.line.Line.{Line as Place}
+use Rattle.md_lines.specs.Reading.{line_text}
 use Rattle.md_blocks.specs.declared.pass.Pass.{Pass}
 use Rattle.md_blocks.specs.declared.pass.OpenLeaf.{OpenLeaf}
 use Rattle.md_blocks.specs.declared.pass.OpenLeaf.TheVariants as leaf
 use Rattle.md_blocks.specs.Entries.{Line}
+use Rattle.md_blocks.specs.LinkDefinitions.{defined_from}
 use Rattle.md_blocks.specs.Tapes.{line_of, first_text, entries_of}
 use Rattle.md_blocks.specs.States.{State, Leaf, NoLeaf, InParagraph, InIndented, InFenced}
 use Rattle.md_blocks.specs.States.{InMath, InHtml, InTable}
@@ -39,6 +43,22 @@ lines_to end pass =
     let leaves = pass.nesting.leaves in
     map (line_of pass.bytes.now) (drop leaves.start (take end leaves.lines.items))
 
+-- the texts of a leaf's lines from one of them on, whatever columns belong to the prefixes
+abbrev pub texts_from : List ℕ → List Place → ℕ → List (List ℕ)
+texts_from bytes lines from = map (line_text bytes) (drop from lines)
+
 -- how many more lines of the leaf are definitions after some step
 abbrev pub defined_by : Pass → Pass → ℕ
 defined_by before after = after.nesting.leaves.start - before.nesting.leaves.start
+
+-- how many of them are definitions of links, by their texts
+abbrev pub defined_to : ℕ → Pass → ℕ
+defined_to end pass =
+    let leaves = pass.nesting.leaves in
+    defined_from 0 (texts_from pass.bytes.now (take end leaves.lines.items) leaves.start)
+
+-- whether no columns of the leaf's lines before the line with an index belong to the prefixes
+abbrev pub HasWholeLines : ℕ → Pass → Type 0
+HasWholeLines end pass =
+    let leaves = pass.nesting.leaves in
+    All (λ line. line.columns ≡ 0) (drop leaves.start (take end leaves.lines.items))

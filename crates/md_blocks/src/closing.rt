@@ -3,6 +3,11 @@
 ghost use Rattle.std.specs.Prelude.{◌≡◌, ◌≤◌, ◌<◌, ◌++◌, length, vec_len, OnOk, IfOk, IsTrue, None};
 ghost use Rattle.std.specs.Prelude.{◌-◌, nat_lt, false};
 ghost use Rattle.std.specs.List.{suffix_len};
+ghost use Rattle.std.specs.Prelude.{◌+◌, ◌∷◌, List, ℕ};
+ghost use Rattle.md_lines.specs.Reading.{line_text};
+ghost use Rattle.md_lines.specs.Texts.{begins_with};
+ghost use Rattle.md_blocks.specs.LinkDefinitions.{defined_from};
+ghost use Rattle.md_blocks.specs.Passes.{texts_from};
 ghost use Rattle.md_blocks.specs.BlankLines.{blank_before};
 ghost use Rattle.md_blocks.specs.Marks.{is_blank_text};
 ghost use Rattle.md_blocks.specs.declared.pass.OpenLeaf.TheVariants as leaf;
@@ -14,18 +19,24 @@ use crate::block::{Block, LineRange};
 use crate::definition::{Definitions, read_definition};
 use crate::marker::is_blank_from;
 use crate::pass::{OpenLeaf, Pass};
-use md_lines::{Line, Place};
+use md_lines::Line;
 use std::alloc::{AllocError, Global};
 
 impl<'a> Pass<'a> {
     ghost use Rattle.md_blocks.specs.Passes.{defined_by, leaf_lines, leaf_of, lines_to, state_of};
+    ghost use Rattle.md_blocks.specs.Passes.{HasWholeLines, defined_to};
+    ghost use Rattle.md_blocks.specs.LinkDefinitions.{defined_lines};
 
     /// Closes the open leaf and the containers beyond this depth.
     pub(crate) fn close_unmatched(&mut self, depth: usize) -> Result<(), AllocError>
         ensures shrinks { OnOk result (vec_len self.new.nesting.stack ≤ depth) }
         ensures state { OnOk result (state_of self.new
             ≡ closed_to (defined_by self.old self.new) depth (state_of self.old)) }
+        ensures defined { OnOk result (self.old.leaf ≡ leaf.Paragraph
+            → defined_by self.old self.new
+            ≡ defined_to (vec_len self.old.nesting.leaves.lines) self.old) }
         ensures document { self.new.bytes ≡ self.old.bytes }
+        ensures options { self.new.options ≡ self.old.options }
     {
         self.close_leaf()?;
         self.nesting.close_to(depth, self.at)?;
@@ -38,7 +49,11 @@ impl<'a> Pass<'a> {
         ensures shrinks { OnOk result (vec_len self.new.nesting.stack ≤ depth) }
         ensures state { OnOk result (state_of self.new
             ≡ room (defined_by self.old self.new) depth (state_of self.old)) }
+        ensures defined { OnOk result (self.old.leaf ≡ leaf.Paragraph
+            → defined_by self.old self.new
+            ≡ defined_to (vec_len self.old.nesting.leaves.lines) self.old) }
         ensures document { self.new.bytes ≡ self.old.bytes }
+        ensures options { self.new.options ≡ self.old.options }
     {
         self.make_room_for_text(depth)?;
         self.put_blank_line()
@@ -50,7 +65,11 @@ impl<'a> Pass<'a> {
         ensures shrinks { OnOk result (vec_len self.new.nesting.stack ≤ depth) }
         ensures state { OnOk result (state_of self.new
             ≡ room_for_text (defined_by self.old self.new) depth (state_of self.old)) }
+        ensures defined { OnOk result (self.old.leaf ≡ leaf.Paragraph
+            → defined_by self.old self.new
+            ≡ defined_to (vec_len self.old.nesting.leaves.lines) self.old) }
         ensures document { self.new.bytes ≡ self.old.bytes }
+        ensures options { self.new.options ≡ self.old.options }
     {
         self.close_unmatched(depth)?;
         self.add_child()
@@ -65,6 +84,7 @@ impl<'a> Pass<'a> {
             ≡ with_a_child (list_closed (state_of self.old))) }
         ensures leaves { self.new.nesting.leaves ≡ self.old.nesting.leaves }
         ensures document { self.new.bytes ≡ self.old.bytes }
+        ensures options { self.new.options ≡ self.old.options }
     {
         self.nesting.close_list(self.at)?;
         self.note_child();
@@ -82,6 +102,7 @@ impl<'a> Pass<'a> {
         ensures leaves { self.new.nesting.leaves ≡ self.old.nesting.leaves }
         ensures state { OnOk result (state_of self.new ≡ blank_written (state_of self.old)) }
         ensures document { self.new.bytes ≡ self.old.bytes }
+        ensures options { self.new.options ≡ self.old.options }
     {
         let Some(blank) = self.blank_line else {
             return Ok(());
@@ -112,7 +133,11 @@ impl<'a> Pass<'a> {
         ensures leaf { self.new.leaf ≡ self.old.leaf }
         ensures state { state_of self.new
             ≡ with_leaf (leaf_of self.old.leaf (leaf_lines self.new)) (state_of self.old) }
+        ensures defined { OnOk result (defined_by self.old self.new ≡ defined_to end self.old) }
+        ensures whole { OnOk result (HasWholeLines end self.old
+            → defined_to end self.old ≡ defined_lines (lines_to end self.old)) }
         ensures document { self.new.bytes ≡ self.old.bytes }
+        ensures options { self.new.options ≡ self.old.options }
     {
         let nesting = &self.nesting;
         let start = after_definitions(
@@ -131,8 +156,12 @@ impl<'a> Pass<'a> {
         ensures stack { self.new.nesting.stack ≡ self.old.nesting.stack }
         ensures state { OnOk result (state_of self.new
             ≡ leaf_closed (defined_by self.old self.new) (state_of self.old)) }
+        ensures defined { OnOk result (self.old.leaf ≡ leaf.Paragraph
+            → defined_by self.old self.new
+            ≡ defined_to (vec_len self.old.nesting.leaves.lines) self.old) }
         ensures lines { self.new.nesting.leaves.lines ≡ self.old.nesting.leaves.lines }
         ensures document { self.new.bytes ≡ self.old.bytes }
+        ensures options { self.new.options ≡ self.old.options }
     {
         let leaf = self.leaf;
         self.leaf = OpenLeaf::None;
@@ -161,9 +190,11 @@ impl<'a> Pass<'a> {
         ensures stack { self.new.nesting.stack ≡ self.old.nesting.stack }
         ensures state { OnOk result (state_of self.new ≡ paragraph_closed
             (defined_by self.old self.new) (lines_to end self.old) (state_of self.old)) }
+        ensures defined { OnOk result (defined_by self.old self.new ≡ defined_to end self.old) }
         ensures leaf { self.new.leaf ≡ self.old.leaf }
         ensures lines { self.new.nesting.leaves.lines ≡ self.old.nesting.leaves.lines }
         ensures document { self.new.bytes ≡ self.old.bytes }
+        ensures options { self.new.options ≡ self.old.options }
     {
         if self.take_definitions(end)? {
             self.put_blank_line()?;
@@ -190,19 +221,25 @@ fn after_definitions(
     requires { from ≤ length lines.now }
     ensures after { IfOk result (λ at. from ≤ at) }
     ensures within { IfOk result (λ at. at ≤ length lines.now) }
+    ensures value { IfOk result (λ at.
+        at ≡ from + defined_from 0 (texts_from bytes.now lines.now from)) }
 {
     let mut at = from;
-    'definitions: while at < lines.len() && bytes.get(lines[at].start) == Some(&b'[') {
-        let start = Place {
-            line: at,
-            at: lines[at].start,
-        };
-        match read_definition(alloc, bytes, lines, start, definitions)? {
-            Some(next) => at = next.max(at + 1).min(lines.len()),
+    'definitions: while at < lines.len() && begins_with_bracket(bytes, lines[at]) {
+        match read_definition(alloc, bytes, lines, at, definitions)? {
+            Some(next) => at = next.min(lines.len()),
             None => return Ok(at),
         }
     }
     Ok(at)
+}
+
+/// Whether a line begins with `[`.
+#[inline(always)]
+fn begins_with_bracket(bytes: &[u8], line: Line) -> bool
+    ensures { (lines : List (List ℕ)) → result ≡ begins_with 91 (line_text bytes.now line ∷ lines) }
+{
+    bytes.get(line.start) == Some(&b'[') && line.start < line.end
 }
 
 /// How many lines there are without the blank ones at their end.

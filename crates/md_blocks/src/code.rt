@@ -123,6 +123,7 @@ impl<'a> Pass<'a> {
         ensures state { OnOk result (state_of self.new ≡ fenced_read fence (rest_of position.old)
             (ending_of self.old.bytes.now position.old) (state_of self.old)) }
         ensures document { self.new.bytes ≡ self.old.bytes }
+        ensures options { self.new.options ≡ self.old.options }
     {
         if fence.is_closed_by(position) {
             return self.close_leaf();
@@ -146,6 +147,7 @@ impl<'a> Pass<'a> {
         ensures same { IfOk result (λ goes_on.
             goes_on ≡ false → state_of self.new ≡ state_of self.old) }
         ensures document { self.new.bytes ≡ self.old.bytes }
+        ensures options { self.new.options ≡ self.old.options }
     {
         if position.is_blank() && kind.ends_at_blank_line() {
             return Ok(false);

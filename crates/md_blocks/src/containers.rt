@@ -2,7 +2,8 @@
 
 ghost use Rattle.std.specs.Prelude.{◌≡◌, ◌≤◌, ◌<◌, ◌+◌, ◌==◌, [], length, vec_len, drop, take};
 ghost use Rattle.std.specs.Prelude.{OnOk, IfOk, IfSome, IsTrue, get_or, is_some, nat_lt, not, ℕ};
-ghost use Rattle.std.specs.Prelude.{false, true};
+ghost use Rattle.std.specs.Prelude.{false, true, ◌&&◌, Some, None, if◌then◌else◌};
+ghost use Rattle.md_blocks.specs.BlockStructure.{container_begun, item_at};
 ghost use Rattle.md_blocks.specs.ContainerBlocks.{container_of, is_list_of, is_padded, is_task};
 ghost use Rattle.md_blocks.specs.ContainerBlocks.{item_begun, list_begun, list_kind, padding};
 ghost use Rattle.md_blocks.specs.ContainerBlocks.{quote_begun, task_begun};
@@ -12,6 +13,8 @@ ghost use Rattle.md_blocks.specs.OwnBlocks.{after_footnote, footnote_begun};
 ghost use Rattle.md_blocks.specs.Positions.{rest_of, text_at};
 ghost use Rattle.md_blocks.specs.Rests.{passed, rest_at};
 ghost use Rattle.md_blocks.specs.Stack.{innermost};
+ghost use Rattle.md_blocks.specs.States.{is_in_paragraph};
+ghost use Rattle.md_blocks.specs.declared.pass.OpenLeaf.TheVariants as leaf;
 
 use crate::block::{Block, ContainerKind};
 use crate::marker::{Marker, footnote_label, item_marker, task_box};
@@ -23,6 +26,7 @@ use std::alloc::AllocError;
 impl<'a> Pass<'a> {
     ghost use Rattle.md_blocks.specs.Passes.{defined_by, state_of};
     ghost use Rattle.md_blocks.specs.Positions.{IsIn, ending_of};
+    ghost use Rattle.md_blocks.specs.Progress.{begun_of};
 
     /// Begins a container if the byte starts one; returns whether it does.
     pub(crate) fn begin_container(
@@ -37,29 +41,79 @@ impl<'a> Pass<'a> {
         requires not_code { position.old.indent < 4 }
         ensures goes_on { IfOk result (λ has_begun. IsTrue has_begun
             → position.old.at < position.new.at) }
+        ensures state { IfOk result (λ has_begun. byte ≡ get_or (text_at position.old) 0 0
+            → (defined : ℕ) × (container_begun self.old.options.now defined depth
+            (is_whole && is_in_paragraph (state_of self.old).leaf) (rest_of position.old)
+            (ending_of self.old.bytes.now position.old) (state_of self.old)
+            ≡ (if has_begun then Some (begun_of self.new position.new) else None))) }
+        ensures stays { IfOk result (λ has_begun. has_begun ≡ false
+            → (self.new ≡ self.old) × (position.new ≡ position.old)) }
         ensures same_line { position.new.line ≡ position.old.line }
+        ensures same_ending { position.new.ending ≡ position.old.ending }
         ensures document { self.new.bytes ≡ self.old.bytes }
+        ensures options { self.new.options ≡ self.old.options }
     {
-        match byte {
-            b'>' if depth < MOST_CONTAINERS => {
-                self.begin_quote(position, depth)?;
-                Ok(true)
+        if byte == b'>' {
+            if depth >= MOST_CONTAINERS {
+                return Ok(false);
             }
-            b'[' if self.options.footnotes && depth < MOST_CONTAINERS => {
-                self.begin_footnote(position, depth)
-            }
-            b'*' | b'-' | b'+' | b'0'..=b'9' if depth < MOST_CONTAINERS - 1 => {
-                let in_paragraph = is_whole && self.leaf.is_paragraph();
-                match item_marker(position.line, position.text, in_paragraph) {
-                    Some(marker) => {
-                        self.begin_item(marker, position, depth)?;
-                        Ok(true)
-                    }
-                    None => Ok(false),
-                }
-            }
-            _ => Ok(false),
+            self.begin_quote(position, depth)?;
+            return Ok(true);
         }
+        if byte == b'[' {
+            if !self.options.footnotes {
+                return Ok(false);
+            }
+            if depth >= MOST_CONTAINERS {
+                return Ok(false);
+            }
+            return self.begin_footnote(position, depth);
+        }
+        if depth >= MOST_CONTAINERS - 1 {
+            return Ok(false);
+        }
+        let in_paragraph = self.is_in_paragraph(is_whole);
+        self.begin_marked(position, depth, in_paragraph)
+    }
+
+    /// Whether a line that continues all open containers, or not, continues a paragraph.
+    #[inline(always)]
+    pub(crate) fn is_in_paragraph(&self, is_whole: bool) -> bool
+        ensures value { result ≡ (is_whole && is_in_paragraph (state_of self.now).leaf) }
+        ensures is { IsTrue result → self.now.leaf ≡ leaf.Paragraph }
+    {
+        is_whole && self.leaf.is_paragraph()
+    }
+
+    /// Begins an item if its marker is there; returns whether it is.
+    #[inline(always)]
+    fn begin_marked(
+        &mut self,
+        position: &mut Position<'_>,
+        depth: usize,
+        in_paragraph: bool,
+    ) -> Result<bool, AllocError>
+        requires in_document { IsIn self.old.bytes.now position.old }
+        requires not_code { position.old.indent < 4 }
+        requires shallow { depth < 95 }
+        ensures goes_on { IfOk result (λ has_begun. IsTrue has_begun
+            → position.old.at < position.new.at) }
+        ensures state { IfOk result (λ has_begun. (defined : ℕ)
+            × (item_at defined depth in_paragraph (rest_of position.old)
+            (ending_of self.old.bytes.now position.old) (state_of self.old)
+            ≡ (if has_begun then Some (begun_of self.new position.new) else None))) }
+        ensures stays { IfOk result (λ has_begun. has_begun ≡ false
+            → (self.new ≡ self.old) × (position.new ≡ position.old)) }
+        ensures same_line { position.new.line ≡ position.old.line }
+        ensures same_ending { position.new.ending ≡ position.old.ending }
+        ensures document { self.new.bytes ≡ self.old.bytes }
+        ensures options { self.new.options ≡ self.old.options }
+    {
+        let Some(marker) = item_marker(position.line, position.text, in_paragraph) else {
+            return Ok(false);
+        };
+        self.begin_item(marker, position, depth)?;
+        Ok(true)
     }
 
     /// Begins a quote.
@@ -74,7 +128,9 @@ impl<'a> Pass<'a> {
             ≡ (quote_begun (defined_by self.old self.new) depth (rest_of position.old)
             (state_of self.old)).rest) }
         ensures same_line { position.new.line ≡ position.old.line }
+        ensures same_ending { position.new.ending ≡ position.old.ending }
         ensures document { self.new.bytes ≡ self.old.bytes }
+        ensures options { self.new.options ≡ self.old.options }
     {
         self.make_room(depth)?;
         let start = position.text;
@@ -106,7 +162,9 @@ impl<'a> Pass<'a> {
         ensures stays { IfOk result (λ has_begun. has_begun ≡ false
             → (self.new ≡ self.old) × (position.new ≡ position.old)) }
         ensures same_line { position.new.line ≡ position.old.line }
+        ensures same_ending { position.new.ending ≡ position.old.ending }
         ensures document { self.new.bytes ≡ self.old.bytes }
+        ensures options { self.new.options ≡ self.old.options }
     {
         let Some(label) = footnote_label(position.line, position.text) else {
             return Ok(false);
@@ -144,7 +202,9 @@ impl<'a> Pass<'a> {
             (rest_of position.old) (ending_of self.old.bytes.now position.old)
             (state_of self.old)).rest) }
         ensures same_line { position.new.line ≡ position.old.line }
+        ensures same_ending { position.new.ending ≡ position.old.ending }
         ensures document { self.new.bytes ≡ self.old.bytes }
+        ensures options { self.new.options ≡ self.old.options }
     {
         let start = position.text;
         let width = position.indent + marker.digits + 1;
@@ -180,6 +240,7 @@ impl<'a> Pass<'a> {
             depth (nat_lt 0 marker.digits) (take marker.digits (drop start self.old.bytes.now))
             marker.byte (state_of self.old)) }
         ensures document { self.new.bytes ≡ self.old.bytes }
+        ensures options { self.new.options ≡ self.old.options }
     {
         self.close_unmatched(depth)?;
         let is_ordered = marker.digits > 0;
@@ -222,7 +283,9 @@ impl<'a> Pass<'a> {
         ensures rest { OnOk result (rest_of position.new
             ≡ rest_at (passed 3 (rest_of position.old)).column []) }
         ensures same_line { position.new.line ≡ position.old.line }
+        ensures same_ending { position.new.ending ≡ position.old.ending }
         ensures document { self.new.bytes ≡ self.old.bytes }
+        ensures options { self.new.options ≡ self.old.options }
     {
         self.put(Block::Task {
             is_checked,

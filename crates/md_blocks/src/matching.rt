@@ -19,6 +19,7 @@ pub(crate) fn match_containers(stack: &[Open], position: &mut Position<'_>) -> u
     ensures some { result ≤ length stack.now }
     ensures at { position.old.at ≤ position.new.at }
     ensures line { position.new.line ≡ position.old.line }
+    ensures ending { position.new.ending ≡ position.old.ending }
 {
     let mut matched = 0;
     for container in stack {
@@ -39,6 +40,7 @@ fn goes_on_in(container: Open, position: &mut Position<'_>) -> bool
     ensures stays { result ≡ false → rest_of position.new ≡ rest_of position.old }
     ensures at { position.old.at ≤ position.new.at }
     ensures line { position.new.line ≡ position.old.line }
+    ensures ending { position.new.ending ≡ position.old.ending }
 {
     match container.kind {
         ContainerKind::OrderedList | ContainerKind::UnorderedList => true,
@@ -61,6 +63,7 @@ fn goes_on_in_quote(position: &mut Position<'_>) -> bool
     ensures stays { result ≡ false → rest_of position.new ≡ rest_of position.old }
     ensures at { position.old.at ≤ position.new.at }
     ensures line { position.new.line ≡ position.old.line }
+    ensures ending { position.new.ending ≡ position.old.ending }
 {
     if position.indent > 3 || position.byte() != Some(b'>') {
         return false;
@@ -77,6 +80,7 @@ fn goes_on_indented(columns: usize, position: &mut Position<'_>) -> bool
     ensures stays { result ≡ false → rest_of position.new ≡ rest_of position.old }
     ensures at { position.old.at ≤ position.new.at }
     ensures line { position.new.line ≡ position.old.line }
+    ensures ending { position.new.ending ≡ position.old.ending }
 {
     if position.indent < columns && !position.is_blank() {
         return false;

@@ -5,7 +5,7 @@ ghost use Rattle.md_blocks.specs.Stack.{quotes_depth, with_child, without_list};
 ghost use Rattle.md_blocks.specs.BlankLines.{in_list};
 ghost use Rattle.md_blocks.specs.Tape.{leads, enters, exits};
 ghost use Rattle.std.specs.Prelude.{IsTrue, ◌≡◌, ◌≤◌, ◌<◌, ◌+◌, ◌-◌, ◌++◌, ◌∷◌, ◌||◌, [], vec_len};
-ghost use Rattle.std.specs.Prelude.{drop, length, take, OnOk, IsSome, slice_get, true, false};
+ghost use Rattle.std.specs.Prelude.{drop, length, take, IfOk, OnOk, IsSome, slice_get, true, false};
 ghost use Rattle.std.specs.Prelude.{List, ℕ};
 ghost use Rattle.std.specs.List.{list_any, All};
 ghost use Rattle.md_blocks.specs.Tapes.{lines_end, entries_of};
@@ -65,7 +65,10 @@ pub(crate) struct Nesting {
 
 impl Nesting {
     /// An empty tape, with capacity for some blocks and for some lines of leaves.
-    pub(crate) fn new(alloc: Global, blocks: usize, lines: usize) -> Result<Self, AllocError> {
+    pub(crate) fn new(alloc: Global, blocks: usize, lines: usize) -> Result<Self, AllocError>
+        ensures tape { IfOk result (λ nesting. nesting.tape.items ≡ []) }
+        ensures stack { IfOk result (λ nesting. nesting.stack.items ≡ []) }
+    {
         let tape = Vec::with_capacity(alloc, blocks)?;
         Ok(Nesting {
             tape,

@@ -1,7 +1,7 @@
 //! The pass over the lines of a document.
 
 ghost use Rattle.std.specs.Prelude.{◌≡◌, ◌≤◌, ◌<◌, ◌+◌, ◌++◌, ◌∷◌, []};
-ghost use Rattle.std.specs.Prelude.{false, true, length, vec_len, List, OnOk, IfOk, IsTrue, nat_lt};
+ghost use Rattle.std.specs.Prelude.{ℕ, Bool, None, ◌&&◌, if◌then◌else◌, false, true, length, vec_len, List, OnOk, IfOk, IsTrue, nat_lt};
 ghost use Rattle.md_blocks.specs.Tape.{enters, exits};
 ghost use Rattle.md_blocks.specs.Tapes.{has_info};
 
@@ -107,7 +107,13 @@ pub(crate) struct Pass<'a> {
 }
 
 impl<'a> Pass<'a> {
-    ghost use Rattle.md_blocks.specs.LeafBlocks.{blank_read, blank_waits, line_added};
+    ghost use Rattle.md_blocks.specs.BlockStructure.{leaf_continued, line_after, line_read, started};
+    ghost use Rattle.md_blocks.specs.LeafBlocks.{blank_read, blank_waits, if_begun, line_added};
+    ghost use Rattle.md_blocks.specs.Progress.{SkipsBlank};
+    ghost use Rattle.md_blocks.specs.Rests.{is_blank_rest};
+    ghost use Rattle.md_blocks.specs.Stack.{is_quote};
+    ghost use Rattle.md_blocks.specs.States.{NoLeaf};
+    ghost use Rattle.std.specs.List.{list_any};
     ghost use Rattle.md_blocks.specs.Passes.{defined_by, leaf_of, state_of};
     ghost use Rattle.md_blocks.specs.Positions.{IsIn, ending_of, rest_of};
     ghost use Rattle.md_blocks.specs.States.{opened_in, with_a_child, with_entries, with_leaf};
@@ -119,7 +125,12 @@ impl<'a> Pass<'a> {
         alloc: Global,
         bytes: &'a [u8],
         options: &'a MarkdownOptions,
-    ) -> Result<Self, AllocError> {
+    ) -> Result<Self, AllocError>
+        ensures state { IfOk result (λ pass. state_of pass ≡ started) }
+        ensures document { IfOk result (λ pass. pass.bytes.now ≡ bytes.now) }
+        ensures options { IfOk result (λ pass. pass.options.now ≡ options.now) }
+        ensures not_skipped { IfOk result (λ pass. pass.is_after_blank ≡ false) }
+    {
         if bytes.len() > MOST_BYTES {
             return Err(AllocError);
         }
@@ -183,6 +194,7 @@ impl<'a> Pass<'a> {
         ensures off { self.old.options.now.front_matter ≡ false
             → OnOk result (self.new ≡ self.old) }
         ensures document { self.new.bytes ≡ self.old.bytes }
+        ensures options { self.new.options ≡ self.old.options }
     {
         if !self.options.front_matter {
             return Ok(start_of(self.bytes));
@@ -198,27 +210,107 @@ impl<'a> Pass<'a> {
         }
     }
 
-    /// Reads a line.
+    /// Reads a line. After a blank line that changes nothing more, further ones are skipped.
     #[inline(always)]
     fn read_line(&mut self, position: &mut Position<'_>) -> Result<(), AllocError>
         requires in_document { IsIn self.old.bytes.now position.old }
+        ensures state { (self.old.is_after_blank ≡ true → SkipsBlank (state_of self.old))
+            → OnOk result ((defined : ℕ) × (is_alone : Bool) × (state_of self.new
+            ≡ line_read self.old.options.now is_alone defined (nat_lt 0 position.old.ending)
+            (rest_of position.old) (ending_of self.old.bytes.now position.old)
+            (state_of self.old))) }
+        ensures skips { (self.old.is_after_blank ≡ true → SkipsBlank (state_of self.old))
+            → OnOk result (self.new.is_after_blank ≡ true → SkipsBlank (state_of self.new)) }
         ensures document { self.new.bytes ≡ self.old.bytes }
+        ensures options { self.new.options ≡ self.old.options }
     {
-        if self.is_after_blank {
-            if position.is_blank() {
-                self.at = position.at;
-                return Ok(());
-            }
-            self.is_after_blank = false;
+        if self.is_skipped(position) {
+            self.at = position.at;
+            return Ok(());
         }
+        self.is_after_blank = false;
+        self.read_in_containers(position)
+    }
+
+    /// Whether a line is a further blank line, and changes nothing.
+    #[inline(always)]
+    fn is_skipped(&self, position: &Position<'_>) -> bool
+        ensures { result ≡ (self.now.is_after_blank && is_blank_rest (rest_of position.now)) }
+    {
+        self.is_after_blank && position.is_blank()
+    }
+
+    /// Reads a line that isn't skipped.
+    #[inline(always)]
+    fn read_in_containers(&mut self, position: &mut Position<'_>) -> Result<(), AllocError>
+        requires in_document { IsIn self.old.bytes.now position.old }
+        ensures state { OnOk result ((defined : ℕ) × (is_alone : Bool) × (state_of self.new
+            ≡ line_read self.old.options.now is_alone defined (nat_lt 0 position.old.ending)
+            (rest_of position.old) (ending_of self.old.bytes.now position.old)
+            (state_of self.old))) }
+        ensures skips { OnOk result
+            (self.new.is_after_blank ≡ true → SkipsBlank (state_of self.new)) }
+        ensures document { self.new.bytes ≡ self.old.bytes }
+        ensures options { self.new.options ≡ self.old.options }
+    {
         let matched = match_containers(self.nesting.stack.as_slice(), position);
         self.at = position.at;
         let is_whole = matched == self.nesting.depth();
-        if !(is_whole && self.continue_leaf(position)?) {
-            self.begin_blocks(position, matched, is_whole)?;
-        }
+        let is_ended = position.ending > 0;
+        let is_blank = self.read_after(position, matched, is_whole)?;
         self.at = position.at;
+        self.is_after_blank = self.skips_next(is_blank, is_ended);
         Ok(())
+    }
+
+    /// Reads a line after the prefixes of `matched` open blocks; returns whether it is a blank line.
+    #[inline(always)]
+    fn read_after(
+        &mut self,
+        position: &mut Position<'_>,
+        matched: usize,
+        is_whole: bool,
+    ) -> Result<bool, AllocError>
+        requires in_document { IsIn self.old.bytes.now position.old }
+        ensures state { OnOk result ((defined : ℕ) × (is_alone : Bool) × (state_of self.new
+            ≡ line_after self.old.options.now is_alone defined matched is_whole
+            (nat_lt 0 position.old.ending) (rest_of position.old)
+            (ending_of self.old.bytes.now position.old) (state_of self.old))) }
+        ensures blank { IfOk result (λ is_blank. is_blank ≡ true
+            → (is_blank_rest (rest_of position.old) ≡ true) × ((defined : ℕ) × (state_of self.new
+            ≡ blank_waits (nat_lt 0 position.old.ending) (blank_read defined matched is_whole
+            (rest_of position.old) (ending_of self.old.bytes.now position.old)
+            (state_of self.old))))) }
+        ensures document { self.new.bytes ≡ self.old.bytes }
+        ensures options { self.new.options ≡ self.old.options }
+    {
+        if self.continue_if(is_whole, position)? {
+            return Ok(false);
+        }
+        self.begin_blocks(position, matched, is_whole)
+    }
+
+    /// Reads a line in a leaf that accepts any line, if the line continues all open containers.
+    #[inline(always)]
+    fn continue_if(
+        &mut self,
+        is_whole: bool,
+        position: &mut Position<'_>,
+    ) -> Result<bool, AllocError>
+        requires in_document { IsIn self.old.bytes.now position.old }
+        ensures document { self.new.bytes ≡ self.old.bytes }
+        ensures options { self.new.options ≡ self.old.options }
+        ensures state { IfOk result (λ goes_on. (if is_whole then leaf_continued (rest_of position.old)
+            (ending_of self.old.bytes.now position.old) (state_of self.old) else None)
+            ≡ if_begun goes_on (state_of self.new)) }
+        ensures stays { IfOk result (λ goes_on.
+            goes_on ≡ false → state_of self.new ≡ state_of self.old) }
+        ensures same { IfOk result (λ goes_on. goes_on ≡ false → position.new ≡ position.old) }
+    {
+        if !is_whole {
+            return Ok(false);
+        }
+        self.continue_leaf(position)
     }
 
     /// Reads a line in a leaf that accepts any line; returns whether the open leaf is one.
@@ -226,6 +318,12 @@ impl<'a> Pass<'a> {
     fn continue_leaf(&mut self, position: &mut Position<'_>) -> Result<bool, AllocError>
         requires in_document { IsIn self.old.bytes.now position.old }
         ensures document { self.new.bytes ≡ self.old.bytes }
+        ensures options { self.new.options ≡ self.old.options }
+        ensures state { IfOk result (λ goes_on. leaf_continued (rest_of position.old)
+            (ending_of self.old.bytes.now position.old) (state_of self.old)
+            ≡ if_begun goes_on (state_of self.new)) }
+        ensures stays { IfOk result (λ goes_on.
+            goes_on ≡ false → state_of self.new ≡ state_of self.old) }
         ensures same { IfOk result (λ goes_on. goes_on ≡ false → position.new ≡ position.old) }
     {
         match self.leaf {
@@ -250,17 +348,31 @@ impl<'a> Pass<'a> {
             (blank_read (defined_by self.old self.new) matched is_whole (rest_of position.old)
             (ending_of self.old.bytes.now position.old) (state_of self.old))) }
         ensures document { self.new.bytes ≡ self.old.bytes }
+        ensures options { self.new.options ≡ self.old.options }
     {
         self.close_at_blank_line(position, matched, is_whole)?;
-        self.is_after_blank = self.may_skip_blank_lines();
         self.note_blank_line(position.text_line());
         Ok(())
     }
 
+    /// Whether further blank lines change nothing after a line: it is blank, and not the last one.
+    #[inline(always)]
+    fn skips_next(&self, is_blank: bool, is_ended: bool) -> bool
+        ensures blank { IsTrue result → is_blank ≡ true }
+        ensures ended { IsTrue result → is_ended ≡ true }
+        ensures leaf { IsTrue result → (state_of self.now).leaf ≡ NoLeaf }
+        ensures quotes { IsTrue result → list_any is_quote self.now.nesting.stack.items ≡ false }
+    {
+        is_blank && is_ended && self.may_skip_blank_lines()
+    }
+
     /// Whether more blank lines change nothing: no leaf and no quote is open.
     #[inline(always)]
-    fn may_skip_blank_lines(&self) -> bool {
-        self.leaf == OpenLeaf::None && !self.nesting.has_quote()
+    fn may_skip_blank_lines(&self) -> bool
+        ensures leaf { IsTrue result → (state_of self.now).leaf ≡ NoLeaf }
+        ensures quotes { IsTrue result → list_any is_quote self.now.nesting.stack.items ≡ false }
+    {
+        matches!(self.leaf, OpenLeaf::None) && !self.nesting.has_quote()
     }
 
     /// Adds a blank line to indented code, or closes the leaf and the containers that it doesn't
@@ -277,6 +389,7 @@ impl<'a> Pass<'a> {
             (defined_by self.old self.new) matched is_whole (rest_of position.old)
             (ending_of self.old.bytes.now position.old) (state_of self.old)) }
         ensures document { self.new.bytes ≡ self.old.bytes }
+        ensures options { self.new.options ≡ self.old.options }
         ensures line { position.new.line ≡ position.old.line }
         ensures ending { position.new.ending ≡ position.old.ending }
     {
@@ -293,6 +406,7 @@ impl<'a> Pass<'a> {
         ensures state { state_of self.new ≡ blank_waits (nat_lt 0 line.ending) (state_of self.old) }
         ensures leaves { self.new.nesting.leaves ≡ self.old.nesting.leaves }
         ensures document { self.new.bytes ≡ self.old.bytes }
+        ensures options { self.new.options ≡ self.old.options }
     {
         if line.ending > 0 {
             self.blank_line = Some(BlankLine {
@@ -310,6 +424,7 @@ impl<'a> Pass<'a> {
         ensures leaf { OnOk result (self.new.leaf ≡ leaf) }
         ensures stack { self.new.nesting.stack ≡ self.old.nesting.stack }
         ensures document { self.new.bytes ≡ self.old.bytes }
+        ensures options { self.new.options ≡ self.old.options }
     {
         self.leaf = OpenLeaf::None;
         self.nesting.begin_leaf();
@@ -327,6 +442,7 @@ impl<'a> Pass<'a> {
         ensures leaf { self.new.leaf ≡ self.old.leaf }
         ensures stack { self.new.nesting.stack ≡ self.old.nesting.stack }
         ensures document { self.new.bytes ≡ self.old.bytes }
+        ensures options { self.new.options ≡ self.old.options }
     {
         self.nesting.push_line(line)?;
         Ok(())
@@ -345,6 +461,7 @@ impl<'a> Pass<'a> {
         ensures leaves { self.new.nesting.leaves ≡ self.old.nesting.leaves }
         ensures leaf { self.new.leaf ≡ self.old.leaf }
         ensures document { self.new.bytes ≡ self.old.bytes }
+        ensures options { self.new.options ≡ self.old.options }
     {
         self.nesting.put(block)?;
         Ok(())
@@ -357,6 +474,7 @@ impl<'a> Pass<'a> {
         ensures shrinks { vec_len self.new.nesting.stack ≤ vec_len self.old.nesting.stack }
         ensures leaves { self.new.nesting.leaves ≡ self.old.nesting.leaves }
         ensures document { self.new.bytes ≡ self.old.bytes }
+        ensures options { self.new.options ≡ self.old.options }
     {
         self.nesting.note_child();
     }
@@ -372,6 +490,7 @@ impl<'a> Pass<'a> {
             (state_of self.old))) }
         ensures leaves { self.new.nesting.leaves ≡ self.old.nesting.leaves }
         ensures document { self.new.bytes ≡ self.old.bytes }
+        ensures options { self.new.options ≡ self.old.options }
     {
         self.nesting.enter(block, opened)?;
         Ok(())

@@ -2,12 +2,19 @@
 
 ghost use Rattle.std.specs.Prelude.{◌≡◌, ◌<◌, ◌∷◌, [], true, false, ℕ, Bool, IfOk, OnOk};
 ghost use Rattle.std.specs.Prelude.{IfSome, is_some, length, vec_len};
+ghost use Rattle.std.specs.Prelude.{◌&&◌, ◌||◌, ◌==◌, get_or, IsTrue, nat_lt, if◌then◌else◌};
+ghost use Rattle.md_blocks.specs.BlockStructure.{break_at, leaf_begun, marks_begun, may_underline};
+ghost use Rattle.md_blocks.specs.BlockStructure.{Ends, GoesOn, begun, block_begun, deep_read};
+ghost use Rattle.md_blocks.specs.BlockStructure.{step_read, text_begun, unless_underlined};
+ghost use Rattle.md_blocks.specs.LeafBlocks.{blank_read, blank_waits};
+ghost use Rattle.md_blocks.specs.Progress.{is_text};
+ghost use Rattle.md_blocks.specs.Rests.{is_blank_rest};
 ghost use Rattle.md_blocks.specs.LeafBlocks.{break_begun, code_begun, heading_begun, if_begun};
 ghost use Rattle.md_blocks.specs.Entries.{last_line};
 ghost use Rattle.md_blocks.specs.LeafBlocks.{definitions_taken, heading_underlined, html_begun};
 ghost use Rattle.md_blocks.specs.LeafBlocks.{indented_read, is_table, kind_begun, lacking_after};
 ghost use Rattle.md_blocks.specs.LeafBlocks.{paragraph_split, row_read, table_begun, text_read};
-ghost use Rattle.md_blocks.specs.Leaves.{delimiters};
+ghost use Rattle.md_blocks.specs.Leaves.{delimiters, is_underline};
 ghost use Rattle.md_blocks.specs.OwnBlocks.{math_begun};
 ghost use Rattle.md_blocks.specs.States.{is_in_paragraph};
 ghost use Rattle.md_blocks.specs.declared.pass.OpenLeaf.TheVariants as leaf;
@@ -29,45 +36,161 @@ const MOST_MISSING: usize = 1 << 19;
 impl<'a> Pass<'a> {
     ghost use Rattle.md_blocks.specs.Passes.{defined_by, leaf_lines, state_of};
     ghost use Rattle.md_blocks.specs.Positions.{IsIn, ending_of, rest_of, text_at, text_line};
+    ghost use Rattle.md_blocks.specs.Progress.{begun_of};
 
     /// Reads a line after the prefixes of `matched` open blocks, if no leaf accepted it; `is_whole`
-    /// says that these are all open blocks.
+    /// says that these are all open blocks. Returns whether it is a blank line.
     pub(crate) fn begin_blocks(
         &mut self,
         position: &mut Position<'_>,
         matched: usize,
         is_whole: bool,
-    ) -> Result<(), AllocError>
+    ) -> Result<bool, AllocError>
         requires in_document { IsIn self.old.bytes.now position.old }
+        ensures state { OnOk result ((defined : ℕ) × (is_alone : Bool) × (state_of self.new
+            ≡ begun (length (rest_of position.old).text) self.old.options.now is_alone defined matched
+            is_whole (nat_lt 0 position.old.ending) false (rest_of position.old)
+            (ending_of self.old.bytes.now position.old) (state_of self.old))) }
+        ensures blank { IfOk result (λ is_blank. is_blank ≡ true
+            → (is_blank_rest (rest_of position.old) ≡ true) × ((defined : ℕ) × (state_of self.new
+            ≡ blank_waits (nat_lt 0 position.old.ending) (blank_read defined matched is_whole
+            (rest_of position.old) (ending_of self.old.bytes.now position.old)
+            (state_of self.old))))) }
         ensures document { self.new.bytes ≡ self.old.bytes }
+        ensures options { self.new.options ≡ self.old.options }
     {
         let mut depth = matched;
         let mut has_begun = false;
         'parts: while let Some(byte) = position.byte() {
-            if position.indent >= CODE_INDENT && !self.leaf.is_paragraph() {
-                return self.read_indented(position, depth, is_whole);
-            }
-            if position.indent >= CODE_INDENT || is_text(byte) {
-                return self.read_text(position, depth, is_whole);
-            }
-            if self.begin_leaf(byte, position, depth, is_whole)? {
-                self.blank_line = None;
-                return Ok(());
-            }
-            if !self.begin_container(byte, position, depth, is_whole)? {
-                if is_whole && self.leaf.is_paragraph() && self.begin_table(position)? {
-                    return Ok(());
-                }
-                return self.read_text(position, depth, is_whole);
+            if !self.begin_block(byte, position, depth, is_whole)? {
+                return Ok(false);
             }
             has_begun = true;
             depth = self.nesting.depth();
         }
         if has_begun {
-            Ok(())
-        } else {
-            self.read_blank_line(position, matched, is_whole)
+            return Ok(false);
         }
+        self.read_blank_line(position, matched, is_whole)?;
+        Ok(true)
+    }
+
+    /// Begins a block at the text, or reads the line as text; returns whether a container begins,
+    /// after which the rest of the line is read.
+    #[inline(always)]
+    fn begin_block(
+        &mut self,
+        byte: u8,
+        position: &mut Position<'_>,
+        depth: usize,
+        is_whole: bool,
+    ) -> Result<bool, AllocError>
+        requires in_document { IsIn self.old.bytes.now position.old }
+        requires has_text { position.old.text < length position.old.line.now }
+        ensures goes_on { IfOk result (λ goes_on. IsTrue goes_on
+            → position.old.at < position.new.at) }
+        ensures state { IfOk result (λ goes_on. byte ≡ get_or (text_at position.old) 0 0
+            → (defined : ℕ) × (is_alone : Bool) × (step_read self.old.options.now is_alone defined
+            depth is_whole (rest_of position.old) (ending_of self.old.bytes.now position.old)
+            (state_of self.old)
+            ≡ (if goes_on then GoesOn (begun_of self.new position.new) else Ends (state_of self.new)))) }
+        ensures same_line { position.new.line ≡ position.old.line }
+        ensures same_ending { position.new.ending ≡ position.old.ending }
+        ensures document { self.new.bytes ≡ self.old.bytes }
+        ensures options { self.new.options ≡ self.old.options }
+    {
+        if position.indent >= CODE_INDENT {
+            self.read_deep(position, depth, is_whole)?;
+            return Ok(false);
+        }
+        if is_text(byte) {
+            self.read_text(position, depth, is_whole)?;
+            return Ok(false);
+        }
+        self.begin_at_mark(byte, position, depth, is_whole)
+    }
+
+    /// Reads text after the indentation of code.
+    #[inline(always)]
+    fn read_deep(
+        &mut self,
+        position: &mut Position<'_>,
+        depth: usize,
+        is_whole: bool,
+    ) -> Result<(), AllocError>
+        requires in_document { IsIn self.old.bytes.now position.old }
+        ensures state { OnOk result (state_of self.new ≡ deep_read (defined_by self.old self.new)
+            depth is_whole (rest_of position.old) (ending_of self.old.bytes.now position.old)
+            (state_of self.old)) }
+        ensures same_line { position.new.line ≡ position.old.line }
+        ensures same_ending { position.new.ending ≡ position.old.ending }
+        ensures document { self.new.bytes ≡ self.old.bytes }
+        ensures options { self.new.options ≡ self.old.options }
+    {
+        if !self.leaf.is_paragraph() {
+            return self.read_indented(position, depth, is_whole);
+        }
+        self.read_text(position, depth, is_whole)
+    }
+
+    /// Begins a block at a byte that may be its mark, or reads the line as text; returns whether a
+    /// container begins.
+    #[inline(always)]
+    fn begin_at_mark(
+        &mut self,
+        byte: u8,
+        position: &mut Position<'_>,
+        depth: usize,
+        is_whole: bool,
+    ) -> Result<bool, AllocError>
+        requires in_document { IsIn self.old.bytes.now position.old }
+        requires has_text { position.old.text < length position.old.line.now }
+        requires not_code { position.old.indent < 4 }
+        ensures goes_on { IfOk result (λ goes_on. IsTrue goes_on
+            → position.old.at < position.new.at) }
+        ensures state { IfOk result (λ goes_on. byte ≡ get_or (text_at position.old) 0 0
+            → (defined : ℕ) × (is_alone : Bool) × (block_begun self.old.options.now is_alone defined
+            depth is_whole (rest_of position.old) (ending_of self.old.bytes.now position.old)
+            (state_of self.old)
+            ≡ (if goes_on then GoesOn (begun_of self.new position.new) else Ends (state_of self.new)))) }
+        ensures same_line { position.new.line ≡ position.old.line }
+        ensures same_ending { position.new.ending ≡ position.old.ending }
+        ensures document { self.new.bytes ≡ self.old.bytes }
+        ensures options { self.new.options ≡ self.old.options }
+    {
+        if self.begin_leaf(byte, position, depth, is_whole)? {
+            self.blank_line = None;
+            return Ok(false);
+        }
+        if self.begin_container(byte, position, depth, is_whole)? {
+            return Ok(true);
+        }
+        self.begin_text(position, depth, is_whole)?;
+        Ok(false)
+    }
+
+    /// Begins a table, or reads a line of text.
+    #[inline(always)]
+    fn begin_text(
+        &mut self,
+        position: &Position<'_>,
+        depth: usize,
+        is_whole: bool,
+    ) -> Result<(), AllocError>
+        requires in_document { IsIn self.old.bytes.now position.now }
+        ensures state { OnOk result ((defined : ℕ) × (state_of self.new
+            ≡ text_begun self.old.options.now defined depth is_whole (rest_of position.now)
+            (ending_of self.old.bytes.now position.now) (state_of self.old))) }
+        ensures document { self.new.bytes ≡ self.old.bytes }
+        ensures options { self.new.options ≡ self.old.options }
+    {
+        if !self.is_in_paragraph(is_whole) {
+            return self.read_text(position, depth, is_whole);
+        }
+        if self.begin_table(position)? {
+            return Ok(());
+        }
+        self.read_text(position, depth, is_whole)
     }
 
     /// Begins a leaf if the byte starts one, or reads its only line; returns whether it does.
@@ -79,24 +202,85 @@ impl<'a> Pass<'a> {
         is_whole: bool,
     ) -> Result<bool, AllocError>
         requires in_document { IsIn self.old.bytes.now position.now }
+        ensures state { IfOk result (λ has_begun. byte ≡ get_or (text_at position.now) 0 0
+            → (defined : ℕ) × (is_alone : Bool) × (leaf_begun self.old.options.now is_alone defined
+            depth (is_whole && is_in_paragraph (state_of self.old).leaf) (rest_of position.now)
+            (ending_of self.old.bytes.now position.now) (state_of self.old)
+            ≡ if_begun has_begun (state_of self.new))
+            × (has_begun ≡ false → state_of self.new ≡ unless_underlined defined
+            (is_whole && is_in_paragraph (state_of self.old).leaf) (rest_of position.now)
+            (state_of self.old))) }
         ensures document { self.new.bytes ≡ self.old.bytes }
+        ensures options { self.new.options ≡ self.old.options }
     {
-        let in_paragraph = is_whole && self.leaf.is_paragraph();
-        match byte {
-            b'#' => self.begin_heading(position, depth),
-            b'`' | b'~' => self.begin_fenced(byte, position, depth),
-            b'$' if self.options.math => self.begin_math(position, depth),
-            b'<' => self.begin_html(position, depth, in_paragraph),
-            b'=' if in_paragraph => self.begin_underlined(byte, position),
-            b'-' if in_paragraph => {
-                Ok(
-                    self.begin_underlined(byte, position)?
-                        || self.begin_break(byte, position, depth)?,
-                )
-            }
-            b'*' | b'-' | b'_' => self.begin_break(byte, position, depth),
-            _ => Ok(false),
+        if byte == b'#' {
+            return self.begin_heading(position, depth);
         }
+        if is_fence_mark(byte) {
+            return self.begin_fenced(byte, position, depth);
+        }
+        if byte == b'$' {
+            if !self.options.math {
+                return Ok(false);
+            }
+            return self.begin_math(position, depth);
+        }
+        let in_paragraph = self.is_in_paragraph(is_whole);
+        if byte == b'<' {
+            return self.begin_html(position, depth, in_paragraph);
+        }
+        self.begin_of_marks(byte, position, depth, in_paragraph)
+    }
+
+    /// Changes the open paragraph to a heading, or else reads a thematic break, if the byte is a
+    /// mark of these; returns whether the line is one.
+    #[inline(always)]
+    fn begin_of_marks(
+        &mut self,
+        byte: u8,
+        position: &Position<'_>,
+        depth: usize,
+        in_paragraph: bool,
+    ) -> Result<bool, AllocError>
+        requires in_document { IsIn self.old.bytes.now position.now }
+        requires is_paragraph { in_paragraph ≡ true → self.old.leaf ≡ leaf.Paragraph }
+        ensures state { IfOk result (λ has_begun. byte ≡ get_or (text_at position.now) 0 0
+            → (defined : ℕ) × (marks_begun defined depth in_paragraph (rest_of position.now)
+            (state_of self.old) ≡ if_begun has_begun (state_of self.new))
+            × (has_begun ≡ false → state_of self.new ≡ unless_underlined defined in_paragraph
+            (rest_of position.now) (state_of self.old))) }
+        ensures document { self.new.bytes ≡ self.old.bytes }
+        ensures options { self.new.options ≡ self.old.options }
+    {
+        if !may_underline(in_paragraph, byte) {
+            return self.begin_break_at(byte, position, depth);
+        }
+        if self.begin_underlined(byte, position)? {
+            return Ok(true);
+        }
+        self.begin_break_at(byte, position, depth)
+    }
+
+    /// Reads a thematic break, if the byte is a mark of it.
+    #[inline(always)]
+    fn begin_break_at(
+        &mut self,
+        byte: u8,
+        position: &Position<'_>,
+        depth: usize,
+    ) -> Result<bool, AllocError>
+        ensures state { IfOk result (λ has_begun. byte ≡ get_or (text_at position.now) 0 0
+            → break_at (defined_by self.old self.new) depth (text_at position.now)
+            (state_of self.old) ≡ if_begun has_begun (state_of self.new)) }
+        ensures same { IfOk result (λ has_begun.
+            has_begun ≡ false → state_of self.new ≡ state_of self.old) }
+        ensures document { self.new.bytes ≡ self.old.bytes }
+        ensures options { self.new.options ≡ self.old.options }
+    {
+        if !is_break_mark(byte) {
+            return Ok(false);
+        }
+        self.begin_break(byte, position, depth)
     }
 
     /// Reads a heading with number signs.
@@ -108,6 +292,7 @@ impl<'a> Pass<'a> {
         ensures same { IfOk result (λ has_begun.
             has_begun ≡ false → state_of self.new ≡ state_of self.old) }
         ensures document { self.new.bytes ≡ self.old.bytes }
+        ensures options { self.new.options ≡ self.old.options }
     {
         let Some(marks) = heading_marks(position.line, position.text) else {
             return Ok(false);
@@ -135,6 +320,7 @@ impl<'a> Pass<'a> {
         ensures same { IfOk result (λ has_begun.
             has_begun ≡ false → state_of self.new ≡ state_of self.old) }
         ensures document { self.new.bytes ≡ self.old.bytes }
+        ensures options { self.new.options ≡ self.old.options }
     {
         let Some(fence) = Fence::of_code(position, mark) else {
             return Ok(false);
@@ -155,6 +341,7 @@ impl<'a> Pass<'a> {
         ensures same { IfOk result (λ has_begun.
             has_begun ≡ false → state_of self.new ≡ state_of self.old) }
         ensures document { self.new.bytes ≡ self.old.bytes }
+        ensures options { self.new.options ≡ self.old.options }
     {
         let Some(fence) = Fence::of_math(position) else {
             return Ok(false);
@@ -191,6 +378,7 @@ impl<'a> Pass<'a> {
         ensures same { IfOk result (λ has_begun.
             has_begun ≡ false → state_of self.new ≡ state_of self.old) }
         ensures document { self.new.bytes ≡ self.old.bytes }
+        ensures options { self.new.options ≡ self.old.options }
     {
         let text = &position.line[position.text..];
         let Some(kind) = HtmlKind::begun_by(text, !in_paragraph) else {
@@ -214,7 +402,10 @@ impl<'a> Pass<'a> {
         ensures rest { IfOk result (λ has_begun. has_begun ≡ false → state_of self.new
             ≡ definitions_taken (defined_by self.old self.new) (leaf_lines self.old)
             (state_of self.old)) }
+        ensures same { IfOk result (λ _. is_underline mark (text_at position.now) ≡ false
+            → self.new ≡ self.old) }
         ensures document { self.new.bytes ≡ self.old.bytes }
+        ensures options { self.new.options ≡ self.old.options }
     {
         let Some(marks) = underline(position.line, position.text, mark) else {
             return Ok(false);
@@ -244,6 +435,7 @@ impl<'a> Pass<'a> {
         ensures same { IfOk result (λ has_begun.
             has_begun ≡ false → state_of self.new ≡ state_of self.old) }
         ensures document { self.new.bytes ≡ self.old.bytes }
+        ensures options { self.new.options ≡ self.old.options }
     {
         if !self.breaks.begins_at(mark, position.line, position.text) {
             return Ok(false);
@@ -266,7 +458,10 @@ impl<'a> Pass<'a> {
         ensures state { OnOk result (state_of self.new ≡ indented_read depth is_whole
             (rest_of position.old) (ending_of self.old.bytes.now position.old)
             (state_of self.old)) }
+        ensures same_line { position.new.line ≡ position.old.line }
+        ensures same_ending { position.new.ending ≡ position.old.ending }
         ensures document { self.new.bytes ≡ self.old.bytes }
+        ensures options { self.new.options ≡ self.old.options }
     {
         position.advance(CODE_INDENT);
         let line = position.rest();
@@ -290,6 +485,7 @@ impl<'a> Pass<'a> {
         ensures state { OnOk result (state_of self.new ≡ text_read (defined_by self.old self.new)
             depth is_whole (text_line self.old.bytes.now position.now) (state_of self.old)) }
         ensures document { self.new.bytes ≡ self.old.bytes }
+        ensures options { self.new.options ≡ self.old.options }
     {
         if self.leaf.is_paragraph() {
             return self.push_line(position.text_line());
@@ -310,6 +506,7 @@ impl<'a> Pass<'a> {
             ≡ if_begun is_row (state_of self.new)) }
         ensures same { IfOk result (λ is_row. is_row ≡ false → self.new ≡ self.old) }
         ensures document { self.new.bytes ≡ self.old.bytes }
+        ensures options { self.new.options ≡ self.old.options }
     {
         let OpenLeaf::Table { columns } = self.leaf else {
             return Ok(false);
@@ -334,6 +531,7 @@ impl<'a> Pass<'a> {
             ≡ if_begun has_begun (state_of self.new))) }
         ensures same { IfOk result (λ has_begun. has_begun ≡ false → self.new ≡ self.old) }
         ensures document { self.new.bytes ≡ self.old.bytes }
+        ensures options { self.new.options ≡ self.old.options }
     {
         let Some(columns) = self.columns_begun(position) else {
             return Ok(false);
@@ -376,6 +574,7 @@ impl<'a> Pass<'a> {
             ≡ paragraph_split defined (leaf_lines self.old) (state_of self.old))) }
         ensures lines { OnOk result (leaf_lines self.new ≡ last_line (leaf_lines self.old) ∷ []) }
         ensures document { self.new.bytes ≡ self.old.bytes }
+        ensures options { self.new.options ≡ self.old.options }
     {
         let last = self.nesting.leaves.lines.len() - 1;
         if self.nesting.leaves.start < last {
@@ -402,8 +601,34 @@ fn missing_after(columns: usize, cells: usize, missing: usize) -> Option<usize>
     }
 }
 
+/// Whether a line that begins with a byte may underline a paragraph.
+#[inline(always)]
+fn may_underline(in_paragraph: bool, byte: u8) -> bool
+    ensures { result ≡ may_underline in_paragraph byte }
+{
+    in_paragraph && (byte == b'=' || byte == b'-')
+}
+
+/// Whether a byte is a mark of fences of code.
+#[inline(always)]
+fn is_fence_mark(byte: u8) -> bool
+    ensures { result ≡ (byte == 96 || byte == 126) }
+{
+    matches!(byte, b'`' | b'~')
+}
+
+/// Whether a byte is a mark of thematic breaks.
+#[inline(always)]
+fn is_break_mark(byte: u8) -> bool
+    ensures { result ≡ (byte == 42 || (byte == 45 || byte == 95)) }
+{
+    matches!(byte, b'*' | b'-' | b'_')
+}
+
 /// Whether a byte can only begin text.
 #[inline(always)]
-fn is_text(byte: u8) -> bool {
+fn is_text(byte: u8) -> bool
+    ensures { result ≡ is_text byte }
+{
     byte >= 128 || is(byte, Class::Alphabetic)
 }

@@ -232,15 +232,14 @@ impl<'a> Reader<'a> {
         let (opens, closes) = flanks(byte, length, before, after);
         if opens || closes {
             self.from = end;
-            let token = self.tokens.len();
+            let start = self.tokens.len();
             for at in here.at..end {
                 self.push(Mark::Text, at, at + 1, 0)?;
             }
             self.delimiters.push(Delimiter {
-                token,
+                start,
+                end: self.tokens.len(),
                 length,
-                used: 0,
-                available: length,
                 byte,
                 opens,
                 closes,

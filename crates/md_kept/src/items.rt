@@ -2,6 +2,7 @@
 
 use crate::own::Own;
 use md_clean::Tag;
+use std::alloc::AllocError;
 
 /// What a piece of HTML is.
 #[derive(Clone, Copy, PartialEq, Eq)]
@@ -52,7 +53,8 @@ pub(crate) enum Item {
     Exit,
     /// A node of HTML begins.
     Html,
-    Token(Token),
+    /// A piece of HTML, by its index among these.
+    Token(usize),
 }
 
 /// The parts of a document that matter to its tags, in order.
@@ -61,21 +63,32 @@ pub(crate) struct Items {
     /// The HTML of the document, each node's after the other.
     pub(crate) html: String,
     pub(crate) list: Vec<Item>,
+    /// The pieces of this HTML.
+    pub(crate) tokens: Vec<Token>,
 }
 
 impl Items {
     /// The token that is an item.
     pub(crate) fn token(&self, index: usize) -> Option<Token> {
         match self.list.get(index) {
-            Some(Item::Token(token)) => Some(*token),
+            Some(Item::Token(at)) => self.tokens.get(*at).copied(),
             _ => None,
         }
     }
 
+    /// Appends a token.
+    pub(crate) fn push(&mut self, token: Token) -> Result<(), AllocError> {
+        self.list.push(Item::Token(self.tokens.len()))?;
+        self.tokens.push(token)?;
+        Ok(())
+    }
+
     /// Replaces the token that is an item.
     pub(crate) fn set(&mut self, index: usize, token: Token) {
-        if let Some(item) = self.list.get_mut(index) {
-            *item = Item::Token(token);
+        if let Some(Item::Token(at)) = self.list.get(index) {
+            if let Some(place) = self.tokens.get_mut(*at) {
+                *place = token;
+            }
         }
     }
 

@@ -7,6 +7,7 @@ use crate::reading::{is_html, read_items};
 use crate::writing::Writing;
 use md_base::Event;
 use md_blocks::DocumentHtml;
+use memchr::memchr;
 use std::alloc::{AllocError, Global};
 
 /// The events of a document with kept tags.
@@ -18,9 +19,9 @@ pub struct Kept {
     pub pieces: String,
 }
 
-/// Whether a document has HTML.
-pub fn has_html(events: &[Event]) -> bool {
-    events.iter().any(|event| is_html(event.name))
+/// Whether a document has HTML: there is none without `<`.
+pub fn has_html(events: &[Event], text: &str) -> bool {
+    memchr(b'<', text.as_bytes()).is_some() && events.iter().any(|event| is_html(event.name))
 }
 
 /// The events of a document with the HTML that authors may write: a void tag, and tags of one
@@ -40,7 +41,7 @@ pub fn keep(
 ) -> Result<Kept, AllocError> {
     let mut items = read_items(alloc, events, text)?;
     pair(alloc, &mut items)?;
-    place(alloc, &mut items)?;
+    place(alloc, &mut items, others)?;
     written(alloc, events, &items, start, others)
 }
 

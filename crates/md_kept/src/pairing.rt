@@ -23,10 +23,7 @@ pub(crate) fn pair(alloc: Global, items: &mut Items) -> Result<(), AllocError> {
         match items.list.get(index) {
             Some(Item::Enter(_)) => open.push(Open::Own)?,
             Some(Item::Exit) => open.truncate(own_index(open.as_slice()).unwrap_or(0)),
-            Some(Item::Token(token)) => {
-                let token = *token;
-                pair_token(&mut open, items, index, token)?;
-            }
+            Some(Item::Token(_)) => pair_token(&mut open, items, index)?,
             _ => {}
         }
     }
@@ -39,12 +36,10 @@ fn own_index(open: &[Open]) -> Option<usize> {
 }
 
 /// Opens a start tag, or pairs an end tag.
-fn pair_token(
-    open: &mut Vec<Open>,
-    items: &mut Items,
-    index: usize,
-    token: Token,
-) -> Result<(), AllocError> {
+fn pair_token(open: &mut Vec<Open>, items: &mut Items, index: usize) -> Result<(), AllocError> {
+    let Some(token) = items.token(index) else {
+        return Ok(());
+    };
     match token.part {
         Part::Start => {
             let first = open.len().saturating_sub(MOST);

@@ -3,6 +3,7 @@
 use crate::content::Content;
 use crate::items::{Implied, Item, Items, Part, Token};
 use crate::own::Own;
+use md_blocks::DocumentHtml;
 use md_clean::Kind;
 use std::alloc::{AllocError, Global};
 
@@ -27,12 +28,18 @@ enum LevelKind {
     Body,
 }
 
-/// Keeps the elements that may stand where they are, with what is in them.
-pub(crate) fn place(alloc: Global, items: &mut Items) -> Result<(), AllocError> {
+/// Keeps the elements that may stand where they are, with what is in them. `others` is what is done
+/// with HTML that isn't kept.
+pub(crate) fn place(
+    alloc: Global,
+    items: &mut Items,
+    others: DocumentHtml,
+) -> Result<(), AllocError> {
     for _ in 0..MOST_ROUNDS {
         let mut places = Places {
             levels: Vec::new(alloc),
             is_changed: false,
+            others,
         };
         for index in 0..items.list.len() {
             if let Some(item) = items.list.get(index) {
@@ -53,6 +60,8 @@ struct Places {
     levels: Vec<Level>,
     /// Whether an element isn't kept that was when what is in it was read.
     is_changed: bool,
+    /// What is done with HTML that isn't kept.
+    others: DocumentHtml,
 }
 
 impl Places {
@@ -72,26 +81,38 @@ impl Places {
                 Ok(())
             }
             Item::Html => Ok(()),
-            Item::Token(token) => {
-                let token = Token {
-                    implied: Implied::Nothing,
-                    ..token
-                };
-                items.set(index, token);
-                self.read_token(items, index, token)
-            }
+            Item::Token(_) => self.read_token(items, index),
         }
     }
 
     /// Enters a node of the document.
     fn enter(&mut self, items: &mut Items, own: Own) -> Result<(), AllocError> {
         self.make_room(items, Some(own));
+        if own == Own::Link && self.content() == Content::Linked {
+            self.give_up_link(items);
+        }
         let content = self.content().in_own(own);
         self.levels.push(Level {
             content,
             kind: LevelKind::Own,
         })?;
         Ok(())
+    }
+
+    /// Doesn't keep the link around a span of the document with a link in it.
+    fn give_up_link(&mut self, items: &mut Items) {
+        let mut link = None;
+        for level in self.levels.iter().rev() {
+            if let LevelKind::Tag(start) = level.kind {
+                if link.is_none() && is_link(items, start) {
+                    link = Some(start);
+                }
+            }
+        }
+        if let Some(start) = link {
+            items.keep(start, false);
+            self.is_changed = true;
+        }
     }
 
     /// Exits a node of the document.
@@ -121,12 +142,15 @@ impl Places {
         }
     }
 
-    fn read_token(
-        &mut self,
-        items: &mut Items,
-        index: usize,
-        token: Token,
-    ) -> Result<(), AllocError> {
+    fn read_token(&mut self, items: &mut Items, index: usize) -> Result<(), AllocError> {
+        let Some(token) = items.token(index) else {
+            return Ok(());
+        };
+        let token = Token {
+            implied: Implied::Nothing,
+            ..token
+        };
+        items.set(index, token);
         match token.part {
             Part::Start if token.is_kept => self.start(items, index, token),
             Part::End if token.is_kept => {
@@ -136,13 +160,27 @@ impl Places {
             Part::Void => {
                 let is_kept = self.content().has_void(token.tag.kind);
                 items.set(index, Token { is_kept, ..token });
+                if !is_kept {
+                    self.read_text(items, token);
+                }
                 Ok(())
             }
-            Part::Text if !is_white(items.text(&token)) => {
-                self.make_room(items, None);
+            _ => {
+                self.read_text(items, token);
                 Ok(())
             }
-            _ => Ok(()),
+        }
+    }
+
+    /// Reads what is printed as text, if it is, unless it is white space.
+    fn read_text(&mut self, items: &mut Items, token: Token) {
+        let is_printed = match token.part {
+            Part::Text => !is_white(items.text(&token)),
+            Part::Comment => self.others == DocumentHtml::Text,
+            _ => self.others != DocumentHtml::LeftOut,
+        };
+        if is_printed {
+            self.make_room(items, None);
         }
     }
 
@@ -165,7 +203,10 @@ impl Places {
                 content,
                 kind: LevelKind::Tag(index),
             })?,
-            None => items.keep(index, false),
+            None => {
+                items.keep(index, false);
+                self.read_text(items, token);
+            }
         }
         Ok(())
     }
@@ -194,6 +235,14 @@ impl Places {
                 },
             );
         }
+    }
+}
+
+/// Whether an item is a tag of a link.
+fn is_link(items: &Items, index: usize) -> bool {
+    match items.token(index) {
+        Some(token) => token.tag.kind == Kind::Link,
+        None => false,
     }
 }
 

@@ -1,7 +1,7 @@
 //! Reads the HTML of a document.
 
 use crate::items::{Implied, Item, Items, Part, Token};
-use crate::own::own_of;
+use crate::own::{Own, own_of};
 use md_base::{Event, Kind as EventKind, Name};
 use md_clean::{Kind, Tag, raw_length, split_token, tag_named};
 use std::alloc::{AllocError, Global};
@@ -11,12 +11,15 @@ pub(crate) fn read_items(alloc: Global, events: &[Event], text: &str) -> Result<
     let mut items = Items {
         html: String::new(alloc),
         list: Vec::new(alloc),
+        tokens: Vec::new(alloc),
     };
     let mut reader = Reader {
         text,
         start: 0,
         from: 0,
         is_html: false,
+        open: Vec::new(alloc),
+        after_html: 0,
     };
     for event in events {
         reader.read(&mut items, event)?;
@@ -25,6 +28,7 @@ pub(crate) fn read_items(alloc: Global, events: &[Event], text: &str) -> Result<
 }
 
 /// Whether a name is of a node of HTML.
+#[inline(always)]
 pub(crate) fn is_html(name: Name) -> bool {
     matches!(name, Name::HtmlFlow | Name::HtmlText)
 }
@@ -39,6 +43,10 @@ struct Reader<'a> {
     from: usize,
     /// Whether a node of HTML is open.
     is_html: bool,
+    /// The items that begin the open nodes of the document.
+    open: Vec<usize>,
+    /// The number of items up to the last node of HTML.
+    after_html: usize,
 }
 
 impl Reader<'_> {
@@ -48,6 +56,7 @@ impl Reader<'_> {
                 self.is_html = true;
                 self.from = items.html.len();
                 items.list.push(Item::Html)?;
+                self.after_html = items.list.len();
                 Ok(())
             }
             (EventKind::Exit, true) => {
@@ -55,8 +64,32 @@ impl Reader<'_> {
                 push_tokens(items, self.from)
             }
             _ if self.is_html => self.read_leaf(items, event),
-            _ => push_own(items, event),
+            _ => match own_of(event.name) {
+                Some(own) => self.read_own(items, event.kind, own),
+                None => Ok(()),
+            },
         }
+    }
+
+    /// Reads an event of a node of the document that matters to tags.
+    fn read_own(&mut self, items: &mut Items, kind: EventKind, own: Own) -> Result<(), AllocError> {
+        if kind == EventKind::Enter {
+            self.open.push(items.list.len())?;
+            items.list.push(Item::Enter(own))?;
+            return Ok(());
+        }
+        let start = self.open.pop().unwrap_or(0);
+        if start >= self.after_html {
+            // Without HTML in it, only a link in it matters; and it doesn't after its like.
+            let own = as_one(own, items.list.as_slice(), start);
+            items.list.truncate(start);
+            if is_after_its_like(items.list.as_slice(), own) {
+                return Ok(());
+            }
+            items.list.push(Item::Enter(own))?;
+        }
+        items.list.push(Item::Exit)?;
+        Ok(())
     }
 
     /// Reads an event of a text or a line ending in a node of HTML.
@@ -74,39 +107,49 @@ impl Reader<'_> {
     }
 }
 
-/// Appends a node of the document, if it matters to tags.
-fn push_own(items: &mut Items, event: &Event) -> Result<(), AllocError> {
-    let Some(own) = own_of(event.name) else {
-        return Ok(());
-    };
-    items.list.push(match event.kind {
-        EventKind::Enter => Item::Enter(own),
-        EventKind::Exit => Item::Exit,
-    })?;
-    Ok(())
+/// What a node that begins with an item is to the tags around it, with what is in it: a span with a
+/// link is a link.
+fn as_one(own: Own, list: &[Item], start: usize) -> Own {
+    let inside = list.get(start..).unwrap_or(&[]);
+    let has_link = inside
+        .iter()
+        .any(|item| matches!(item, Item::Enter(Own::Link)));
+    if own == Own::Span && has_link {
+        Own::Link
+    } else {
+        own
+    }
+}
+
+/// Whether a node of this kind, with nothing in it, is last.
+fn is_after_its_like(list: &[Item], own: Own) -> bool {
+    match (list.get(list.len().wrapping_sub(2)), list.last()) {
+        (Some(Item::Enter(other)), Some(Item::Exit)) => *other == own,
+        _ => false,
+    }
 }
 
 /// Appends the tokens of the HTML from an index on.
 fn push_tokens(items: &mut Items, from: usize) -> Result<(), AllocError> {
-    let Items { html, list } = items;
-    let end = html.len();
-    let mut rest = html.get(from..).unwrap_or("");
+    let end = items.html.len();
+    let mut at = from;
     for _ in from..end {
+        let rest = items.html.get(at..).unwrap_or("");
         let Some((token, after)) = split_token(rest) else {
             break;
         };
         let raw = raw_text_length(&token, after);
-        let start = end.saturating_sub(rest.len());
-        let found = token_of(&token, start, end.saturating_sub(after.len()));
-        list.push(Item::Token(found))?;
-        rest = after.get(raw..).unwrap_or("");
+        let past = end.saturating_sub(after.len());
+        let found = token_of(&token, at, past);
+        at = past.saturating_add(raw);
+        items.push(found)?;
         if raw > 0 {
-            list.push(Item::Token(Token {
+            items.push(Token {
                 part: Part::Other,
-                start: found.end,
-                end: end.saturating_sub(rest.len()),
+                start: past,
+                end: at,
                 ..found
-            }))?;
+            })?;
         }
     }
     Ok(())

@@ -38,15 +38,14 @@ impl Writing {
         let mut at = 0;
         let mut is_inside = false;
         for event in events {
-            let is_node = is_html(event.name);
-            if !is_inside || is_node {
+            if is_html(event.name) {
                 self.events.push(*event)?;
-            }
-            if is_node {
                 is_inside = event.kind == EventKind::Enter;
                 if is_inside {
                     at = self.write_node(event, items, at)?;
                 }
+            } else if !is_inside {
+                self.events.push(*event)?;
             }
         }
         Ok(())
@@ -64,11 +63,13 @@ impl Writing {
         };
         let mut count = first;
         for item in tokens {
-            let Item::Token(token) = item else {
+            let Item::Token(index) = item else {
                 break;
             };
             count = count.saturating_add(1);
-            self.write_token(name, items, token)?;
+            if let Some(token) = items.tokens.get(*index) {
+                self.write_token(name, items, token)?;
+            }
         }
         Ok(at.saturating_add(count))
     }

@@ -1,2 +1,6 @@
 -- Lemmas for the scanners.
 pub mod Escapes
+pub mod Reading
+pub mod Spaces
+pub mod Parts
+pub mod TagLemmas

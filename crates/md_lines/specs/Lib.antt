@@ -2,4 +2,7 @@
 pub mod Lines
 pub mod Classes
 pub mod Escapes
+pub mod Texts
+pub mod LinkParts
 pub mod Reading
+pub mod Tags

@@ -1,8 +1,8 @@
 //! A place in the lines of a leaf, and a cursor that moves from it.
 
 ghost use Rattle.std.specs.Prelude.{◌≡◌, ◌≤◌, ◌<◌, length, min, suc, nat_lt};
-ghost use Rattle.std.specs.Prelude.{IsTrue, IfNone, IfSome, Some, None, false, slice_get};
-ghost use Rattle.std.specs.Prelude.{◌+◌, drop};
+ghost use Rattle.std.specs.Prelude.{IsTrue, IfNone, IfSome, Some, None, true, false, slice_get};
+ghost use Rattle.std.specs.Prelude.{◌+◌, drop, map, [], List, ℕ};
 ghost use Rattle.std.specs.List.{prefix_len};
 ghost use Rattle.md_lines.specs.Classes.{is_in};
 
@@ -32,11 +32,21 @@ pub struct Cursor<'a> {
 }
 
 impl<'a> Cursor<'a> {
-    ghost use Rattle.md_lines.specs.Reading.{left, is_next};
+    ghost use Rattle.md_lines.specs.Reading.{left, is_next, line_text, lines_after, text_from};
+    ghost use Rattle.md_lines.specs.Reading.{ReadSame};
+    ghost use Rattle.md_lines.specs.Escapes.{in_line};
+    ghost use Rattle.md_lines.specs.Texts.{after_next, after_spaces, begins_with};
+    ghost use Rattle.md_lines.specs.Texts.{begins_with_space, is_none, next_in};
 
     /// A cursor at a place in the lines.
     #[inline]
-    pub fn new(bytes: &'a [u8], lines: &'a [Line], place: Place) -> Self {
+    pub fn new(bytes: &'a [u8], lines: &'a [Line], place: Place) -> Self
+        ensures document { result.bytes.now ≡ bytes.now }
+        ensures lines { result.lines.now ≡ lines.now }
+        ensures line { result.line ≡ min place.line (length lines.now) }
+        ensures text { IfSome (slice_get lines.now place.line) (λ line. place.at ≡ line.start
+            → text_from result ≡ map (line_text bytes.now) (drop place.line lines.now)) }
+    {
         let line = place.line.min(lines.len());
         Cursor {
             bytes,
@@ -49,7 +59,10 @@ impl<'a> Cursor<'a> {
 
     /// The current place.
     #[inline(always)]
-    pub fn place(&self) -> Place {
+    pub fn place(&self) -> Place
+        ensures line { result.line ≡ self.now.line }
+        ensures at { result.at ≡ self.now.at }
+    {
         Place {
             line: self.line,
             at: self.at,
@@ -65,6 +78,7 @@ impl<'a> Cursor<'a> {
             → suc self.now.line < length self.now.lines.now → result ≡ Some 10 }
         ensures after { self.now.end ≤ self.now.at
             → length self.now.lines.now ≤ suc self.now.line → result ≡ None }
+        ensures next { result ≡ next_in (text_from self.now) }
     {
         if self.at < self.end {
             Some(self.bytes[self.at])
@@ -75,9 +89,43 @@ impl<'a> Cursor<'a> {
         }
     }
 
+    /// What is left of the text of the current line.
+    #[inline(always)]
+    pub fn rest_of_line(&self) -> &'a [u8]
+        ensures { result.now ≡ in_line self.now }
+    {
+        self.bytes[..self.end].get(self.at..).unwrap_or(b"")
+    }
+
+    /// Whether a byte comes next in the line.
+    #[inline(always)]
+    pub fn is_next(&self, byte: u8) -> bool
+        ensures { result ≡ begins_with byte (text_from self.now) }
+    {
+        self.at < self.end && self.bytes[self.at] == byte
+    }
+
+    /// The index of the line after the current one.
+    #[inline(always)]
+    pub fn next_index(&self) -> usize
+        ensures { result ≡ suc self.now.line }
+    {
+        self.line + 1
+    }
+
+    /// How many lines follow the current one.
+    #[inline(always)]
+    pub fn lines_left(&self) -> usize
+        ensures { result ≡ length (lines_after self.now) }
+    {
+        self.lines.len() - self.line.saturating_add(1).min(self.lines.len())
+    }
+
     /// Whether the text of the current line has ended.
     #[inline(always)]
-    pub fn is_at_line_end(&self) -> bool {
+    pub fn is_at_line_end(&self) -> bool
+        ensures { result ≡ is_none (in_line self.now) }
+    {
         self.at >= self.end
     }
 
@@ -92,6 +140,8 @@ impl<'a> Cursor<'a> {
         ensures next_line { self.old.end ≤ self.old.at
             → suc self.old.line < length self.old.lines.now
             → self.new.line ≡ suc self.old.line }
+        ensures text { text_from self.new ≡ after_next (text_from self.old) }
+        ensures same { ReadSame self.old self.new }
     {
         if self.at < self.end {
             self.at += 1;
@@ -110,6 +160,9 @@ impl<'a> Cursor<'a> {
         ensures line { self.new.line ≡ self.old.line }
         ensures end { self.new.end ≡ self.old.end }
         ensures stays { result ≡ false → self.new ≡ self.old }
+        ensures is_there { result ≡ begins_with byte (text_from self.old) }
+        ensures text { result ≡ true → text_from self.new ≡ after_next (text_from self.old) }
+        ensures same_text { ReadSame self.old self.new }
     {
         if self.at < self.end && self.bytes[self.at] == byte {
             self.at += 1;
@@ -130,6 +183,11 @@ impl<'a> Cursor<'a> {
         ensures any { result ≡ nat_lt self.old.at self.new.at }
         ensures line { self.new.line ≡ self.old.line }
         ensures end { self.new.end ≡ self.old.end }
+        ensures text { in_line self.new
+            ≡ drop (prefix_len (is_in class) (in_line self.old)) (in_line self.old) }
+        ensures is_any { result ≡ nat_lt 0 (prefix_len (is_in class) (in_line self.old)) }
+        ensures later { lines_after self.new ≡ lines_after self.old }
+        ensures same { ReadSame self.old self.new }
     {
         let mut at = self.at;
         while at < self.end && is(self.bytes[at], class) {
@@ -142,7 +200,10 @@ impl<'a> Cursor<'a> {
 
     /// Skips spaces, tabs and line ends; returns whether there was one.
     pub fn skip_spaces(&mut self) -> bool
-        ensures { left self.new ≤ left self.old }
+        ensures never_back { left self.new ≤ left self.old }
+        ensures any { result ≡ begins_with_space (text_from self.old) }
+        ensures text { text_from self.new ≡ after_spaces (text_from self.old) }
+        ensures same { ReadSame self.old self.new }
     {
         let mut has_any = self.skip(Class::Space);
         'lines: while self.at >= self.end && self.next_line() {
@@ -154,7 +215,7 @@ impl<'a> Cursor<'a> {
 
     /// Moves to the beginning of the next line; returns whether there is one.
     #[inline]
-    pub(crate) fn next_line(&mut self) -> bool
+    pub fn next_line(&mut self) -> bool
         ensures never_back { left self.new ≤ left self.old }
         ensures goes_on { IsTrue result → left self.new < left self.old }
         ensures there { result ≡ nat_lt (suc self.old.line) (length self.old.lines.now) }
@@ -164,6 +225,9 @@ impl<'a> Cursor<'a> {
             (λ next. self.new.at ≡ next.start) }
         ensures end { IsTrue result → IfSome (slice_get self.old.lines.now self.new.line)
             (λ next. self.new.end ≡ min next.end (length self.old.bytes.now)) }
+        ensures text { result ≡ true → text_from self.new ≡ lines_after self.old }
+        ensures last { result ≡ false → lines_after self.old ≡ [] }
+        ensures same { ReadSame self.old self.new }
     {
         let Some(next) = self.lines.get(self.line + 1) else {
             return false;

@@ -3,9 +3,16 @@
 ghost use Rattle.std.specs.Prelude.{◌≡◌, ◌≤◌, ◌<◌, length, min};
 ghost use Rattle.std.specs.List.{prefix_len};
 ghost use Rattle.std.specs.Prelude.{drop, suc, ◌+◌, ◌-◌, option_map, IfSome};
-ghost use Rattle.md_lines.specs.Lines.{goes_on_in_label};
 ghost use Rattle.md_lines.specs.Escapes.{before_unescaped, in_line, is_angle};
 ghost use Rattle.md_lines.specs.Escapes.{pointed_length, stops_title, width};
+ghost use Rattle.md_lines.specs.LinkParts.{bare_end, closing_mark, destination_at, destination_of};
+ghost use Rattle.md_lines.specs.LinkParts.{ends_destination, is_bracket, label_at, opened_after};
+ghost use Rattle.md_lines.specs.LinkParts.{title_after, title_at};
+ghost use Rattle.md_lines.specs.Reading.{lines_after, text_from, text_in, ReadSame};
+ghost use Rattle.md_lines.specs.Texts.{after_next, text_before};
+ghost use Rattle.std.specs.Prelude.{IfNone, is_some, Some, None, true, false, take, [], not, ◌&&◌, ◌==◌};
+ghost use Rattle.std.specs.List.{list_all};
+ghost use Rattle.md_lines.specs.Lines.{goes_on_in_label, is_blank};
 
 use crate::class::{Class, is};
 use crate::cursor::Cursor;
@@ -32,45 +39,63 @@ pub struct Title {
 /// Reads a link's label, from after its `[` to its `]`; returns whether it is valid. A label has a
 /// character other than spaces, tabs and line endings, at most 999 bytes, and no bracket without a
 /// backslash before it.
-pub fn read_label(cursor: &mut Cursor<'_>) -> bool {
+pub fn read_label(cursor: &mut Cursor<'_>) -> bool
+    ensures valid { result ≡ is_some (label_at (text_from cursor.old)) }
+    ensures found { result ≡ true → label_at (text_from cursor.old) ≡ Some (record {
+      text = text_before (text_from cursor.old) (text_from cursor.new);
+      rest = after_next (text_from cursor.new);
+    }) }
+    ensures same { ReadSame cursor.old cursor.new }
+{
     let mut is_blank = true;
     let mut count = 0;
     while count <= MOST_IN_LABEL {
-        let from = cursor.at;
-        let most = MOST_IN_LABEL + 1 - count;
-        let text = cursor.bytes[..cursor.end].get(from..).unwrap_or(b"");
-        let length = label_length(text, most);
-        cursor.at = from.saturating_add(length);
-        is_blank = is_blank && trim_start(cursor.bytes, from, cursor.at) == cursor.at;
+        let text = cursor.rest_of_line();
+        let length = label_length(text, MOST_IN_LABEL + 1 - count);
+        is_blank &= is_blank_before(text, length);
         count += length;
-        match cursor.peek() {
-            Some(b']') => return !is_blank && count <= MOST_IN_LABEL,
-            Some(b'[') | None => return false,
-            Some(b'\\') => {
-                is_blank = false;
-                count += usize::from(skip_escape(cursor));
-            }
-            // The end of the line, or more bytes than a label may have.
-            _ => cursor.advance(),
+        if count > MOST_IN_LABEL {
+            return false;
+        }
+        if length < text.len() {
+            cursor.at += length;
+            let close = b']';
+            return text[length] == close && !is_blank;
+        }
+        if !cursor.next_line() {
+            return false;
         }
         count += 1;
     }
     false
 }
 
-/// The number of bytes, at most `most`, before the next bracket or backslash of a text.
+/// The number of bytes before the first bracket of a text that isn't escaped. If there are `most`
+/// or more, it is that many or one more.
 #[inline(always)]
 fn label_length(text: &[u8], most: usize) -> usize
-    ensures { result ≡ min most (prefix_len goes_on_in_label text.now) }
+    requires { most ≤ 1000 }
+    ensures within { result ≤ length text.now }
+    ensures none_passed { result ≤ before_unescaped is_bracket text.now }
+    ensures short { result ≤ suc most }
+    ensures first { result < most → result ≡ before_unescaped is_bracket text.now }
 {
     let mut length = 0;
-    while length < most && length < text.len() && goes_on_in_label(text[length]) {
-        length += 1;
+    while length < most && length < text.len() {
+        let byte = text[length];
+        if goes_on_in_label(byte) {
+            length += 1;
+            continue;
+        }
+        if is_bracket(byte) {
+            return length;
+        }
+        length = after_byte(text, length);
     }
     length
 }
 
-/// Whether a byte is none of `[`, `\` and `]`, which are neighbours.
+/// Whether a byte is no square bracket and no backslash, which is between them.
 #[inline(always)]
 fn goes_on_in_label(byte: u8) -> bool
     ensures { result ≡ goes_on_in_label byte }
@@ -78,21 +103,33 @@ fn goes_on_in_label(byte: u8) -> bool
     !matches!(byte, b'['..=b']')
 }
 
-/// Skips a backslash and the punctuation mark that it escapes; returns whether there was one.
-fn skip_escape(cursor: &mut Cursor<'_>) -> bool {
-    cursor.advance();
-    match cursor.peek() {
-        Some(byte) if is(byte, Class::Punctuation) => {
-            cursor.advance();
-            true
-        }
-        _ => false,
-    }
+/// Whether a byte is a square bracket.
+#[inline(always)]
+fn is_bracket(byte: u8) -> bool
+    ensures { result ≡ is_bracket byte }
+{
+    byte == b'[' || byte == b']'
+}
+
+/// Whether the first `count` bytes of a text are spaces and tabs.
+fn is_blank_before(text: &[u8], count: usize) -> bool
+    requires { count ≤ length text.now }
+    ensures { result ≡ list_all is_blank (take count text.now) }
+{
+    trim_start(text, 0, count) == count
 }
 
 /// Reads a link's destination, which ends in its line; returns its text without angle brackets, as
 /// byte indices.
-pub fn read_destination(cursor: &mut Cursor<'_>) -> Option<Span> {
+pub fn read_destination(cursor: &mut Cursor<'_>) -> Option<Span>
+    ensures found { IfSome result (λ span. destination_at (in_line cursor.old)
+        ≡ Some (record { text = text_in span cursor.old; rest = in_line cursor.new })) }
+    ensures none { IfNone result (destination_at (in_line cursor.old) ≡ None) }
+    ensures long { IfSome result (λ span.
+        length (text_in span cursor.old) ≡ span.end - span.start) }
+    ensures later { lines_after cursor.new ≡ lines_after cursor.old }
+    ensures same { ReadSame cursor.old cursor.new }
+{
     if cursor.take(b'<') {
         pointed_destination(cursor)
     } else {
@@ -108,11 +145,22 @@ fn pointed_destination(cursor: &mut Cursor<'_>) -> Option<Span>
     ensures passed { IfSome result (λ span. cursor.new.at ≡ suc span.end) }
     ensures line { cursor.new.line ≡ cursor.old.line }
     ensures line_end { cursor.new.end ≡ cursor.old.end }
+    ensures found { IfSome result (λ span.
+        destination_of 1 (pointed_length (in_line cursor.old)) (in_line cursor.old)
+        ≡ Some (record { text = text_in span cursor.old; rest = in_line cursor.new })) }
+    ensures none { IfNone result (pointed_length (in_line cursor.old) ≡ None) }
+    ensures long { IfSome result (λ span.
+        length (text_in span cursor.old) ≡ span.end - span.start) }
+    ensures same { ReadSame cursor.old cursor.new }
 {
     let from = cursor.at;
-    let text = cursor.bytes[..cursor.end].get(from..).unwrap_or(b"");
+    let text = cursor.rest_of_line();
     let length = pointed_length(text);
-    if text.get(length) != Some(&b'>') {
+    if length >= text.len() {
+        return None;
+    }
+    let close = b'>';
+    if text[length] != close {
         return None;
     }
     cursor.at = from + length + 1;
@@ -138,38 +186,88 @@ fn is_angle(byte: u8) -> bool
     byte == b'<' || byte == b'>'
 }
 
-/// Reads a destination without angle brackets, which may be empty: its parentheses are paired, and
-/// it has no space and no control character except NUL, which is printed as U+FFFD.
-fn bare_destination(cursor: &mut Cursor<'_>) -> Option<Span> {
-    let (bytes, end) = (cursor.bytes, cursor.end);
+/// Reads a destination without angle brackets, which may be empty.
+fn bare_destination(cursor: &mut Cursor<'_>) -> Option<Span>
+    ensures found { IfSome result (λ span.
+        destination_of 0 (bare_end 0 0 false (in_line cursor.old)) (in_line cursor.old)
+        ≡ Some (record { text = text_in span cursor.old; rest = in_line cursor.new })) }
+    ensures none { IfNone result (bare_end 0 0 false (in_line cursor.old) ≡ None) }
+    ensures long { IfSome result (λ span.
+        length (text_in span cursor.old) ≡ span.end - span.start) }
+    ensures line { cursor.new.line ≡ cursor.old.line }
+    ensures same { ReadSame cursor.old cursor.new }
+{
     let from = cursor.at;
+    let Some(at) = bare_end(cursor.bytes, from, cursor.end) else {
+        return None;
+    };
+    cursor.at = at;
+    Some(Span::new(from, at))
+}
+
+/// The end of a destination without angle brackets that begins at `from`, in a line up to `end`:
+/// its parentheses are paired, and it has no space and no control character except NUL, which is
+/// printed as U+FFFD.
+fn bare_end(bytes: &[u8], from: usize, end: usize) -> Option<usize>
+    requires { end ≤ length bytes.now }
+    ensures value { result ≡ bare_end from 0 false (drop from (take end bytes.now)) }
+    ensures after { IfSome result (λ at. from ≤ at) }
+    ensures within { IfSome result (λ at. from < at → at ≤ end) }
+{
     let mut at = from;
-    let mut depth = 0;
+    let mut opened = 0;
     while at < end {
         at = find(InDestination, bytes, at, end);
         if at >= end {
-            at = end;
-            break;
+            return if_paired(opened, end);
         }
-        match bytes[at] {
-            b'(' if depth == MOST_NESTED => return None,
-            b'(' => depth += 1,
-            b')' if depth == 0 => break,
-            b')' => depth -= 1,
-            b'\\' => {
-                at = after_byte(&bytes[..end], at);
-                continue;
-            }
-            0 => {}
-            _ => break,
+        let byte = bytes[at];
+        if byte == b'\\' {
+            at = after_byte(&bytes[..end], at);
+            continue;
+        }
+        if ends_destination(byte, opened) {
+            return if_paired(opened, at);
+        }
+        opened = opened_after(byte, opened);
+        if opened > MOST_NESTED {
+            return None;
         }
         at += 1;
     }
-    cursor.at = at;
-    if depth == 0 {
-        Some(Span::new(from, at))
-    } else {
-        None
+    if_paired(opened, at)
+}
+
+/// The end of a destination, if no parenthesis is open there.
+#[inline(always)]
+fn if_paired(opened: usize, end: usize) -> Option<usize>
+    ensures { result ≡ bare_end end opened false [] }
+{
+    if opened == 0 { Some(end) } else { None }
+}
+
+/// How many parentheses are open after a byte.
+#[inline(always)]
+fn opened_after(byte: u8, opened: usize) -> usize
+    requires { opened ≤ 32 }
+    ensures { result ≡ opened_after byte opened }
+{
+    match byte {
+        b'(' => opened + 1,
+        b')' => opened.saturating_sub(1),
+        _ => opened,
+    }
+}
+
+/// Whether a byte ends a destination without angle brackets in which so many parentheses are open.
+#[inline(always)]
+fn ends_destination(byte: u8, opened: usize) -> bool
+    ensures { result ≡ ends_destination opened byte }
+{
+    match byte {
+        0 => false,
+        b')' => opened == 0,
+        _ => byte <= b' ' || byte == 127,
     }
 }
 
@@ -214,53 +312,60 @@ fn after_byte(text: &[u8], at: usize) -> usize
 }
 
 /// Reads a link's title in quotes or parentheses. It may span lines.
-pub fn read_title(cursor: &mut Cursor<'_>) -> Option<Title> {
-    let open = cursor.peek()?;
-    let close = match open {
-        b'"' | b'\'' => open,
-        b'(' => b')',
-        _ => return None,
+pub fn read_title(cursor: &mut Cursor<'_>) -> Option<Title>
+    ensures rest { IfSome result (λ _. option_map (λ part. part.rest)
+        (title_at (text_from cursor.old)) ≡ Some (text_from cursor.new)) }
+    ensures none { IfNone result (title_at (text_from cursor.old) ≡ None) }
+    ensures same { ReadSame cursor.old cursor.new }
+{
+    if cursor.at >= cursor.end {
+        return None;
+    }
+    let mark = cursor.bytes[cursor.at];
+    let Some(close) = closing_mark(mark) else {
+        return None;
     };
-    cursor.advance();
+    cursor.at += 1;
+    read_title_after(cursor, mark, close)
+}
+
+/// The mark that closes a title, by the one that opens it.
+fn closing_mark(mark: u8) -> Option<u8>
+    ensures { result ≡ closing_mark mark }
+{
+    match mark {
+        b'"' | b'\'' => Some(mark),
+        b'(' => Some(b')'),
+        _ => None,
+    }
+}
+
+/// Reads a title from after its opening mark to after its closing mark.
+fn read_title_after(cursor: &mut Cursor<'_>, mark: u8, close: u8) -> Option<Title>
+    ensures rest { IfSome result (λ _. option_map (λ part. part.rest)
+        (title_after mark close (text_from cursor.old)) ≡ Some (text_from cursor.new)) }
+    ensures none { IfNone result (title_after mark close (text_from cursor.old) ≡ None) }
+    ensures same { ReadSame cursor.old cursor.new }
+{
     let line = cursor.line;
     let from = cursor.at;
     'lines: loop {
-        match title_end(&cursor.bytes[..cursor.end], cursor.at, open, close) {
-            Ending::At(at) => {
-                cursor.at = at;
-                cursor.advance();
-                return Some(Title {
-                    text: Span::new(from, at),
-                    line,
-                });
+        let at = cursor.at;
+        let text = cursor.rest_of_line();
+        let length = title_length(text, mark, close);
+        if length < text.len() {
+            if text[length] != close {
+                return None;
             }
-            Ending::Never => return None,
-            Ending::Later => {}
+            cursor.at = at + length + 1;
+            return Some(Title {
+                text: Span::new(from, at + length),
+                line,
+            });
         }
         if !cursor.next_line() {
             return None;
         }
-    }
-}
-
-/// Where a title ends.
-enum Ending {
-    /// At this byte index, the place of its closing mark.
-    At(usize),
-    /// Not in this line.
-    Later,
-    /// Nowhere: it has a parenthesis that it must not have.
-    Never,
-}
-
-/// The end of a title in a line, searched from an index.
-fn title_end(line: &[u8], from: usize, mark: u8, close: u8) -> Ending {
-    let text = line.get(from..).unwrap_or(b"");
-    let length = title_length(text, mark, close);
-    match text.get(length) {
-        Some(byte) if *byte == close => Ending::At(from + length),
-        Some(_) => Ending::Never,
-        None => Ending::Later,
     }
 }
 

@@ -1,6 +1,6 @@
 //! Ranges of a document's bytes.
 
-ghost use Rattle.std.specs.Prelude.{◌≡◌, ◌≤◌, max};
+ghost use Rattle.std.specs.Prelude.{◌≡◌, ◌≤◌, ◌==◌, max};
 
 /// A range of a document's bytes, from `start` to `end`, both byte indices.
 #[derive(Clone, Copy, PartialEq, Eq, Debug)]
@@ -25,7 +25,9 @@ impl Span {
 
     /// Whether the range is empty.
     #[inline(always)]
-    pub fn is_empty(self) -> bool {
+    pub fn is_empty(self) -> bool
+        ensures { result ≡ (self.start == self.end) }
+    {
         self.start == self.end
     }
 }

@@ -1,3 +1,4 @@
 pub mod MadeLemmas
 pub mod KeepingLemmas
 pub mod PlainLemmas
+mod ContainedLemmas

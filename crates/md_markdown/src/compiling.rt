@@ -71,16 +71,35 @@ pub fn markdown(
     ensures distinct_ids { IfOk result
         (λ html. options.now.number_ids ≡ true → HasDistinctIds html) }
 {
+    let writer = events_of(alloc, text.as_bytes(), options)?;
+    compile_written(alloc, text, &writer, options)
+}
+
+/// The HTML of a document whose events a writer has.
+pub(crate) fn compile_written(
+    alloc: Global,
+    text: &str,
+    writer: &Writer,
+    options: &MarkdownOptions,
+) -> Result<SafeHtml, AllocError>
+    ensures made { IfOk result (IsMadeOf options.now text.now) }
+    ensures tokens { IfOk result IsSafelyTokenized }
+    ensures printed { IfOk result IsPrinted }
+    ensures contained { IfOk result IsContained }
+    ensures tree { IfOk result IsBuiltAsRead }
+    ensures nesting { IfOk result (NestsWithin (2 * most_depth + 5)) }
+    ensures distinct_ids { IfOk result
+        (λ html. options.now.number_ids ≡ true → HasDistinctIds html) }
+{
     let bytes = text.as_bytes();
-    let writer = events_of(alloc, bytes, options)?;
     let compile_options = for_compiler(alloc, options)?;
     if writer.added.is_empty() && !writer.has_ending {
-        return compile_or_plain(alloc, &measured_of(&writer, bytes), text, &compile_options);
+        return compile_or_plain(alloc, &measured_of(writer, bytes), text, &compile_options);
     }
-    let whole = joined(alloc, bytes, resolved(&writer, options), ending(&writer))?;
+    let whole = joined(alloc, bytes, resolved(writer, options), ending(writer))?;
     compile_or_plain(
         alloc,
-        &measured_of(&writer, whole.as_slice()),
+        &measured_of(writer, whole.as_slice()),
         text,
         &compile_options,
     )
@@ -118,26 +137,50 @@ pub fn markdown_within(
     ensures distinct_ids { IfOk result
         (λ html. options.now.number_ids ≡ true → HasDistinctIds html) }
 {
+    let writer = events_of(alloc, text.as_bytes(), options)?;
+    compile_written_within(alloc, text, &writer, options, limits)
+}
+
+/// The HTML of a document whose events a writer has, if it is within limits.
+pub(crate) fn compile_written_within(
+    alloc: Global,
+    text: &str,
+    writer: &Writer,
+    options: &MarkdownOptions,
+    limits: Limits,
+) -> Result<SafeHtml, MarkdownWithinError>
+    ensures within { IfOk result (λ html. length html ≤ limits.text) }
+    ensures made { IfOk result (IsMadeOf options.now text.now) }
+    ensures tokens { IfOk result IsSafelyTokenized }
+    ensures printed { IfOk result IsPrinted }
+    ensures contained { IfOk result IsContained }
+    ensures tree { IfOk result IsBuiltAsRead }
+    ensures nesting { IfOk result (NestsWithin (2 * most_depth + 5)) }
+    ensures distinct_ids { IfOk result
+        (λ html. options.now.number_ids ≡ true → HasDistinctIds html) }
+{
     let bytes = text.as_bytes();
-    let writer = events_of(alloc, bytes, options)?;
     let compile_options = for_compiler(alloc, options)?;
     let within = Within {
         options: &compile_options,
-        limits: Limits {
-            depth: limits.depth.min(MAX_DEPTH),
-            ..limits
-        },
+        limits: bounded(limits),
     };
     if writer.added.is_empty() && !writer.has_ending {
-        return compile_or_plain_within(alloc, &measured_of(&writer, bytes), text, &within);
+        return compile_or_plain_within(alloc, &measured_of(writer, bytes), text, &within);
     }
-    let whole = joined(alloc, bytes, resolved(&writer, options), ending(&writer))?;
-    compile_or_plain_within(
-        alloc,
-        &measured_of(&writer, whole.as_slice()),
-        text,
-        &within,
-    )
+    let whole = joined(alloc, bytes, resolved(writer, options), ending(writer))?;
+    compile_or_plain_within(alloc, &measured_of(writer, whole.as_slice()), text, &within)
+}
+
+/// Limits that let nodes nest no deeper than [`MAX_DEPTH`].
+pub(crate) fn bounded(limits: Limits) -> Limits
+    ensures text { result.text ≡ limits.text }
+    ensures depth { result.depth ≤ most_depth }
+{
+    Limits {
+        depth: limits.depth.min(MAX_DEPTH),
+        ..limits
+    }
 }
 
 /// The events of a writer, over bytes.

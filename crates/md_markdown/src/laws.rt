@@ -2,6 +2,8 @@
 
 ghost use Rattle.std.specs.Prelude.{◌≡◌, ℕ, List, true};
 ghost use Rattle.md_safe.specs.Apart.{ShareNoId};
+ghost use Rattle.md_safe.specs.Built.{IsBuiltAsRead};
+ghost use Rattle.md_safe.specs.Contents.{IsContained};
 ghost use Rattle.md_blocks.specs.declared.options.MarkdownOptions.{MarkdownOptions};
 ghost use Rattle.md_markdown.specs.Chosen.{footnote_prefix_of};
 ghost use Rattle.md_markdown.specs.Made.{IsMadeOf};
@@ -16,4 +18,9 @@ pub fn ids_of_two_documents_are_apart()
         → markdown.number_ids ≡ true → other_markdown.number_ids ≡ true
         → (footnote_prefix_of markdown ≡ footnote_prefix_of other_markdown → ⊥)
         → ShareNoId text other_text }
+{}
+
+/// In a text that is built as it is read each element stands where it may.
+pub fn built_text_is_contained()
+    ensures { (text : List ℕ) → IsBuiltAsRead text → IsContained text }
 {}

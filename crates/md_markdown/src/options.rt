@@ -2,6 +2,7 @@
 
 ghost use Rattle.std.specs.Prelude.{◌≡◌, IfOk, option_map, string_bytes};
 ghost use Rattle.md_markdown.specs.Chosen.{AreChosenFor};
+ghost use Rattle.md_markdown.specs.Keeping.{ArePiecesAllowed};
 
 use md_blocks::{DocumentHtml, MarkdownOptions};
 use md_text::{CompileOptions, LineEnding};
@@ -30,6 +31,19 @@ pub(crate) fn for_compiler(
         gfm_footnote_label: label,
         gfm_footnote_label_attributes: None,
         gfm_footnote_label_tag_name: None,
+    })
+}
+
+/// The options of the compiler for a document whose HTML is pieces that its authors may write.
+pub(crate) fn for_kept(
+    alloc: Global,
+    options: &MarkdownOptions,
+) -> Result<CompileOptions, AllocError>
+    ensures { IfOk result (ArePiecesAllowed options.now) }
+{
+    Ok(CompileOptions {
+        allow_dangerous_html: true,
+        ..for_compiler(alloc, options)?
     })
 }
 

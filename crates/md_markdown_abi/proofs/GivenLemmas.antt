@@ -1,6 +1,6 @@
 -- From the promises about a text, and the reason why there is none, to C's answer.
 use Rattle.std.proofs.Common.{◌+◌, ◌*◌, ◌≡◌, ℕ, ◌≤◌, Bool, true, List, Option, Some, Result, Ok}
-use Rattle.std.proofs.Common.{Err}
+use Rattle.std.proofs.Common.{Err, ◌⊎◌, inl, inr}
 use Rattle.std.proofs.Common.{take, [], ◌∷◌, ◌++◌, IfErr, is_some, refl, sym, ap, ◌∙◌}
 use Rattle.std.proofs.Common.{subst}
 use Rattle.std.specs.Prelude.{None, IsErrAnd, option_map, slice_get}
@@ -23,11 +23,12 @@ use Rattle.md_abi.specs.declared.failure.Failure.TheVariants as failure
 use Rattle.md_abi.proofs.AttributedLemmas.{asked_is}
 use Rattle.md_depth.specs.Levels.{NestsWithin}
 use Rattle.md_markdown.specs.Depth.{most_depth}
+use Rattle.md_markdown.specs.Keeping.{IsKeptOf}
 use Rattle.md_markdown.specs.Made.{IsMadeOf}
 use Rattle.md_blocks.specs.declared.options.MarkdownOptions.{MarkdownOptions}
 use Rattle.md_markdown_abi.specs.Numbers.{markdown_version}
-use Rattle.md_markdown_abi.specs.Options.{HasMarkdownOptions, readable_fields}
-use Rattle.md_markdown_abi.specs.Text.{IsPlainOf, IsMarkdownText}
+use Rattle.md_markdown_abi.specs.Options.{HasMarkdownOptions, readable_fields, keeps_html}
+use Rattle.md_markdown_abi.specs.Text.{IsPlainOf, IsMadeFor, IsMarkdownText}
 use Rattle.md_markdown_abi.specs.Failures.{IsOptionFault}
 use Rattle.md_markdown_abi.specs.Failures.{ExplainsMarkdown}
 use Rattle.md_markdown_abi.specs.declared.option.CMarkdownOptions.{CMarkdownOptions}
@@ -44,14 +45,14 @@ is_on value flag is on = cc
 
 pub plain_of : (bytes text : List ℕ) (given : CMarkdownOptions) (options : MarkdownOptions)
     (plain : List ℕ) → text ≡ bytes → HasMarkdownOptions given options →
-    IsMadeOf options text plain → IsSafelyTokenized plain → IsContained plain →
+    IsMadeFor given options text plain → IsSafelyTokenized plain → IsContained plain →
     IsBuiltAsRead plain → NestsWithin (2 * most_depth + 5) plain →
     (options.number_ids ≡ true → HasDistinctIds plain) → IsPlainOf bytes given plain
 plain_of bytes text given options plain same has made safe contained tree nesting distinct =
     record {
       markdown = options;
       encoded = has;
-      made = subst (λ b. IsMadeOf options b plain) same made;
+      made = subst (λ b. IsMadeFor given options b plain) same made;
       safe = safe;
       contained = contained;
       tree = tree;
@@ -60,6 +61,13 @@ plain_of bytes text given options plain same has made safe contained tree nestin
           distinct (is_on (flag_of given.number_ids) options.number_ids has.number_ids
           (ap flag_of one));
     }
+
+-- where HTML is kept, a text of either kind is one that is made for the options
+pub kept_for : (text : List ℕ) (given : CMarkdownOptions) (options : MarkdownOptions)
+    (plain : List ℕ) → keeps_html given.html ≡ true →
+    IsMadeOf options text plain ⊎ IsKeptOf options text plain → IsMadeFor given options text plain
+kept_for text given options plain keeps (inl own) = inl own
+kept_for text given options plain keeps (inr kept) = inr (keeps, kept)
 
 pub made_text : (bytes : List ℕ) (given : CMarkdownOptions) (rel prefix : Option (List ℕ))
     (plain whole : List ℕ) (start : ℕ) → IsPlainOf bytes given plain → text_of given.rel ≡ Some

@@ -1,5 +1,5 @@
 -- The meaning of a failure, and the answer to it. No contract of a function for C cites this.
-use Rattle.std.specs.Prelude.{◌≡◌, ◌≢◌, ℕ, ◌<◌, ◌≤◌, List, length}
+use Rattle.std.specs.Prelude.{◌≡◌, ◌≢◌, ◌⊎◌, ℕ, ◌<◌, ◌≤◌, List, length}
 use Rattle.std.specs.Str.{IsValidUpTo}
 use Rattle.md_abi.specs.Failures.{answer_of}
 use Rattle.md_abi.specs.declared.answer.Answer.{Answer}
@@ -51,6 +51,10 @@ ExplainsMarkdown bytes options (NotUtf8 index) = IsReadable bytes options × IsV
 ExplainsMarkdown bytes options OutputTooLong = IsRead bytes options
 ExplainsMarkdown bytes options TooMuchWork = IsRead bytes options
 ExplainsMarkdown bytes options (Failed cause) = ExplainsFault bytes options cause
+
+-- the text is too long, or memory ran out
+abbrev pub IsOfText : MarkdownFailure → Type 0
+IsOfText why = (why ≡ OutputTooLong) ⊎ (why ≡ Failed failure.Memory)
 
 -- memory ran out, or an invalid option's field is reported
 abbrev pub IsOptionFault : CMarkdownOptions → Failure → Type 0

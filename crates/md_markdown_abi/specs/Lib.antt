@@ -5,3 +5,4 @@ pub mod Answers
 pub mod Text
 pub mod Slugged
 pub mod Front
+pub mod Kept

@@ -1,6 +1,6 @@
 -- The options of Markdown that C's fields encode.
 use Rattle.std.specs.Prelude.{◌≡◌, ℕ, ◌==◌, ◌+◌, ◌-◌, ◌*◌, ◌^◌, min, Bool, false, if◌then◌else◌}
-use Rattle.std.specs.Prelude.{List, [], ◌∷◌, replicate, true}
+use Rattle.std.specs.Prelude.{List, [], ◌∷◌, ◌||◌, replicate, true}
 use Rattle.std.specs.Prelude.{Option, Some, None, is_some, option_map, slice_get, string_bytes}
 use Rattle.md_abi.specs.Options.{flag_of, text_of}
 use Rattle.md_blocks.specs.declared.options.DocumentHtml.{DocumentHtml}
@@ -9,13 +9,20 @@ use Rattle.md_blocks.specs.declared.options.DocumentHtml.TheVariants.{WithoutCom
 use Rattle.md_blocks.specs.declared.options.MarkdownOptions.{MarkdownOptions}
 use Rattle.md_markdown_abi.specs.declared.option.CMarkdownOptions.{CMarkdownOptions}
 
--- 0 as text, 1 not at all, 2 as text without comments
+-- 0 as text, 1 not at all, 2 as text without comments; what isn't kept with 3 not at all, with 4 as
+-- text without comments
 abbrev pub html_of : ℕ → Option DocumentHtml
 html_of number =
     if number == 0 then Some Text
     else if number == 1 then Some LeftOut
     else if number == 2 then Some WithoutComments
+    else if number == 3 then Some LeftOut
+    else if number == 4 then Some WithoutComments
     else None
+
+-- HTML that authors may write is kept
+abbrev pub keeps_html : ℕ → Bool
+keeps_html number = (number == 3) || (number == 4)
 
 -- each option is the one that its field encodes
 pub record HasMarkdownOptions (given : CMarkdownOptions) (options : MarkdownOptions) : Type 0 where

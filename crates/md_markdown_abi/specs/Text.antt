@@ -1,5 +1,5 @@
 -- The promises about a text in terms of C's input of Markdown, and how the input is read.
-use Rattle.std.specs.Prelude.{◌≡◌, ℕ, ◌+◌, ◌*◌, ◌≤◌, List, length, take}
+use Rattle.std.specs.Prelude.{◌≡◌, ◌⊎◌, ℕ, ◌+◌, ◌*◌, ◌≤◌, true, List, length, take}
 use Rattle.std.specs.Str.{IsUtf8}
 use Rattle.md_text.specs.Ids.{HasDistinctIds}
 use Rattle.md_depth.specs.Levels.{NestsWithin}
@@ -13,10 +13,18 @@ use Rattle.md_abi.specs.Attributes.{asked, with_rel}
 use Rattle.md_abi.specs.Attributed.{IsListedAfter}
 use Rattle.md_blocks.specs.declared.options.MarkdownOptions.{MarkdownOptions}
 use Rattle.md_markdown.specs.Depth.{most_depth}
+use Rattle.md_markdown.specs.Keeping.{IsKeptOf}
 use Rattle.md_markdown.specs.Made.{IsMadeOf}
 use Rattle.md_markdown_abi.specs.Numbers.{markdown_version}
-use Rattle.md_markdown_abi.specs.Options.{AreReadable, HasMarkdownOptions}
+use Rattle.md_markdown_abi.specs.Options.{AreReadable, HasMarkdownOptions, keeps_html}
 use Rattle.md_markdown_abi.specs.declared.option.CMarkdownOptions.{CMarkdownOptions}
+
+-- the text is that of a document; or if HTML is kept, that of a document with pieces that authors
+-- may write
+abbrev pub IsMadeFor : CMarkdownOptions → MarkdownOptions → List ℕ → List ℕ → Type 0
+IsMadeFor options markdown bytes plain =
+    IsMadeOf markdown bytes plain
+    ⊎ ((keeps_html options.html ≡ true) × IsKeptOf markdown bytes plain)
 
 -- a text is that of the document under the options that the fields encode, and safe: it is
 -- tokenized as it is read, the content model allows each element at its place, tree construction
@@ -26,7 +34,7 @@ pub record IsPlainOf (bytes : List ℕ) (options : CMarkdownOptions) (plain : Li
     : Type 0 where
   pub markdown : MarkdownOptions
   pub encoded : HasMarkdownOptions options markdown
-  pub made : IsMadeOf markdown bytes plain
+  pub made : IsMadeFor options markdown bytes plain
   pub safe : IsSafelyTokenized plain
   pub contained : IsContained plain
   pub tree : IsBuiltAsRead plain

@@ -6,6 +6,7 @@ mod document;
 mod failure;
 mod front;
 mod given;
+mod kept;
 mod option;
 mod slugged;
 

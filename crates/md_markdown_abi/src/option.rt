@@ -3,8 +3,8 @@
 ghost use Rattle.std.specs.Prelude.{◌≡◌, ◌≢◌, Some, OnOk, IfOk, IfErr};
 ghost use Rattle.md_abi.specs.Failures.{IsFaultOf};
 ghost use Rattle.md_markdown_abi.specs.Numbers.{markdown_version};
-ghost use Rattle.md_markdown_abi.specs.Options.{HasMarkdownOptions, html_of, most_work};
-ghost use Rattle.md_markdown_abi.specs.Options.{work_by_length, most_nesting};
+ghost use Rattle.md_markdown_abi.specs.Options.{HasMarkdownOptions, html_of, keeps_html};
+ghost use Rattle.md_markdown_abi.specs.Options.{work_by_length, most_work, most_nesting};
 ghost use Rattle.md_markdown_abi.specs.Failures.{IsOptionFault};
 ghost use Rattle.md_markdown_abi.specs.declared.failure.MarkdownFailure.TheVariants.{NoVersion};
 
@@ -12,6 +12,12 @@ use crate::failure::MarkdownFailure;
 use md_abi::{CText, Failure, read_flag, read_text};
 use md_markdown::{DocumentHtml, Limits, MarkdownOptions};
 use std::alloc::Global;
+
+/// HTML that authors may write is kept, and all other HTML left out.
+const KEPT: u8 = 3;
+
+/// HTML that authors may write is kept, and all other HTML is text, without comments.
+const KEPT_OR_TEXT: u8 = 4;
 
 /// The version of the C interface for Markdown: the options' layout, and every number.
 pub const VERSION: u32 = 4;
@@ -40,7 +46,8 @@ pub struct CMarkdownOptions<'a> {
     pub hard_breaks: u8,
     /// 1 to read bare URLs and addresses as links, else 0.
     pub bare_links: u8,
-    /// How to print HTML in the document: 0 as text, 1 not at all, 2 as text without comments.
+    /// How to print HTML in the document: 0 as text, 1 not at all, 2 as text without comments. With
+    /// 3 and 4 the tags that authors may write are kept; all other HTML is printed as with 1 and 2.
     pub html: u8,
     /// 1 to read math, else 0.
     pub math: u8,
@@ -117,7 +124,14 @@ pub(crate) fn read_markdown_options(
     })
 }
 
-/// How to print HTML, by its number; `number` is the option's.
+/// Whether HTML that authors may write is kept, by the number of the option `html`.
+pub(crate) fn keeps_html(html: u8) -> bool
+    ensures { result ≡ keeps_html html }
+{
+    html == KEPT || html == KEPT_OR_TEXT
+}
+
+/// How to print HTML that isn't kept, by its number; `number` is the option's.
 fn read_html(html: u8, number: usize) -> Result<DocumentHtml, Failure>
     ensures ok { IfOk result (λ read. html_of html ≡ Some read) }
     ensures err { IfErr result (IsFaultOf number (html_of html)) }
@@ -126,6 +140,8 @@ fn read_html(html: u8, number: usize) -> Result<DocumentHtml, Failure>
         0 => Ok(DocumentHtml::Text),
         1 => Ok(DocumentHtml::LeftOut),
         2 => Ok(DocumentHtml::WithoutComments),
+        KEPT => Ok(DocumentHtml::LeftOut),
+        KEPT_OR_TEXT => Ok(DocumentHtml::WithoutComments),
         _ => Err(Failure::Option(number)),
     }
 }

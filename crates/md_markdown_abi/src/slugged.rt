@@ -1,22 +1,24 @@
 //! Compiles C's input to a text whose headings have ids derived from their texts, and lists these
 //! headings and ids.
 
-ghost use Rattle.std.specs.Prelude.{◌≡◌, ◌++◌, List, IfOk, IfErr, OnOk, map, take, option_copied};
+ghost use Rattle.std.specs.Prelude.{◌≡◌, ◌≤◌, ◌++◌, List, IfOk, IfErr, OnOk, map, take, option_copied};
 ghost use Rattle.std.specs.Prelude.{◌∷◌, true, string_bytes};
 ghost use Rattle.md_text.specs.Encode.{encoded};
 ghost use Rattle.md_safe.specs.Token.{Token};
 ghost use Rattle.md_safe.specs.Tokenizer.{IsTokenized};
 ghost use Rattle.md_page.specs.Built.{IsBuiltAsWritten};
 ghost use Rattle.md_abi.specs.Attributes.{with_rel};
-ghost use Rattle.md_markdown_abi.specs.Failures.{ExplainsMarkdown};
+ghost use Rattle.md_markdown_abi.specs.Failures.{ExplainsMarkdown, IsOfText};
 ghost use Rattle.md_markdown_abi.specs.Slugged.{IsSluggedText, IsSluggedAfter, id_listing};
 ghost use Rattle.md_markdown_abi.specs.Text.{IsRead};
 
 use crate::document::read_document;
 use crate::failure::MarkdownFailure;
-use crate::option::{CMarkdownOptions, check_version, limits_of, read_markdown_options};
+use crate::kept::kept_within;
+use crate::option::{
+    CMarkdownOptions, check_version, keeps_html, limits_of, read_markdown_options,
+};
 use md_abi::{Attributed, borrow_text, with_list};
-use md_html::SafeHtml;
 use md_markdown::markdown_within;
 use md_page::{Html, with_link_rel};
 use md_slugs::with_heading_slugs;
@@ -45,9 +47,36 @@ pub fn markdown_slugged(
     let prefix = borrow_text(&given.heading_ids, 9)?;
     let text = read_document(bytes, given.max_input)?;
     let limits = limits_of(given, bytes.len());
+    let prefix = prefix.unwrap_or("");
+    if keeps_html(given.html) {
+        let kept = kept_within(alloc, text, &options, limits)?;
+        let made = add_slugs(alloc, &kept, rel, prefix, given.max_output)?;
+        return Ok(made);
+    }
     let html = markdown_within(alloc, text, &options, limits)?;
-    let made = add_slugs(alloc, &html, rel, prefix.unwrap_or(""))?;
-    if made.start > given.max_output {
+    let made = add_slugs(alloc, &html, rel, prefix, given.max_output)?;
+    Ok(made)
+}
+
+/// Adds the requested `rel` and ids of headings to a text, if it has at most `most` bytes then, and
+/// appends these headings and their ids.
+fn add_slugs<H: Html>(
+    alloc: Global,
+    html: &H,
+    rel: Option<&str>,
+    prefix: &str,
+    most: usize,
+) -> Result<Attributed, MarkdownFailure>
+    ensures slugged { IfOk result (λ made. (x : List Token) → IsTokenized (H.text html.now) x
+        → IsSluggedAfter (with_rel (option_copied rel.entry) x) made.start
+        (string_bytes made.whole)) }
+    ensures tree { IfOk result (λ made. IsBuiltAsWritten (H.text html.now)
+        → IsBuiltAsWritten (take made.start (string_bytes made.whole))) }
+    ensures fits { IfOk result (λ made. made.start ≤ most) }
+    ensures err { IfErr result IsOfText }
+{
+    let made = with_slugs(alloc, html, rel, prefix)?;
+    if made.start > most {
         return Err(MarkdownFailure::OutputTooLong);
     }
     Ok(made)
@@ -55,16 +84,16 @@ pub fn markdown_slugged(
 
 /// A text with the requested `rel` and with ids on its headings, and after it these headings and
 /// their ids.
-fn add_slugs(
+fn with_slugs<H: Html>(
     alloc: Global,
-    html: &SafeHtml,
+    html: &H,
     rel: Option<&str>,
     prefix: &str,
 ) -> Result<Attributed, AllocError>
-    ensures slugged { IfOk result (λ made. (x : List Token) → IsTokenized html.now x
+    ensures slugged { IfOk result (λ made. (x : List Token) → IsTokenized (H.text html.now) x
         → IsSluggedAfter (with_rel (option_copied rel.entry) x) made.start
         (string_bytes made.whole)) }
-    ensures tree { IfOk result (λ made. IsBuiltAsWritten html.now
+    ensures tree { IfOk result (λ made. IsBuiltAsWritten (H.text html.now)
         → IsBuiltAsWritten (take made.start (string_bytes made.whole))) }
 {
     match rel {

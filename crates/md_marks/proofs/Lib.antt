@@ -1,3 +1,4 @@
 pub mod CharacterLemmas
 pub mod MarkBits
 pub mod MarkTables
+pub mod PairLemmas

@@ -1,5 +1,5 @@
 -- Which runs of `*`, `_` and `~` open and close, and which make a pair.
-use Rattle.std.specs.Prelude.{ℕ, Bool, true, false, ◌+◌, ◌%◌, ◌==◌, ◌&&◌, ◌||◌, not, nat_lt}
+use Rattle.std.specs.Prelude.{ℕ, Bool, true, false, ◌+◌, ◌-◌, ◌%◌, ◌==◌, ◌&&◌, ◌||◌, not, nat_lt}
 use Rattle.std.specs.Prelude.{if◌then◌else◌}
 use Rattle.md_marks.specs.declared.characters.CharacterClass.{CharacterClass}
 use Rattle.md_marks.specs.declared.characters.CharacterClass.TheVariants.{Space, Punctuation}
@@ -49,19 +49,27 @@ abbrev pub is_fair : ℕ → ℕ → Bool
 is_fair one other =
     (one % 3 == 0 && other % 3 == 0) || not ((one + other) % 3 == 0)
 
+-- how many bytes of a run have no pair yet
+abbrev pub available : Delimiter → ℕ
+available run = run.end - run.start
+
+-- no byte of a run has a pair
+abbrev pub is_unused : Delimiter → Bool
+is_unused run = available run == run.length
+
 -- whether an opener and a closer may pair: they are of the same byte; if that is `~`, they are
--- equally long, and the opener is unused; otherwise, if the opener also closes or the closer also
--- opens, their lengths are fair
+-- equally long, and both are unused; otherwise, if the opener also closes or the closer also opens,
+-- their lengths are fair
 abbrev pub may_pair : Delimiter → Delimiter → Bool
 may_pair opener closer =
     opener.byte == closer.byte
     && (if closer.byte == 126
-    then opener.length == closer.length && opener.available == opener.length
+    then opener.length == closer.length && (is_unused opener && is_unused closer)
     else not (opener.closes || closer.opens) || is_fair opener.length closer.length)
 
 -- how many bytes of each make the pair: all of `~`; otherwise two if at least two of each are left
 abbrev pub pair_width : Delimiter → Delimiter → ℕ
 pair_width opener closer =
-    if closer.byte == 126 then opener.length
-    else if nat_lt 1 opener.available && nat_lt 1 closer.available then 2
+    if closer.byte == 126 then available opener
+    else if nat_lt 1 (available opener) && nat_lt 1 (available closer) then 2
     else 1

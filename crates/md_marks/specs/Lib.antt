@@ -3,3 +3,5 @@ pub mod BareLinks
 pub mod Characters
 pub mod Emphasis
 pub mod NextMark
+pub mod Openers
+pub mod Pairs

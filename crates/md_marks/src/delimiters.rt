@@ -1,22 +1,26 @@
 //! Pairs runs of `*`, `_` and `~`.
 
-ghost use Rattle.std.specs.Prelude.{◌≡◌, ◌<◌, ◌-◌};
-ghost use Rattle.md_marks.specs.Emphasis.{may_pair, pair_width};
+ghost use Rattle.std.specs.Prelude.{◌≡◌, ◌≤◌, ◌<◌, ◌-◌, ◌++◌, ◌∷◌, [], ℕ, true, false, OnOk, IfSome, IfNone};
+ghost use Rattle.std.specs.Prelude.{drop, get_or, length, option_map, reverse, take};
+ghost use Rattle.md_marks.specs.Emphasis.{available, is_unused, may_pair, pair_width};
+ghost use Rattle.md_marks.specs.Openers.{AreBottoms, AreOpen, found_at, kept_to, kind_of};
+ghost use Rattle.md_marks.specs.Openers.{no_run};
+ghost use Rattle.md_marks.specs.Pairs.{start_mark, end_mark, closed, closer_left, joined, nearest, opener_left, pair_of};
+ghost use Rattle.md_marks.specs.Pairs.{openers_after, run_closed, pairs_after, with_end, with_pair, with_pairs};
 
 use crate::token::{Mark, Token, set_mark};
 use std::alloc::{AllocError, Global};
+use std::marker::Model;
 
-/// A run of one mark. Each of its bytes is a token.
+/// A run of one mark. Each of its bytes is a token; those without a pair follow one another.
 #[derive(Clone, Copy, Debug, PartialEq, Eq)]
 pub struct Delimiter {
-    /// The token of its first byte.
-    pub token: usize,
-    /// Its length in bytes.
+    /// The token of its first byte without a pair.
+    pub start: usize,
+    /// The token after its last byte without a pair.
+    pub end: usize,
+    /// Its length in bytes, with those that have a pair.
     pub length: usize,
-    /// How many bytes at its beginning are already closers.
-    pub used: usize,
-    /// How many bytes remain.
-    pub available: usize,
     pub byte: u8,
     pub opens: bool,
     pub closes: bool,
@@ -26,16 +30,33 @@ pub struct Delimiter {
 const KINDS: usize = 14;
 
 impl Delimiter {
-    /// The kind of the run as a closer.
-    fn kind(&self) -> usize
-        ensures { result < 14 }
+    /// How many of its bytes have no pair.
+    fn available(&self) -> usize
+        ensures { result ≡ available self.now }
     {
-        if self.byte == b'~' {
-            return if self.length == 1 { 12 } else { 13 };
+        self.end.saturating_sub(self.start)
+    }
+
+    /// Whether no byte has a pair.
+    fn is_unused(&self) -> bool
+        ensures { result ≡ is_unused self.now }
+    {
+        self.available() == self.length
+    }
+
+    /// The kind of the run as a closer: the runs of a kind match the same openers. `KINDS` if it
+    /// has no kind.
+    fn kind(&self) -> usize
+        ensures { result ≡ kind_of self.now }
+    {
+        let thirds = self.length % 3 + if self.opens { 3 } else { 0 };
+        match self.byte {
+            b'*' => thirds,
+            b'_' => thirds + 6,
+            b'~' if self.is_unused() && self.length == 1 => 12,
+            b'~' if self.is_unused() && self.length == 2 => 13,
+            _ => KINDS,
         }
-        let by_byte = if self.byte == b'_' { 6 } else { 0 };
-        let by_opening = if self.opens { 3 } else { 0 };
-        by_byte + by_opening + self.length % 3
     }
 
     /// Whether it opens what another run closes.
@@ -46,21 +67,11 @@ impl Delimiter {
             return false;
         }
         if closer.byte == b'~' {
-            return self.length == closer.length && self.available == self.length;
+            return self.length == closer.length && self.is_unused() && closer.is_unused();
         }
         let is_both = self.closes || closer.opens;
         let thirds = (self.length % 3, closer.length % 3);
         !is_both || !matches!(thirds, (1, 2) | (2, 1))
-    }
-
-    /// The run with `width` bytes fewer remaining.
-    fn without(self, width: usize) -> Delimiter
-        ensures { result ≡ record self { available = self.available - width } }
-    {
-        Delimiter {
-            available: self.available.saturating_sub(width),
-            ..self
-        }
     }
 
     /// How many bytes of each run form a pair.
@@ -68,8 +79,8 @@ impl Delimiter {
         ensures { result ≡ pair_width self.now closer.now }
     {
         if closer.byte == b'~' {
-            self.length
-        } else if self.available > 1 && closer.available > 1 {
+            self.available()
+        } else if self.available() > 1 && closer.available() > 1 {
             2
         } else {
             1
@@ -82,12 +93,23 @@ impl Delimiter {
 pub struct Delimiters {
     list: Vec<Delimiter>,
     /// Those before the current one that may be openers.
-    openers: Vec<usize>,
+    openers: Vec<Delimiter>,
+}
+
+impl Model for Delimiters {
+    ghost use Rattle.std.specs.Prelude.{List};
+    ghost use Rattle.md_marks.specs.declared.delimiters.Delimiter as runs;
+
+    ghost Value = { List runs.Delimiter };
+
+    ghost view = { λ runs. runs.list.items };
 }
 
 impl Delimiters {
     /// No runs.
-    pub fn new(alloc: Global) -> Delimiters {
+    pub fn new(alloc: Global) -> Delimiters
+        ensures { result ≡ [] }
+    {
         Delimiters {
             list: Vec::new(alloc),
             openers: Vec::new(alloc),
@@ -95,7 +117,9 @@ impl Delimiters {
     }
 
     /// The number of runs.
-    pub fn len(&self) -> usize {
+    pub fn len(&self) -> usize
+        ensures { result ≡ length self.now }
+    {
         self.list.len()
     }
 
@@ -104,13 +128,17 @@ impl Delimiters {
     /// # Errors
     ///
     /// Returns an error only if memory runs out.
-    pub fn push(&mut self, delimiter: Delimiter) -> Result<(), AllocError> {
+    pub fn push(&mut self, delimiter: Delimiter) -> Result<(), AllocError>
+        ensures { OnOk result (self.new ≡ self.old ++ delimiter ∷ []) }
+    {
         self.list.push(delimiter)?;
         Ok(())
     }
 
     /// Removes the runs from an index.
-    pub fn truncate(&mut self, length: usize) {
+    pub fn truncate(&mut self, length: usize)
+        ensures { self.new ≡ take length self.old }
+    {
         self.list.truncate(length);
     }
 
@@ -120,133 +148,240 @@ impl Delimiters {
     ///
     /// Returns an error only if memory runs out.
     #[inline(always)]
-    pub fn resolve(&mut self, tokens: &mut Vec<Token>, from: usize) -> Result<(), AllocError> {
+    pub fn resolve(&mut self, tokens: &mut Vec<Token>, from: usize) -> Result<(), AllocError>
+        ensures pairs { OnOk result (tokens.new.items
+            ≡ with_pairs (pairs_after [] (drop from self.old)) tokens.old.items) }
+        ensures rest { OnOk result (self.new ≡ take from self.old) }
+    {
         if self.list.len() <= from {
             return Ok(());
         }
-        self.pair_all(tokens, from)
-    }
-
-    /// Pairs the runs from an index, of which there is one at least, and removes them.
-    #[inline(never)]
-    fn pair_all(&mut self, tokens: &mut Vec<Token>, from: usize) -> Result<(), AllocError> {
-        let mut bottoms = [0; KINDS];
-        self.openers.clear();
-        for at in from..self.list.len() {
-            self.close(tokens, at, &mut bottoms);
-            if let Some(delimiter) = self.list.get(at) {
-                if delimiter.opens && delimiter.available > 0 {
-                    self.openers.push(at)?;
-                }
-            }
-        }
-        self.list.truncate(from);
-        Ok(())
-    }
-
-    /// Pairs a run with the earlier ones that match, the nearest first. `bottoms` has for each kind
-    /// the number of openers that are known not to match.
-    fn close(&mut self, tokens: &mut Vec<Token>, at: usize, bottoms: &mut [usize; KINDS]) {
-        let Some(first) = self.list.get(at).copied() else {
-            return;
-        };
-        if !first.closes {
-            return;
-        }
-        for _ in 0..first.length {
-            if self.openers.is_empty() {
-                return;
-            }
-            let Some(closer) = self.list.get(at).copied() else {
-                return;
-            };
-            let kind = closer.kind();
-            if closer.available == 0 {
-                return;
-            }
-            let bottom = bottoms.get(kind).copied().unwrap_or(0);
-            let Some(height) = self.opener_height(&closer, bottom) else {
-                if let Some(bottom) = bottoms.get_mut(kind) {
-                    *bottom = self.openers.len();
-                }
-                return;
-            };
-            self.pair(tokens, height, at);
-            for bottom in bottoms.iter_mut() {
-                *bottom = (*bottom).min(self.openers.len());
-            }
-        }
-    }
-
-    /// The index of the last opener that matches.
-    fn opener_height(&self, closer: &Delimiter, bottom: usize) -> Option<usize> {
-        for height in (bottom..self.openers.len()).rev() {
-            let index = self.openers.get(height)?;
-            let opener = self.list.get(*index)?;
-            if opener.fits(closer) {
-                return Some(height);
-            }
-        }
-        None
-    }
-
-    /// Pairs bytes of an opener and of a closer. The openers between them are removed.
-    fn pair(&mut self, tokens: &mut Vec<Token>, height: usize, closer_at: usize) {
-        let Some(opener_at) = self.openers.get(height).copied() else {
-            return;
-        };
-        let Some(opener) = self.list.get(opener_at).copied() else {
-            return;
-        };
-        let Some(closer) = self.list.get(closer_at).copied() else {
-            return;
-        };
-        let width = opener.width(&closer);
-        let is_left = opener.available > width;
-        mark_pair(tokens, &opener, &closer, width);
-        if let Some(each) = self.list.get_mut(opener_at) {
-            *each = opener.without(width);
-        }
-        if let Some(each) = self.list.get_mut(closer_at) {
-            *each = Delimiter {
-                used: closer.used.saturating_add(width),
-                ..closer.without(width)
-            };
-        }
-        let height = if is_left {
-            height.saturating_add(1)
-        } else {
-            height
-        };
-        self.openers.truncate(height);
+        let Delimiters { list, openers } = self;
+        pair_all(list, from, openers, tokens)
     }
 }
 
-/// Marks bytes of two runs as start and end, each as one token.
-fn mark_pair(tokens: &mut Vec<Token>, opener: &Delimiter, closer: &Delimiter, width: usize) {
-    let (start, end) = match (opener.byte, width) {
+/// Pairs the runs from an index, and removes them.
+#[inline(never)]
+fn pair_all(
+    list: &mut Vec<Delimiter>,
+    from: usize,
+    openers: &mut Vec<Delimiter>,
+    tokens: &mut Vec<Token>,
+) -> Result<(), AllocError>
+    ensures pairs { OnOk result (tokens.new.items
+        ≡ with_pairs (pairs_after [] (drop from list.old.items)) tokens.old.items) }
+    ensures rest { OnOk result (list.new.items ≡ take from list.old.items) }
+{
+    openers.clear();
+    let mut bottoms = [0; KINDS];
+    let mut at = from;
+    'runs: while at < list.len() {
+        read_run(openers, tokens, list[at], &mut bottoms)?;
+        at += 1;
+    }
+    list.truncate(from);
+    Ok(())
+}
+
+/// Pairs a run with the openers before it, if it closes; if it opens, what is left of it is one of
+/// them then. `bottoms` has for each kind the number of openers that are known not to match.
+fn read_run(
+    openers: &mut Vec<Delimiter>,
+    tokens: &mut Vec<Token>,
+    run: Delimiter,
+    bottoms: &mut [usize; KINDS],
+) -> Result<(), AllocError>
+    requires open { AreOpen openers.old.items }
+    requires bottoms { AreBottoms bottoms.old openers.old.items }
+    ensures openers { OnOk result (reverse openers.new.items
+        ≡ openers_after (run_closed (reverse openers.old.items) run)) }
+    ensures tokens { OnOk result (tokens.new.items ≡ with_pairs
+        (run_closed (reverse openers.old.items) run).pairs tokens.old.items) }
+    ensures open { OnOk result (AreOpen openers.new.items) }
+    ensures bottoms { OnOk result (AreBottoms bottoms.new openers.new.items) }
+{
+    let rest = close(openers, tokens, run, bottoms);
+    if rest.opens && rest.available() > 0 {
+        openers.push(rest)?;
+    }
+    Ok(())
+}
+
+/// Pairs a run with the openers before it, if it closes. Returns what is left of it.
+fn close(
+    openers: &mut Vec<Delimiter>,
+    tokens: &mut Vec<Token>,
+    run: Delimiter,
+    bottoms: &mut [usize; KINDS],
+) -> Delimiter
+    requires open { AreOpen openers.old.items }
+    requires bottoms { AreBottoms bottoms.old openers.old.items }
+    ensures left { result ≡ (run_closed (reverse openers.old.items) run).closer }
+    ensures openers { reverse openers.new.items
+        ≡ (run_closed (reverse openers.old.items) run).before }
+    ensures tokens { tokens.new.items ≡ with_pairs
+        (run_closed (reverse openers.old.items) run).pairs tokens.old.items }
+    ensures open { AreOpen openers.new.items }
+    ensures bottoms { AreBottoms bottoms.new openers.new.items }
+{
+    if run.closes {
+        pair_closer(openers, tokens, run, bottoms)
+    } else {
+        run
+    }
+}
+
+/// Pairs a closer with the openers before it that match, the nearest first. Returns what is left of
+/// it.
+fn pair_closer(
+    openers: &mut Vec<Delimiter>,
+    tokens: &mut Vec<Token>,
+    run: Delimiter,
+    bottoms: &mut [usize; KINDS],
+) -> Delimiter
+    requires open { AreOpen openers.old.items }
+    requires bottoms { AreBottoms bottoms.old openers.old.items }
+    ensures left { result
+        ≡ (closed (available run) (reverse openers.old.items) run).closer }
+    ensures openers { reverse openers.new.items
+        ≡ (closed (available run) (reverse openers.old.items) run).before }
+    ensures tokens { tokens.new.items ≡ with_pairs
+        (closed (available run) (reverse openers.old.items) run).pairs tokens.old.items }
+    ensures open { AreOpen openers.new.items }
+    ensures bottoms { AreBottoms bottoms.new openers.new.items }
+{
+    let mut closer = run;
+    'pairs: while closer.available() > 0 {
+        let kind = closer.kind();
+        let bottom = if kind < KINDS { bottoms[kind] } else { 0 };
+        let Some(height) = opener_height(openers, &closer, bottom) else {
+            if kind < KINDS {
+                bottoms[kind] = openers.len();
+            }
+            return closer;
+        };
+        closer = pair(openers, tokens, height, closer);
+        *bottoms = lowered(bottoms, openers.len());
+    }
+    closer
+}
+
+/// The index of the last opener that matches. Those below `bottom` are known not to.
+fn opener_height(openers: &[Delimiter], closer: &Delimiter, bottom: usize) -> Option<usize>
+    requires within { bottom ≤ length openers.now }
+    requires bottom { (i : ℕ) → i < bottom
+        → may_pair (get_or openers.now i no_run) closer.now ≡ false }
+    ensures found { nearest closer.now (reverse openers.now)
+        ≡ option_map (found_at openers.now) result }
+    ensures within { IfSome result (λ height. height < length openers.now) }
+    ensures fits { IfSome result (λ height.
+        may_pair (found_at openers.now height).opener closer.now ≡ true) }
+    ensures none { IfNone result ((i : ℕ) → i < length openers.now
+        → may_pair (get_or openers.now i no_run) closer.now ≡ false) }
+{
+    let mut height = openers.len();
+    'openers: while height > bottom {
+        height -= 1;
+        if openers[height].fits(closer) {
+            return Some(height);
+        }
+    }
+    None
+}
+
+/// Pairs bytes of an opener and of a closer. The openers between them are removed. Returns what is
+/// left of the closer.
+fn pair(
+    openers: &mut Vec<Delimiter>,
+    tokens: &mut Vec<Token>,
+    height: usize,
+    closer: Delimiter,
+) -> Delimiter
+    requires within { height < length openers.old.items }
+    requires fits { may_pair (found_at openers.old.items height).opener closer ≡ true }
+    requires left { 0 < available closer }
+    requires open { AreOpen openers.old.items }
+    ensures left { result ≡ closer_left
+        (pair_width (found_at openers.old.items height).opener closer) closer }
+    ensures openers { openers.new.items ≡ kept_to height (opener_left
+        (pair_width (found_at openers.old.items height).opener closer)
+        (found_at openers.old.items height).opener) openers.old.items }
+    ensures tokens { tokens.new.items ≡ with_pair
+        (pair_of (found_at openers.old.items height).opener closer) tokens.old.items }
+{
+    let opener = openers[height];
+    let width = opener.width(&closer);
+    let opener_left = Delimiter {
+        end: opener.end - width,
+        ..opener
+    };
+    let closer_left = Delimiter {
+        start: closer.start + width,
+        ..closer
+    };
+    let (start, end) = marks_of(closer.byte, width);
+    join(tokens, opener_left.end, opener.end, start);
+    join(tokens, closer.start, closer_left.start, end);
+    openers[height] = opener_left;
+    openers.truncate(if opener_left.available() > 0 {
+        height + 1
+    } else {
+        height
+    });
+    closer_left
+}
+
+/// The numbers, or this one where they are greater.
+fn lowered(bottoms: &[usize; KINDS], most: usize) -> [usize; KINDS]
+    requires { length bottoms.now ≡ 14 }
+    ensures count { length result ≡ 14 }
+    ensures within { (kind : ℕ) → get_or result kind 0 ≤ most }
+    ensures less { (kind : ℕ) → get_or result kind 0 ≤ get_or bottoms.now kind 0 }
+{
+    let mut lowered = *bottoms;
+    let mut kind = 0;
+    'kinds: while kind < KINDS {
+        lowered[kind] = lowered[kind].min(most);
+        kind += 1;
+    }
+    lowered
+}
+
+/// What a pair of `width` bytes of each run begins, and what it ends.
+fn marks_of(byte: u8, width: usize) -> (Mark, Mark)
+    ensures start { result.0 ≡ start_mark byte width }
+    ensures end { result.1 ≡ end_mark byte width }
+{
+    match (byte, width) {
         (b'~', _) => (Mark::StrikethroughStart, Mark::StrikethroughEnd),
         (_, 1) => (Mark::EmphasisStart, Mark::EmphasisEnd),
         _ => (Mark::StrongStart, Mark::StrongEnd),
-    };
-    let left = opener
-        .used
-        .saturating_add(opener.available)
-        .saturating_sub(width);
-    let first = opener.token.saturating_add(left);
-    let last = closer.token.saturating_add(closer.used);
-    set_end(tokens, first, start, width);
-    set_end(tokens, last, end, width);
-    for more in 1..width {
-        set_mark(tokens, first.saturating_add(more), Mark::Nothing);
-        set_mark(tokens, last.saturating_add(more), Mark::Nothing);
     }
 }
 
-/// Marks a token of `width` bytes as the end of a span.
-fn set_end(tokens: &mut Vec<Token>, index: usize, mark: Mark, width: usize) {
+/// Makes the tokens from `start` to `end` one with this mark.
+fn join(tokens: &mut Vec<Token>, start: usize, end: usize, mark: Mark)
+    requires some { start < end }
+    ensures { tokens.new.items ≡ joined mark start (end - start) tokens.old.items }
+{
+    set_end(tokens, start, end - 1);
+    set_mark(tokens, start, mark);
+    let mut next = start + 1;
+    'tokens: while next < end {
+        set_mark(tokens, next, Mark::Nothing);
+        next += 1;
+    }
+}
+
+/// Lets a token go on to the end of another one.
+fn set_end(tokens: &mut Vec<Token>, index: usize, last: usize)
+    ensures { tokens.new.items ≡ with_end index last tokens.old.items }
+{
+    let Some(other) = tokens.get(last).copied() else {
+        return;
+    };
     if let Some(token) = tokens.get_mut(index) {
-        token.mark = mark;
-        token.end = token.start.saturating_add(width);
+        token.end = other.end;
     }
 }

@@ -1,5 +1,8 @@
 //! The tokens of a leaf, in order.
 
+ghost use Rattle.std.specs.Prelude.{◌≡◌};
+ghost use Rattle.md_marks.specs.Pairs.{with_mark};
+
 use std::alloc::AllocError;
 
 /// The meaning of a token.
@@ -78,7 +81,9 @@ pub fn push_token(
 }
 
 /// Changes the mark of a token.
-pub(crate) fn set_mark(tokens: &mut Vec<Token>, index: usize, mark: Mark) {
+pub(crate) fn set_mark(tokens: &mut Vec<Token>, index: usize, mark: Mark)
+    ensures { tokens.new.items ≡ with_mark mark index tokens.old.items }
+{
     if let Some(token) = tokens.get_mut(index) {
         token.mark = mark;
     }

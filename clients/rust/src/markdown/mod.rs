@@ -8,7 +8,9 @@ pub use call::front_matter_of;
 pub use contents::contents;
 pub(crate) use contents::unescaped;
 
-use crate::markdown_numbers::{HTML_LEFT_OUT, HTML_TEXT, HTML_WITHOUT_COMMENTS};
+use crate::markdown_numbers::{
+    HTML_KEPT, HTML_KEPT_OR_TEXT, HTML_LEFT_OUT, HTML_TEXT, HTML_WITHOUT_COMMENTS,
+};
 use crate::{Error, Rendered, SafeHtml};
 use std::error;
 use std::fmt;
@@ -18,15 +20,20 @@ use std::str::FromStr;
 const LEAST_WORK: usize = 1 << 20;
 const WORK_OF_A_BYTE: usize = 64;
 
-/// How to treat HTML in a document. With each choice, none of it is HTML in the text.
+/// How to treat HTML in a document. With the first three choices none of it is HTML in the text.
 ///
-/// It is parsed from `text`, `left-out` or `without-comments`, and printed as that.
+/// It is parsed from `text`, `left-out`, `without-comments`, `kept` or `kept-or-text`, and printed
+/// as that.
 ///
 /// ```
-/// use bivdrazo::DocumentHtml;
+/// use bivdrazo::{markdown_to_html, DocumentHtml, MarkdownOptions};
 ///
 /// assert_eq!("left-out".parse(), Ok(DocumentHtml::LeftOut));
 /// assert!("other".parse::<DocumentHtml>().is_err());
+/// let options = MarkdownOptions::default().with_html(DocumentHtml::Kept);
+/// let html = markdown_to_html("H<sub>2</sub>O <b onclick='f()'>a</b> <i>b", &options)?;
+/// assert_eq!(html, "<p>H<sub>2</sub>O <b>a</b> b</p>\n");
+/// # Ok::<(), bivdrazo::Error>(())
 /// ```
 #[derive(Clone, Copy, Debug, Default, Eq, Hash, PartialEq)]
 #[non_exhaustive]
@@ -38,14 +45,21 @@ pub enum DocumentHtml {
     LeftOut,
     /// Leave out comments, and print the rest as text.
     WithoutComments,
+    /// Keep the tags that authors may write, as [`clean`](crate::clean) does, where the content
+    /// model allows them, and leave out all other HTML.
+    Kept,
+    /// Keep these tags, and print the rest as text, without comments.
+    KeptOrText,
 }
 
 impl DocumentHtml {
     /// All choices.
-    const ALL: [DocumentHtml; 3] = [
+    const ALL: [DocumentHtml; 5] = [
         DocumentHtml::Text,
         DocumentHtml::LeftOut,
         DocumentHtml::WithoutComments,
+        DocumentHtml::Kept,
+        DocumentHtml::KeptOrText,
     ];
 
     /// Its number in C.
@@ -54,6 +68,8 @@ impl DocumentHtml {
             DocumentHtml::Text => HTML_TEXT,
             DocumentHtml::LeftOut => HTML_LEFT_OUT,
             DocumentHtml::WithoutComments => HTML_WITHOUT_COMMENTS,
+            DocumentHtml::Kept => HTML_KEPT,
+            DocumentHtml::KeptOrText => HTML_KEPT_OR_TEXT,
         }
     }
 }
@@ -64,6 +80,8 @@ impl fmt::Display for DocumentHtml {
             DocumentHtml::Text => "text",
             DocumentHtml::LeftOut => "left-out",
             DocumentHtml::WithoutComments => "without-comments",
+            DocumentHtml::Kept => "kept",
+            DocumentHtml::KeptOrText => "kept-or-text",
         })
     }
 }
@@ -84,7 +102,7 @@ pub struct ParseDocumentHtmlError(());
 
 impl fmt::Display for ParseDocumentHtmlError {
     fn fmt(&self, formatter: &mut fmt::Formatter) -> fmt::Result {
-        formatter.write_str("expected text, left-out or without-comments")
+        formatter.write_str("expected text, left-out, without-comments, kept or kept-or-text")
     }
 }
 

@@ -51,6 +51,66 @@ fn html_without_comments() {
 }
 
 #[test]
+fn html_kept() {
+    for (text, kept, kept_or_text) in [
+        ("H<sub>2</sub>O", "H<sub>2</sub>O", "H<sub>2</sub>O"),
+        ("a <font>b</font>", "a b", "a &lt;font&gt;b&lt;/font&gt;"),
+        (
+            "<b>a <i>b</b> c</i>",
+            "<b>a b</b> c",
+            "<b>a &lt;i&gt;b</b> c&lt;/i&gt;",
+        ),
+        ("a<!-- b -->", "a", "a"),
+        (
+            "a <script>b</script>",
+            "a b",
+            "a &lt;script&gt;b&lt;/script&gt;",
+        ),
+        (
+            "<a href='javascript:b' onclick='c'>d</a>",
+            "<a>d</a>",
+            "<a>d</a>",
+        ),
+        ("a < b", "a &lt; b", "a &lt; b"),
+    ] {
+        for (choice, wanted) in [
+            (DocumentHtml::Kept, kept),
+            (DocumentHtml::KeptOrText, kept_or_text),
+        ] {
+            let html = html_with(text, |options| options.html = choice);
+            assert_eq!(html, Ok(format!("<p>{wanted}</p>\n")), "{text:?}, {choice}");
+        }
+    }
+}
+
+#[test]
+fn kept_html_with_other_options() {
+    let mut options = MarkdownOptions::default().with_html(DocumentHtml::Kept);
+    options.rel = Some("ugc".to_string());
+    options.heading_slugs = true;
+    let text = "<h2>A <a href='b'>c</a></h2>\n\n# A c\n";
+    let made = markdown_with_headings(text, &options).unwrap();
+    assert_eq!(
+        made.html,
+        "<h2 id=\"a-c\">A <a href=\"b\" rel=\"ugc\">c</a></h2>\n<h1 id=\"a-c-1\">A c</h1>\n"
+    );
+    assert_eq!(made.headings.len(), 2);
+    options.max_output = Some(made.html.len());
+    assert!(markdown_to_html(text, &options).is_ok());
+    let limit = made.html.len() - 1;
+    options.max_output = Some(limit);
+    let error = markdown_to_html(text, &options).unwrap_err();
+    assert_eq!(error, Error::OutputTooLong { limit });
+    let (length, limit) = (text.len(), text.len() - 1);
+    options.max_input = Some(limit);
+    let error = markdown_to_html(text, &options).unwrap_err();
+    assert_eq!(error, Error::InputTooLong { length, limit });
+    options = MarkdownOptions::default().with_html(DocumentHtml::KeptOrText);
+    options.max_work = Some(1);
+    assert!(markdown_to_html(text, &options).is_err());
+}
+
+#[test]
 fn comments() {
     for (html, wanted) in [
         ("a<!--b-->c<!-- d", "ac"),
@@ -132,13 +192,15 @@ fn names_of_html() {
         ("text", DocumentHtml::Text),
         ("left-out", DocumentHtml::LeftOut),
         ("without-comments", DocumentHtml::WithoutComments),
+        ("kept", DocumentHtml::Kept),
+        ("kept-or-text", DocumentHtml::KeptOrText),
     ] {
         assert_eq!(name.parse(), Ok(choice));
         assert_eq!(choice.to_string(), name);
     }
     for name in ["", "Text", "text ", "left_out"] {
         let error = name.parse::<DocumentHtml>().unwrap_err();
-        let wanted = "expected text, left-out or without-comments";
+        let wanted = "expected text, left-out, without-comments, kept or kept-or-text";
         assert_eq!(error.to_string(), wanted, "{name}");
     }
 }

@@ -7,9 +7,9 @@ use Rattle.md_abi.specs.Attributed.{IsListedAfter}
 use Rattle.md_abi.proofs.attributed.add_asked.Goals as goal
 
 pub returns-in-None-clause-listed : goal.returns-in-None-clause-listed
-returns-in-None-clause-listed c =
+returns-in-None-clause-listed g c =
     subst (λ rel. IfOk c.add_ids-in-None.result
-    (λ made. (x : List Token) → IsTokenized c.args.html.now x
+    (λ made. (x : List Token) → IsTokenized (g.H.Html.text c.args.html.now) x
     → IsListedAfter (option_copied c.args.prefix) (with_rel rel x) made.start
     (string_bytes made.whole))) (sym (ap option_copied c.in-None.is))
     c.add_ids-in-None.ensures.listed

@@ -10,6 +10,7 @@ invariant-loop-container l = record {
   few : l.matched ≤ length l.stack;
   at : l.initial.position.at ≤ l.position.at;
   line : l.position.line ≡ l.initial.position.line;
+  ending : l.position.ending ≡ l.initial.position.ending;
   same : matched l.matched (drop l.container-index l.stack) (rest_of l.position)
       ≡ matched 0 l.stack (rest_of l.initial.position);
 }

@@ -1,13 +1,16 @@
--- What is counted is none of these bytes.
-use Rattle.std.proofs.Common.{◌≡◌, ◌+◌, ◌-◌, ◌≤◌, drop}
-use Rattle.std.specs.List.{prefix_len}
-use Rattle.md_lines.specs.Lines.{goes_on_in_label}
+-- What is passed is no bracket, or escaped.
+use Rattle.std.proofs.Common.{◌≡◌, ◌+◌, ◌-◌, ◌≤◌, drop, length, suc}
+use Rattle.md_lines.specs.Escapes.{before_unescaped}
+use Rattle.md_lines.specs.LinkParts.{is_bracket}
 use Rattle.md_lines.proofs.link.label_length.Given as goal
 
 abbrev pub invariant-loop-length : goal.invariant-loop-length
-invariant-loop-length l =
-    (l.length ≤ l.most) × (prefix_len goes_on_in_label l.text
-    ≡ l.length + prefix_len goes_on_in_label (drop l.length l.text))
+invariant-loop-length l = record {
+  within : l.length ≤ length l.text;
+  short : l.length ≤ suc l.most;
+  before : before_unescaped is_bracket l.text
+      ≡ l.length + before_unescaped is_bracket (drop l.length l.text);
+}
 
 abbrev pub decreases-loop-length : goal.decreases-loop-length
-decreases-loop-length l = l.most - l.length
+decreases-loop-length l = length l.text - l.length

@@ -1,9 +1,0 @@
--- Each iteration moves forward in the line.
-use Rattle.std.proofs.Common.{◌-◌, ◌≤◌}
-use Rattle.md_lines.proofs.link.bare_destination.Given as goal
-
-abbrev pub invariant-loop-at : goal.invariant-loop-at
-invariant-loop-at l = l.depth ≤ 32
-
-abbrev pub decreases-loop-at : goal.decreases-loop-at
-decreases-loop-at l = l.end - l.at
