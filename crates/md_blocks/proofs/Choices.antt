@@ -158,27 +158,27 @@ marks_broken n depth on text state =
     by_break (may_underline on (get_or text 0 0)) (is_underline (get_or text 0 0) text)
     (nat_lt n (length (paragraph_lines state.leaf))) n depth text state _ _
 
-abbrev pub tested : Bool → Bool → Bool → Bool → ℕ → MarkdownOptions → Bool → ℕ → ℕ → Bool → Rest →
+abbrev pub tested : Bool → Bool → Bool → Bool → ℕ → MarkdownOptions → ℕ → ℕ → Bool → Rest →
     List ℕ → State → Option State
-tested heading fence math html first options alone defined depth on rest ending state =
+tested heading fence math html first options defined depth on rest ending state =
     if heading then heading_begun defined depth (unindented rest) state
     else if fence then code_begun defined first depth rest state
     else if math then (if options.math then math_begun defined depth rest ending state else None)
     else if html
-    then html_begun defined depth (kind_begun (alone && not on) (unindented rest)) rest ending state
+    then html_begun defined depth (kind_begun (not on) (unindented rest)) rest ending state
     else marks_begun defined depth on rest state
 
 -- which leaf begins, by the first byte
-abbrev pub chosen : ℕ → MarkdownOptions → Bool → ℕ → ℕ → Bool → Rest → List ℕ → State → Option State
-chosen first options alone defined depth on rest ending state =
-    tested (first == 35) (first == 96 || first == 126) (first == 36) (first == 60) first options alone
+abbrev pub chosen : ℕ → MarkdownOptions → ℕ → ℕ → Bool → Rest → List ℕ → State → Option State
+chosen first options defined depth on rest ending state =
+    tested (first == 35) (first == 96 || first == 126) (first == 36) (first == 60) first options
     defined depth on rest ending state
 
-pub leaf_none : (options : MarkdownOptions) (alone : Bool) (one other depth : ℕ) (on : Bool) (rest : Rest)
+pub leaf_none : (options : MarkdownOptions) (one other depth : ℕ) (on : Bool) (rest : Rest)
     (ending : List ℕ) (state : State) → is_underlined on (unindented rest) ≡ false →
-    leaf_begun options alone one depth on rest ending state ≡ None →
-    leaf_begun options alone other depth on rest ending state ≡ None
-leaf_none options alone one other depth on rest ending state no_line =
+    leaf_begun options one depth on rest ending state ≡ None →
+    leaf_begun options other depth on rest ending state ≡ None
+leaf_none options one other depth on rest ending state no_line =
     let text = unindented rest in
     let first = get_or text 0 0 in
     either_none (first == 35) _ _ _ _ (if_none (opens_heading text) _ _)
@@ -186,21 +186,21 @@ leaf_none options alone one other depth on rest ending state no_line =
     (either_none (first == 36) _ _ _ _
     (either_none options.math _ _ _ _ (if_none (opens_math text) _ _) (λ is. is))
     (either_none (first == 60) _ _ _ _
-    (html_none (kind_begun (alone && not on) text) one other depth rest ending state)
+    (html_none (kind_begun (not on) text) one other depth rest ending state)
     (λ is. marks_broken other depth on text state no_line
     ∙ break_none one other depth text state (sym (marks_broken one depth on text state no_line) ∙ is)))))
 
 -- an underline's first byte begins no other leaf
-at_line : (options : MarkdownOptions) (alone : Bool) (n depth : ℕ) (on : Bool) (rest : Rest)
+at_line : (options : MarkdownOptions) (n depth : ℕ) (on : Bool) (rest : Rest)
     (ending : List ℕ) (state : State) → is_underlined on (unindented rest) ≡ true →
-    leaf_begun options alone n depth on rest ending state ≡ marks_begun n depth on rest state
-at_line options alone n depth on rest ending state line =
+    leaf_begun options n depth on rest ending state ≡ marks_begun n depth on rest state
+at_line options n depth on rest ending state line =
     let first = get_or (unindented rest) 0 0 in
     let may = (and_parts _ _ line).0 in
     let mark = (and_parts on (first == 61 || first == 45) may).1 in
     elim (cases_Bool (first == 61)) [
-      | inl e ↦ ap (λ b. chosen b options alone n depth on rest ending state) (eqb-true first 61 e)
-      | inr e ↦ ap (λ b. chosen b options alone n depth on rest ending state)
+      | inl e ↦ ap (λ b. chosen b options n depth on rest ending state) (eqb-true first 61 e)
+      | inr e ↦ ap (λ b. chosen b options n depth on rest ending state)
           (eqb-true first 45 (ap (λ so. so || first == 45) (sym e) ∙ mark))
     ]
 
@@ -210,11 +210,11 @@ or_none n depth text left None is = refl
 or_none n depth text left (Some heading) is = grind arith
 
 -- so if none begins there, all lines of the paragraph are definitions
-all_are : (options : MarkdownOptions) (alone : Bool) (n depth : ℕ) (on : Bool) (rest : Rest)
+all_are : (options : MarkdownOptions) (n depth : ℕ) (on : Bool) (rest : Rest)
     (ending : List ℕ) (state : State) → is_underlined on (unindented rest) ≡ true →
-    leaf_begun options alone n depth on rest ending state ≡ None →
+    leaf_begun options n depth on rest ending state ≡ None →
     nat_lt n (length (paragraph_lines state.leaf)) ≡ false
-all_are options alone n depth on rest ending state line is =
+all_are options n depth on rest ending state line is =
     let text = unindented rest in
     let first = get_or text 0 0 in
     let parts = and_parts (may_underline on first) (is_underline first text) line in
@@ -222,7 +222,7 @@ all_are options alone n depth on rest ending state line is =
     let none = or_none n depth text (left_of text n on state)
     (heading_underlined n first text lines state)
     (sym (tried first n depth on text state refl parts.0)
-    ∙ sym (at_line options alone n depth on rest ending state line) ∙ is) in
+    ∙ sym (at_line options n depth on rest ending state line) ∙ is) in
     let made = with_leaf NoLeaf (with_entries
     (Heading (if first == 61 then 1 else 2) (drop n lines) ∷ []) (blank_written state)) in
     all_defined (nat_lt n (length lines)) state made
@@ -273,16 +273,16 @@ emptied options one other depth whole on rest ending defined lines state all =
 -- a block that begins where no leaf does, with one number for both
 abbrev pub Begins : MarkdownOptions → ℕ → Bool → Rest → List ℕ → State → Step → Type 0
 Begins options depth whole rest ending state step =
-    (n : ℕ) × (alone : Bool) × (block_begun options alone n depth whole rest ending state ≡ step)
+    (n : ℕ) × (block_begun options n depth whole rest ending state ≡ step)
 
-pub block_is : (options : MarkdownOptions) (alone : Bool) (taken defined depth : ℕ) (whole is_line : Bool)
+pub block_is : (options : MarkdownOptions) (taken defined depth : ℕ) (whole is_line : Bool)
     (rest : Rest) (ending : List ℕ) (state left : State) (step : Step) →
     is_underlined (whole && is_in_paragraph state.leaf) (unindented rest) ≡ is_line →
-    leaf_begun options alone taken depth (whole && is_in_paragraph state.leaf) rest ending state ≡ None →
+    leaf_begun options taken depth (whole && is_in_paragraph state.leaf) rest ending state ≡ None →
     left ≡ unless_underlined taken (whole && is_in_paragraph state.leaf) rest state →
     container_or options defined depth whole (whole && is_in_paragraph left.leaf) rest ending left ≡ step →
     Begins options depth whole rest ending state step
-block_is options alone taken defined depth whole true rest ending state left step line no_leaf is_left is =
+block_is options taken defined depth whole true rest ending state left step line no_leaf is_left is =
     let on = whole && is_in_paragraph state.leaf in
     let text = unindented rest in
     let lines = paragraph_lines state.leaf in
@@ -293,26 +293,24 @@ block_is options alone taken defined depth whole true rest ending state left ste
     ∙ on_kept whole (is_in_paragraph state.leaf) (get_or text 0 0 == 61 || get_or text 0 0 == 45)
     (is_underline (get_or text 0 0) text) gone state refl refl in (
       taken,
-      alone,
       ap (λ l. leaf_or l (container_or options taken depth whole on rest ending
           (unless_underlined taken on rest state))) no_leaf
           ∙ ap (container_or options taken depth whole on rest ending) (sym is_left ∙ lost)
           ∙ emptied options taken defined depth whole on rest ending taken lines state
-          (all_are options alone taken depth on rest ending state line no_leaf)
+          (all_are options taken depth on rest ending state line no_leaf)
           ∙ ap (container_or options defined depth whole on rest ending) (sym lost)
           ∙ ap (λ o. container_or options defined depth whole o rest ending left) (sym kept) ∙ is,
     )
-block_is options alone taken defined depth whole false rest ending state left step line no_leaf is_left is =
+block_is options taken defined depth whole false rest ending state left step line no_leaf is_left is =
     let on = whole && is_in_paragraph state.leaf in
     let lines = paragraph_lines state.leaf in
     let same : left ≡ state = is_left
     ∙ ap (λ so. if so then definitions_taken taken lines state else state) line in
     let kept : (whole && is_in_paragraph left.leaf) ≡ on = ap (λ s. whole && is_in_paragraph s.leaf) same in (
       defined,
-      alone,
       ap (λ l. leaf_or l (container_or options defined depth whole on rest ending
           (unless_underlined defined on rest state)))
-          (leaf_none options alone taken defined depth on rest ending state line no_leaf)
+          (leaf_none options taken defined depth on rest ending state line no_leaf)
           ∙ ap (λ so. container_or options defined depth whole on rest ending
           (if so then definitions_taken defined lines state else state)) line
           ∙ ap (container_or options defined depth whole on rest ending) (sym same)
@@ -320,11 +318,11 @@ block_is options alone taken defined depth whole false rest ending state left st
     )
 
 -- where a leaf begins
-pub leaf_ends : (options : MarkdownOptions) (alone : Bool) (n depth : ℕ) (whole : Bool) (rest : Rest)
+pub leaf_ends : (options : MarkdownOptions) (n depth : ℕ) (whole : Bool) (rest : Rest)
     (ending : List ℕ) (state begun : State) →
-    leaf_begun options alone n depth (whole && is_in_paragraph state.leaf) rest ending state ≡ Some begun →
-    block_begun options alone n depth whole rest ending state ≡ Ends (without_blank begun)
-leaf_ends options alone n depth whole rest ending state begun =
+    leaf_begun options n depth (whole && is_in_paragraph state.leaf) rest ending state ≡ Some begun →
+    block_begun options n depth whole rest ending state ≡ Ends (without_blank begun)
+leaf_ends options n depth whole rest ending state begun =
     let on = whole && is_in_paragraph state.leaf in
     ap (λ found. leaf_or found (container_or options n depth whole on rest ending
     (unless_underlined n on rest state)))
@@ -348,7 +346,7 @@ texted options n true rest ending state text none =
 
 pub text_block : (options : MarkdownOptions) (n depth : ℕ) (whole : Bool) (rest : Rest)
     (ending : List ℕ) (state : State) → is_text (get_or (unindented rest) 0 0) ≡ true →
-    block_begun options false n depth whole rest ending state
+    block_begun options n depth whole rest ending state
     ≡ Ends (text_read n depth whole (a_line (unindented rest) ending) state)
 text_block options n depth whole rest ending state is =
     let on = whole && is_in_paragraph state.leaf in
@@ -357,18 +355,18 @@ text_block options n depth whole rest ending state is =
     let may : may_underline on first ≡ false = no_underline on first
     (ap (λ so. so || first == 45) (other 61 first is refl) ∙ other 45 first is refl) in
     let read = text_read n depth whole (a_line text ending) state in
-    let no_leaf : leaf_begun options false n depth on rest ending state ≡ None =
+    let no_leaf : leaf_begun options n depth on rest ending state ≡ None =
     ap (λ so. tested so (first == 96 || first == 126) (first == 36)
-    (first == 60) first options false n depth on rest ending state)
+    (first == 60) first options n depth on rest ending state)
     (other 35 first is refl)
     ∙ ap (λ so. tested false (so || first == 126) (first == 36)
-    (first == 60) first options false n depth on rest ending state)
+    (first == 60) first options n depth on rest ending state)
     (other 96 first is refl)
-    ∙ ap (λ so. tested false so (first == 36) (first == 60) first options false n depth on rest ending state)
+    ∙ ap (λ so. tested false so (first == 36) (first == 60) first options n depth on rest ending state)
     (other 126 first is refl)
-    ∙ ap (λ so. tested false false so (first == 60) first options false n depth on rest ending state)
+    ∙ ap (λ so. tested false false so (first == 60) first options n depth on rest ending state)
     (other 36 first is refl)
-    ∙ ap (λ so. tested false false false so first options false n depth on rest ending state)
+    ∙ ap (λ so. tested false false false so first options n depth on rest ending state)
     (other 60 first is refl)
     ∙ untried first n depth on text state refl may
     ∙ ap (λ so. if so || (first == 45 || first == 95) then break_begun n first depth text state else None)

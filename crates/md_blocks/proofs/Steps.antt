@@ -3,7 +3,7 @@ use Rattle.std.proofs.Common.{ℕ, Bool, List, [], ◌∷◌, ◌≡◌, ◌∙�
 use Rattle.std.proofs.Common.{Option, Some, None}
 use Rattle.std.proofs.Common.{arith, length, drop, get_or, nat_lt, ◌&&◌}
 use Rattle.std.specs.Prelude.{Result, Ok, Err, IfOk, ◌||◌, if◌then◌else◌}
-use Rattle.std.proofs.Common.{inl, inr, not}
+use Rattle.std.proofs.Common.{inl, inr}
 use Rattle.std.proofs.lemmas.Bool.{cases_Bool, eqb-true, le-ltb, ltb-false}
 use Rattle.std.proofs.lemmas.List.{drop_all}
 use Rattle.md_blocks.specs.BlockStructure.{break_at, may_underline, paragraph_lines}
@@ -200,12 +200,6 @@ fence_is_none mark is = elim (cases_Bool (mark == 96)) [
   | inr e ↦ ap (λ m. m == 61 || m == 45)
       (eqb-true mark 126 (ap (λ so. so || mark == 126) (sym e) ∙ is))
 ]
-
--- a tag alone on its line begins nothing in a paragraph
-pub alone_is : (alone on : Bool) → (on ≡ true → alone ≡ false) → (alone && not on) ≡ alone
-alone_is true true is = sym (is refl)
-alone_is true false is = refl
-alone_is false on is = refl
 
 -- a table, or else text
 abbrev pub or_text : Option State → State → State

@@ -10,7 +10,7 @@ use Rattle.md_blocks.specs.Leaves.{is_break, heading_content, blanks, word_lengt
 use Rattle.md_blocks.specs.Leaves.{closes_fence, is_underline, is_delimiter_row, delimiters}
 use Rattle.md_blocks.specs.Tables.{row_cells}
 use Rattle.md_blocks.specs.declared.html.HtmlKind.TheVariants.{Tag}
-use Rattle.md_blocks.specs.HtmlBlocks.{html_kind, is_html_end, ends_at_blank_line}
+use Rattle.md_blocks.specs.HtmlBlocks.{html_kind, is_html_end, is_tag_alone, ends_at_blank_line}
 use Rattle.md_blocks.specs.Stack.{quotes_depth}
 use Rattle.md_blocks.specs.Rests.{Rest, indent, unindented, skipped, is_blank_rest}
 use Rattle.md_blocks.specs.Entries.{Line, last_line, Break, Heading}
@@ -107,12 +107,12 @@ fenced_read fence rest ending state =
     then leaf_closed 0 state
     else line_added (a_line (skipped fence.indent rest).text ending) state
 
--- 4.6 HTML blocks: the kind that a text begins; `is_alone` says whether it is a tag alone on its
--- line (6.10), which begins no block in a paragraph
+-- 4.6 HTML blocks: the kind that a text begins; `may_be_tag` is false in a paragraph, where a tag
+-- alone on its line begins no block
 abbrev pub kind_begun : Bool → List ℕ → Option HtmlKind
-kind_begun is_alone text = elim (html_kind text) [
+kind_begun may_be_tag text = elim (html_kind text) [
   | Some kind ↦ Some kind
-  | None ↦ if is_alone then Some Tag else None
+  | None ↦ if may_be_tag && is_tag_alone text then Some Tag else None
 ]
 
 -- HTML after a line that may end it

@@ -215,8 +215,8 @@ impl<'a> Pass<'a> {
     fn read_line(&mut self, position: &mut Position<'_>) -> Result<(), AllocError>
         requires in_document { IsIn self.old.bytes.now position.old }
         ensures state { (self.old.is_after_blank ≡ true → SkipsBlank (state_of self.old))
-            → OnOk result ((defined : ℕ) × (is_alone : Bool) × (state_of self.new
-            ≡ line_read self.old.options.now is_alone defined (nat_lt 0 position.old.ending)
+            → OnOk result ((defined : ℕ) × (state_of self.new
+            ≡ line_read self.old.options.now defined (nat_lt 0 position.old.ending)
             (rest_of position.old) (ending_of self.old.bytes.now position.old)
             (state_of self.old))) }
         ensures skips { (self.old.is_after_blank ≡ true → SkipsBlank (state_of self.old))
@@ -244,8 +244,8 @@ impl<'a> Pass<'a> {
     #[inline(always)]
     fn read_in_containers(&mut self, position: &mut Position<'_>) -> Result<(), AllocError>
         requires in_document { IsIn self.old.bytes.now position.old }
-        ensures state { OnOk result ((defined : ℕ) × (is_alone : Bool) × (state_of self.new
-            ≡ line_read self.old.options.now is_alone defined (nat_lt 0 position.old.ending)
+        ensures state { OnOk result ((defined : ℕ) × (state_of self.new
+            ≡ line_read self.old.options.now defined (nat_lt 0 position.old.ending)
             (rest_of position.old) (ending_of self.old.bytes.now position.old)
             (state_of self.old))) }
         ensures skips { OnOk result
@@ -272,8 +272,8 @@ impl<'a> Pass<'a> {
         is_whole: bool,
     ) -> Result<bool, AllocError>
         requires in_document { IsIn self.old.bytes.now position.old }
-        ensures state { OnOk result ((defined : ℕ) × (is_alone : Bool) × (state_of self.new
-            ≡ line_after self.old.options.now is_alone defined matched is_whole
+        ensures state { OnOk result ((defined : ℕ) × (state_of self.new
+            ≡ line_after self.old.options.now defined matched is_whole
             (nat_lt 0 position.old.ending) (rest_of position.old)
             (ending_of self.old.bytes.now position.old) (state_of self.old))) }
         ensures blank { IfOk result (λ is_blank. is_blank ≡ true

@@ -2,7 +2,7 @@
 
 ghost use Rattle.std.specs.Prelude.{◌≡◌, ◌<◌, ◌∷◌, [], true, false, ℕ, Bool, IfOk, OnOk};
 ghost use Rattle.std.specs.Prelude.{IfSome, is_some, length, vec_len};
-ghost use Rattle.std.specs.Prelude.{◌&&◌, ◌||◌, ◌==◌, get_or, IsTrue, nat_lt, if◌then◌else◌};
+ghost use Rattle.std.specs.Prelude.{◌&&◌, ◌||◌, ◌==◌, get_or, IsTrue, nat_lt, not, if◌then◌else◌};
 ghost use Rattle.md_blocks.specs.BlockStructure.{break_at, leaf_begun, marks_begun, may_underline};
 ghost use Rattle.md_blocks.specs.BlockStructure.{Ends, GoesOn, begun, block_begun, deep_read};
 ghost use Rattle.md_blocks.specs.BlockStructure.{step_read, text_begun, unless_underlined};
@@ -47,8 +47,8 @@ impl<'a> Pass<'a> {
         is_whole: bool,
     ) -> Result<bool, AllocError>
         requires in_document { IsIn self.old.bytes.now position.old }
-        ensures state { OnOk result ((defined : ℕ) × (is_alone : Bool) × (state_of self.new
-            ≡ begun (length (rest_of position.old).text) self.old.options.now is_alone defined matched
+        ensures state { OnOk result ((defined : ℕ) × (state_of self.new
+            ≡ begun (length (rest_of position.old).text) self.old.options.now defined matched
             is_whole (nat_lt 0 position.old.ending) false (rest_of position.old)
             (ending_of self.old.bytes.now position.old) (state_of self.old))) }
         ensures blank { IfOk result (λ is_blank. is_blank ≡ true
@@ -90,7 +90,7 @@ impl<'a> Pass<'a> {
         ensures goes_on { IfOk result (λ goes_on. IsTrue goes_on
             → position.old.at < position.new.at) }
         ensures state { IfOk result (λ goes_on. byte ≡ get_or (text_at position.old) 0 0
-            → (defined : ℕ) × (is_alone : Bool) × (step_read self.old.options.now is_alone defined
+            → (defined : ℕ) × (step_read self.old.options.now defined
             depth is_whole (rest_of position.old) (ending_of self.old.bytes.now position.old)
             (state_of self.old)
             ≡ (if goes_on then GoesOn (begun_of self.new position.new) else Ends (state_of self.new)))) }
@@ -149,7 +149,7 @@ impl<'a> Pass<'a> {
         ensures goes_on { IfOk result (λ goes_on. IsTrue goes_on
             → position.old.at < position.new.at) }
         ensures state { IfOk result (λ goes_on. byte ≡ get_or (text_at position.old) 0 0
-            → (defined : ℕ) × (is_alone : Bool) × (block_begun self.old.options.now is_alone defined
+            → (defined : ℕ) × (block_begun self.old.options.now defined
             depth is_whole (rest_of position.old) (ending_of self.old.bytes.now position.old)
             (state_of self.old)
             ≡ (if goes_on then GoesOn (begun_of self.new position.new) else Ends (state_of self.new)))) }
@@ -203,7 +203,7 @@ impl<'a> Pass<'a> {
     ) -> Result<bool, AllocError>
         requires in_document { IsIn self.old.bytes.now position.now }
         ensures state { IfOk result (λ has_begun. byte ≡ get_or (text_at position.now) 0 0
-            → (defined : ℕ) × (is_alone : Bool) × (leaf_begun self.old.options.now is_alone defined
+            → (defined : ℕ) × (leaf_begun self.old.options.now defined
             depth (is_whole && is_in_paragraph (state_of self.old).leaf) (rest_of position.now)
             (ending_of self.old.bytes.now position.now) (state_of self.old)
             ≡ if_begun has_begun (state_of self.new))
@@ -370,9 +370,8 @@ impl<'a> Pass<'a> {
         in_paragraph: bool,
     ) -> Result<bool, AllocError>
         requires in_document { IsIn self.old.bytes.now position.now }
-        ensures state { IfOk result (λ has_begun. (is_alone : Bool) × (defined : ℕ)
-            × (in_paragraph ≡ true → is_alone ≡ false)
-            × (html_begun defined depth (kind_begun is_alone (text_at position.now))
+        ensures state { IfOk result (λ has_begun. (defined : ℕ)
+            × (html_begun defined depth (kind_begun (not in_paragraph) (text_at position.now))
             (rest_of position.now) (ending_of self.old.bytes.now position.now) (state_of self.old)
             ≡ if_begun has_begun (state_of self.new))) }
         ensures same { IfOk result (λ has_begun.

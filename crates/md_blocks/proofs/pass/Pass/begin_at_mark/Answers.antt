@@ -18,10 +18,9 @@ returns-then-branch-clause-state c is =
     let place = c.args.position.now in
     let begun = c.in_ok-begin_leaf.ensures.state is in (
       begun.0,
-      begun.1,
-      leaf_ends p.options.now begun.1 begun.0 c.args.depth c.args.is_whole (rest_of place)
+      leaf_ends p.options.now begun.0 c.args.depth c.args.is_whole (rest_of place)
           (ending_of p.bytes.now place) (state_of p) (state_of l)
-          (begun.2 ∙ ap (λ so. if_begun so (state_of l)) c.if-branch.true),
+          (begun.1 ∙ ap (λ so. if_begun so (state_of l)) c.if-branch.true),
     )
 
 pub returns-then-branch-2-clause-state : goal.returns-then-branch-2-clause-state
@@ -38,10 +37,10 @@ returns-then-branch-2-clause-state c is =
     let leaf = c.in_ok-begin_leaf.ensures.state is in
     let found = c.in_ok-begin_container.ensures.state is in
     let still = whole && is_in_paragraph (state_of l).leaf in
-    block_is p.options.now leaf.1 leaf.0 found.0 depth whole (is_underlined on (unindented rest)) rest ending
+    block_is p.options.now leaf.0 found.0 depth whole (is_underlined on (unindented rest)) rest ending
     (state_of p) (state_of l) (GoesOn (begun_of new.self new.position)) refl
-    (leaf.2 ∙ ap (λ so. if_begun so (state_of l)) c.if-branch.false)
-    (leaf.3 c.if-branch.false)
+    (leaf.1 ∙ ap (λ so. if_begun so (state_of l)) c.if-branch.false)
+    (leaf.2 c.if-branch.false)
     (ap (λ b. or_ends b (text_begun p.options.now found.0 depth whole rest ending (state_of l)))
     (ap (λ o. container_begun o.now found.0 depth still rest ending (state_of l))
     (sym c.begin_leaf.ensures.options)
@@ -72,10 +71,10 @@ returns-clause-state c is =
     ∙ ap (λ b. container_begun l.options.now found.0 depth still rest (ending_of b.now place) (state_of l))
     (sym c.begin_leaf.ensures.document)
     ∙ found.1 ∙ ap (λ so. if so then Some (begun_of k.self k.position) else None) c.if-branch-2.false in
-    block_is p.options.now leaf.1 leaf.0 text.0 depth whole (is_underlined on (unindented rest)) rest ending
+    block_is p.options.now leaf.0 text.0 depth whole (is_underlined on (unindented rest)) rest ending
     (state_of p) (state_of l) (Ends (state_of new)) refl
-    (leaf.2 ∙ ap (λ so. if_begun so (state_of l)) c.if-branch.false)
-    (leaf.3 c.if-branch.false)
+    (leaf.1 ∙ ap (λ so. if_begun so (state_of l)) c.if-branch.false)
+    (leaf.2 c.if-branch.false)
     (ap (λ b. or_ends b (text_begun p.options.now text.0 depth whole rest ending (state_of l)))
     (container_none p.options.now found.0 text.0 depth still rest ending (state_of l) none)
     ∙ ap (λ o. Ends (text_begun o.now text.0 depth whole rest ending (state_of l)))

@@ -1,5 +1,5 @@
 -- The indentation and the first byte decide.
-use Rattle.std.proofs.Common.{ℕ, Bool, ap, sym, ◌∙◌, ◌≡◌, true, false}
+use Rattle.std.proofs.Common.{ℕ, Bool, ap, sym, ◌∙◌, ◌≡◌, true}
 use Rattle.std.specs.Prelude.{get_or, nat_lt, if◌then◌else◌}
 use Rattle.std.proofs.lemmas.Bool.{le-ltb, lt-ltb}
 use Rattle.std.proofs.lemmas.Result.{IfOk-weaker}
@@ -29,8 +29,7 @@ returns-then-position-ge-CODE_INDENT-clause-state c is =
     let ending = ending_of p.bytes.now place in
     let n = defined_by p new in (
       n,
-      false,
-      ap (λ so. shallow so (block_begun p.options.now false n depth whole rest ending (state_of p))
+      ap (λ so. shallow so (block_begun p.options.now n depth whole rest ending (state_of p))
           (deep_read n depth whole rest ending (state_of p)))
           (ap (λ i. nat_lt i 4) (sym place.indents) ∙ le-ltb place.indent 4 c.if-position-ge-CODE_INDENT.true)
           ∙ ap Ends (sym c.in_ok-read_deep.ensures.state),
@@ -50,8 +49,7 @@ returns-then-is_text-clause-state c is =
     ap is_text (ap (λ t. get_or t 0 0) (text_is place) ∙ sym is) ∙ sym c.is_text.ensures
     ∙ c.if-is_text.true in (
       n,
-      false,
-      ap (λ so. shallow so (block_begun p.options.now false n depth whole rest ending (state_of p))
+      ap (λ so. shallow so (block_begun p.options.now n depth whole rest ending (state_of p))
           (deep_read n depth whole rest ending (state_of p)))
           (ap (λ i. nat_lt i 4) (sym place.indents)
           ∙ lt-ltb place.indent 4 c.if-position-ge-CODE_INDENT.false)
@@ -73,18 +71,17 @@ returns-clause-state c =
     let few = ap (λ i. nat_lt i 4) (sym place.indents)
     ∙ lt-ltb place.indent 4 c.if-position-ge-CODE_INDENT.false in
     IfOk-weaker c.begin_at_mark.result
-    (λ on. byte ≡ get_or (text_at place) 0 0 → (n : ℕ) × (alone : Bool)
-    × (block_begun p.options.now alone n depth whole rest ending (state_of p)
+    (λ on. byte ≡ get_or (text_at place) 0 0 → (n : ℕ)
+    × (block_begun p.options.now n depth whole rest ending (state_of p)
     ≡ (if on then GoesOn (begun_of new.self new.position) else Ends (state_of new.self))))
-    (λ on. byte ≡ get_or (text_at place) 0 0 → (n : ℕ) × (alone : Bool)
-    × (shallow (nat_lt (indent rest) 4) (block_begun p.options.now alone n depth whole rest ending
+    (λ on. byte ≡ get_or (text_at place) 0 0 → (n : ℕ)
+    × (shallow (nat_lt (indent rest) 4) (block_begun p.options.now n depth whole rest ending
     (state_of p))
     (deep_read n depth whole rest ending (state_of p))
     ≡ (if on then GoesOn (begun_of new.self new.position) else Ends (state_of new.self))))
     (λ on found is. let begun = found is in (
       begun.0,
-      begun.1,
-      ap (λ so. shallow so (block_begun p.options.now begun.1 begun.0 depth whole rest ending (state_of p))
-          (deep_read begun.0 depth whole rest ending (state_of p))) few ∙ begun.2,
+      ap (λ so. shallow so (block_begun p.options.now begun.0 depth whole rest ending (state_of p))
+          (deep_read begun.0 depth whole rest ending (state_of p))) few ∙ begun.1,
     ))
     c.begin_at_mark.ensures.state

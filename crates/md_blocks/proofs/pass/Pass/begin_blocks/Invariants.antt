@@ -17,8 +17,8 @@ invariant-parts l = record {
   left : Left (length l.position.line.now - l.position.at) l.initial.self.options.now l.depth l.is_whole
       (nat_lt 0 l.initial.position.ending) l.has_begun (rest_of l.position)
       (ending_of l.initial.self.bytes.now l.initial.position) (state_of l.self)
-      (λ defined is_alone. begun (length
-      (rest_of l.initial.position).text) l.initial.self.options.now is_alone
+      (λ defined. begun (length
+      (rest_of l.initial.position).text) l.initial.self.options.now
       defined l.matched l.is_whole (nat_lt 0 l.initial.position.ending) false
       (rest_of l.initial.position) (ending_of l.initial.self.bytes.now l.initial.position)
       (state_of l.initial.self));

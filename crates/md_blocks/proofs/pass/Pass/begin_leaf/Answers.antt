@@ -1,6 +1,6 @@
 -- The first byte says which leaf may begin.
-use Rattle.std.proofs.Common.{ℕ, Bool, List, ap, sym, subst, refl, ◌∙◌, ◌≡◌, ◌==◌, ◌&&◌, true}
-use Rattle.std.proofs.Common.{false, None}
+use Rattle.std.proofs.Common.{ℕ, Bool, List, ap, sym, subst, refl, ◌∙◌, ◌≡◌, ◌==◌, ◌&&◌}
+use Rattle.std.proofs.Common.{false, not, None}
 use Rattle.std.specs.Prelude.{◌||◌, get_or, if◌then◌else◌}
 use Rattle.std.proofs.lemmas.Bool.{ne_eqb}
 use Rattle.std.proofs.lemmas.Result.{IfOk-weaker}
@@ -14,14 +14,13 @@ use Rattle.md_blocks.specs.Rests.{Rest, unindented}
 use Rattle.md_blocks.specs.States.{State, is_in_paragraph}
 use Rattle.md_blocks.proofs.Choices.{chosen, tested}
 use Rattle.md_blocks.proofs.LineLemmas.{text_is}
-use Rattle.md_blocks.proofs.Steps.{alone_is, both_ok, fence_is_none, no_underline, unchanged}
+use Rattle.md_blocks.proofs.Steps.{both_ok, fence_is_none, no_underline, unchanged}
 use Rattle.md_blocks.proofs.pass.Pass.begin_leaf.Goals as goal
 
 -- what is claimed of it
 abbrev Claim : MarkdownOptions → ℕ → Bool → Rest → List ℕ → State → Bool → State → Type 0
 Claim options depth on rest ending state has new =
-    (n : ℕ) × (alone : Bool) × (chosen (get_or
-    (unindented rest) 0 0) options alone n depth on rest ending state
+    (n : ℕ) × (chosen (get_or (unindented rest) 0 0) options n depth on rest ending state
     ≡ if_begun has new) × (has ≡ false → new ≡ unless_underlined n on rest state)
 
 -- nothing is changed where the byte underlines nothing
@@ -49,8 +48,7 @@ returns-then-byte-eq35-clause-state c =
     (λ has begun same is. let first = ap (λ t. get_or t 0 0) (text_is place) ∙ sym is
     ∙ c.if-byte-eq35.true in (
       defined,
-      false,
-      ap (λ byte. chosen byte p.options.now false defined depth on rest ending (state_of p)) first
+      ap (λ byte. chosen byte p.options.now defined depth on rest ending (state_of p)) first
           ∙ ap (λ t. heading_begun defined depth t (state_of p)) (text_is place) ∙ begun,
       λ none. same none ∙ sym (stays 35 defined on rest (state_of p) (sym first) refl),
     ))
@@ -74,12 +72,11 @@ returns-then-is_fence_mark-clause-state c =
     → Claim p.options.now depth on rest ending (state_of p) has (state_of new))
     (λ has begun same is. let first = ap (λ t. get_or t 0 0) (text_is place) ∙ sym is in (
       begun.0,
-      false,
-      ap (λ b. chosen b p.options.now false begun.0 depth on rest ending (state_of p)) first
+      ap (λ b. chosen b p.options.now begun.0 depth on rest ending (state_of p)) first
           ∙ ap (λ so. tested so (byte == 96 || byte == 126) (byte == 36) (byte == 60) byte p.options.now
-          false begun.0 depth on rest ending (state_of p)) (ne_eqb byte 35 c.if-byte-eq35.false)
+          begun.0 depth on rest ending (state_of p)) (ne_eqb byte 35 c.if-byte-eq35.false)
           ∙ ap (λ so. tested false so (byte == 36) (byte == 60) byte p.options.now
-          false begun.0 depth on rest ending (state_of p)) fence
+          begun.0 depth on rest ending (state_of p)) fence
           ∙ begun.1,
       λ none. same none ∙ sym (stays byte begun.0 on rest (state_of p) (sym first)
           (fence_is_none byte fence)),
@@ -96,8 +93,7 @@ returns-then-not-self-clause-state c is =
     let on = c.args.is_whole && is_in_paragraph (state_of p).leaf in
     let first = ap (λ t. get_or t 0 0) (text_is place) ∙ sym is ∙ c.if-byte-eq36.true in (
       0,
-      false,
-      ap (λ byte. chosen byte p.options.now false 0 depth on rest ending (state_of p)) first
+      ap (λ byte. chosen byte p.options.now 0 depth on rest ending (state_of p)) first
           ∙ ap (λ so. if so then math_begun 0 depth rest ending (state_of p) else None) c.if-not-self.true,
       λ none. sym (stays 36 0 on rest (state_of p) (sym first) refl),
     )
@@ -119,8 +115,7 @@ returns-then-byte-eq36-clause-state c =
     (λ has begun same is. let first = ap (λ t. get_or t 0 0) (text_is place) ∙ sym is
     ∙ c.if-byte-eq36.true in (
       begun.0,
-      false,
-      ap (λ byte. chosen byte p.options.now false begun.0 depth on rest ending (state_of p)) first
+      ap (λ byte. chosen byte p.options.now begun.0 depth on rest ending (state_of p)) first
           ∙ ap (λ so. if so then math_begun begun.0 depth rest ending (state_of p) else None)
           c.if-not-self.false
           ∙ begun.1,
@@ -139,22 +134,22 @@ returns-then-byte-eq60-clause-state c =
     let on = c.args.is_whole && is_in_paragraph (state_of p).leaf in
     let in_paragraph = c.is_in_paragraph-in_paragraph.result in
     both_ok c.begin_html.result
-    (λ has. (alone : Bool) × (n : ℕ) × (in_paragraph ≡ true → alone ≡ false)
-    × (html_begun n depth (kind_begun alone (text_at place)) rest ending (state_of p)
+    (λ has. (n : ℕ)
+    × (html_begun n depth (kind_begun (not in_paragraph) (text_at place)) rest ending (state_of p)
     ≡ if_begun has (state_of new)))
     (λ has. has ≡ false → state_of new ≡ state_of p)
     (λ has. c.args.byte ≡ get_or (text_at place) 0 0
     → Claim p.options.now depth on rest ending (state_of p) has (state_of new))
     (λ has begun same is. let first = ap (λ t. get_or t 0 0) (text_is place) ∙ sym is
     ∙ c.if-byte-eq60.true in (
-      begun.1,
       begun.0,
-      ap (λ byte. chosen byte p.options.now begun.0 begun.1 depth on rest ending (state_of p)) first
-          ∙ ap (λ so. html_begun begun.1 depth (kind_begun so (unindented rest)) rest ending (state_of p))
-          (alone_is begun.0 on (λ so. begun.2 (c.is_in_paragraph-in_paragraph.ensures.value ∙ so)))
-          ∙ ap (λ t. html_begun begun.1 depth (kind_begun begun.0 t) rest ending (state_of p)) (text_is place)
-          ∙ begun.3,
-      λ none. same none ∙ sym (stays 60 begun.1 on rest (state_of p) (sym first) refl),
+      ap (λ byte. chosen byte p.options.now begun.0 depth on rest ending (state_of p)) first
+          ∙ ap (λ so. html_begun begun.0 depth (kind_begun (not so) (unindented rest)) rest ending (state_of p))
+          (sym c.is_in_paragraph-in_paragraph.ensures.value)
+          ∙ ap (λ t. html_begun begun.0 depth (kind_begun (not in_paragraph) t) rest ending (state_of p))
+          (text_is place)
+          ∙ begun.1,
+      λ none. same none ∙ sym (stays 60 begun.0 on rest (state_of p) (sym first) refl),
     ))
     c.begin_html.ensures.state c.begin_html.ensures.same
 
@@ -179,18 +174,17 @@ returns-clause-state c =
     subst (λ so. Claim p.options.now depth so rest ending (state_of p) has (state_of new))
     c.is_in_paragraph-in_paragraph.ensures.value (
       begun.0,
-      false,
-      ap (λ b. chosen b p.options.now false begun.0 depth in_paragraph rest ending (state_of p))
+      ap (λ b. chosen b p.options.now begun.0 depth in_paragraph rest ending (state_of p))
           (ap (λ t. get_or t 0 0) (text_is place) ∙ sym is)
           ∙ ap (λ so. tested so (byte == 96 || byte == 126) (byte == 36) (byte == 60) byte p.options.now
-          false begun.0 depth in_paragraph rest ending (state_of p)) (ne_eqb byte 35 c.if-byte-eq35.false)
+          begun.0 depth in_paragraph rest ending (state_of p)) (ne_eqb byte 35 c.if-byte-eq35.false)
           ∙ ap (λ so. tested false so (byte == 36) (byte == 60) byte p.options.now
-          false begun.0 depth in_paragraph rest ending (state_of p))
+          begun.0 depth in_paragraph rest ending (state_of p))
           (sym c.is_fence_mark.ensures ∙ c.if-is_fence_mark.false)
           ∙ ap (λ so. tested false false so (byte == 60) byte p.options.now
-          false begun.0 depth in_paragraph rest ending (state_of p)) (ne_eqb byte 36 c.if-byte-eq36.false)
+          begun.0 depth in_paragraph rest ending (state_of p)) (ne_eqb byte 36 c.if-byte-eq36.false)
           ∙ ap (λ so. tested false false false so byte p.options.now
-          false begun.0 depth in_paragraph rest ending (state_of p)) (ne_eqb byte 60 c.if-byte-eq60.false)
+          begun.0 depth in_paragraph rest ending (state_of p)) (ne_eqb byte 60 c.if-byte-eq60.false)
           ∙ begun.1,
       begun.2,
     ))

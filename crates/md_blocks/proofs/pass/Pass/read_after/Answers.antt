@@ -16,10 +16,9 @@ returns-then-branch-clause-state c =
     let new = c.continue_if.new.self in
     let place = c.args.position.now in
     let rest = rest_of place in
-    let other = begun (length rest.text) p.options.now false 0 c.args.matched c.args.is_whole
+    let other = begun (length rest.text) p.options.now 0 c.args.matched c.args.is_whole
     (nat_lt 0 place.ending) false rest (ending_of p.bytes.now place) (state_of p) in (
       0,
-      false,
       sym (ap (λ found. or_text found other) (c.in_ok-continue_if.ensures.state
           ∙ ap (λ so. if_begun so (state_of new)) c.if-branch.true)),
     )
@@ -34,20 +33,19 @@ returns-clause-state c =
     let whole = c.args.is_whole in
     let matched = c.args.matched in
     on_ok_weaker c.begin_blocks.result (λ read.
-    let other = begun (length rest.text) p.options.now read.1 read.0 matched whole (nat_lt 0 place.ending)
+    let other = begun (length rest.text) p.options.now read.0 matched whole (nat_lt 0 place.ending)
     false rest ending (state_of p) in (
       read.0,
-      read.1,
-      read.2
-          ∙ ap (λ q. begun (length (rest_of q).text) l.options.now read.1 read.0 matched whole
+      read.1
+          ∙ ap (λ q. begun (length (rest_of q).text) l.options.now read.0 matched whole
           (nat_lt 0 q.ending) false (rest_of q) (ending_of l.bytes.now q) (state_of l))
           (c.in_ok-continue_if.ensures.same c.if-branch.false)
-          ∙ ap (λ o. begun (length rest.text) o.now read.1 read.0 matched whole (nat_lt 0 place.ending)
+          ∙ ap (λ o. begun (length rest.text) o.now read.0 matched whole (nat_lt 0 place.ending)
           false rest (ending_of l.bytes.now place) (state_of l)) c.continue_if.ensures.options
-          ∙ ap (λ b. begun (length rest.text) p.options.now read.1 read.0 matched whole
+          ∙ ap (λ b. begun (length rest.text) p.options.now read.0 matched whole
           (nat_lt 0 place.ending)
           false rest (ending_of b.now place) (state_of l)) c.continue_if.ensures.document
-          ∙ ap (begun (length rest.text) p.options.now read.1 read.0 matched whole (nat_lt 0 place.ending)
+          ∙ ap (begun (length rest.text) p.options.now read.0 matched whole (nat_lt 0 place.ending)
           false rest ending) (c.in_ok-continue_if.ensures.stays c.if-branch.false)
           ∙ sym (ap (λ found. or_text found other) (c.in_ok-continue_if.ensures.state
           ∙ ap (λ so. if_begun so (state_of l)) c.if-branch.false)),

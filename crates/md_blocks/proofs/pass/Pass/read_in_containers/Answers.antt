@@ -9,7 +9,7 @@ use Rattle.md_blocks.proofs.Skipping.{blank_skips}
 use Rattle.md_blocks.proofs.pass.Pass.read_in_containers.Goals as goal
 
 pub returns-clause-skips : goal.returns-clause-skips
-returns-clause-skips c is options alone n ended rest ending further =
+returns-clause-skips c is options n ended rest ending further =
     let p = c.args.self.now in
     let new = c.read_after.new.self in
     let at = c.match_containers-matched.new.position in
@@ -21,7 +21,7 @@ returns-clause-skips c is options alone n ended rest ending further =
     ∙ ap (λ those. (matched 0 those line).count) c.as_slice.ensures.value in
     let left = c.match_containers-matched.ensures.rest
     ∙ ap (λ those. (matched 0 those line).rest) c.as_slice.ensures.value in
-    blank_skips options alone n found.1.0 is_whole ended line rest (ending_of p.bytes.now at) ending (state_of p)
+    blank_skips options n found.1.0 is_whole ended line rest (ending_of p.bytes.now at) ending (state_of p)
     (state_of new)
     (found.1.1
     ∙ ap (λ so. blank_waits so (blank_read found.1.0 c.match_containers-matched.result is_whole (rest_of at)
