@@ -271,18 +271,15 @@ emptied options one other depth whole on rest ending defined lines state all =
     (text_begun options other depth whole rest ending s)) (sym none)
 
 -- a block that begins where no leaf does, with one number for both
-abbrev pub Begins : MarkdownOptions → ℕ → Bool → Rest → List ℕ → State → Step → Type 0
-Begins options depth whole rest ending state step =
-    (n : ℕ) × (block_begun options n depth whole rest ending state ≡ step)
-
 pub block_is : (options : MarkdownOptions) (taken defined depth : ℕ) (whole is_line : Bool)
     (rest : Rest) (ending : List ℕ) (state left : State) (step : Step) →
     is_underlined (whole && is_in_paragraph state.leaf) (unindented rest) ≡ is_line →
     leaf_begun options taken depth (whole && is_in_paragraph state.leaf) rest ending state ≡ None →
     left ≡ unless_underlined taken (whole && is_in_paragraph state.leaf) rest state →
+    (left ≡ state → defined ≡ taken) →
     container_or options defined depth whole (whole && is_in_paragraph left.leaf) rest ending left ≡ step →
-    Begins options depth whole rest ending state step
-block_is options taken defined depth whole true rest ending state left step line no_leaf is_left is =
+    block_begun options taken depth whole rest ending state ≡ step
+block_is options taken defined depth whole true rest ending state left step line no_leaf is_left alike is =
     let on = whole && is_in_paragraph state.leaf in
     let text = unindented rest in
     let lines = paragraph_lines state.leaf in
@@ -291,31 +288,27 @@ block_is options taken defined depth whole true rest ending state left step line
     let kept : (whole && is_in_paragraph left.leaf) ≡ on =
     ap (λ s. whole && is_in_paragraph s.leaf) is_left
     ∙ on_kept whole (is_in_paragraph state.leaf) (get_or text 0 0 == 61 || get_or text 0 0 == 45)
-    (is_underline (get_or text 0 0) text) gone state refl refl in (
-      taken,
-      ap (λ l. leaf_or l (container_or options taken depth whole on rest ending
-          (unless_underlined taken on rest state))) no_leaf
-          ∙ ap (container_or options taken depth whole on rest ending) (sym is_left ∙ lost)
-          ∙ emptied options taken defined depth whole on rest ending taken lines state
-          (all_are options taken depth on rest ending state line no_leaf)
-          ∙ ap (container_or options defined depth whole on rest ending) (sym lost)
-          ∙ ap (λ o. container_or options defined depth whole o rest ending left) (sym kept) ∙ is,
-    )
-block_is options taken defined depth whole false rest ending state left step line no_leaf is_left is =
+    (is_underline (get_or text 0 0) text) gone state refl refl in
+    ap (λ l. leaf_or l (container_or options taken depth whole on rest ending
+    (unless_underlined taken on rest state))) no_leaf
+    ∙ ap (container_or options taken depth whole on rest ending) (sym is_left ∙ lost)
+    ∙ emptied options taken defined depth whole on rest ending taken lines state
+    (all_are options taken depth on rest ending state line no_leaf)
+    ∙ ap (container_or options defined depth whole on rest ending) (sym lost)
+    ∙ ap (λ o. container_or options defined depth whole o rest ending left) (sym kept) ∙ is
+block_is options taken defined depth whole false rest ending state left step line no_leaf is_left alike is =
     let on = whole && is_in_paragraph state.leaf in
     let lines = paragraph_lines state.leaf in
     let same : left ≡ state = is_left
     ∙ ap (λ so. if so then definitions_taken taken lines state else state) line in
-    let kept : (whole && is_in_paragraph left.leaf) ≡ on = ap (λ s. whole && is_in_paragraph s.leaf) same in (
-      defined,
-      ap (λ l. leaf_or l (container_or options defined depth whole on rest ending
-          (unless_underlined defined on rest state)))
-          (leaf_none options taken defined depth on rest ending state line no_leaf)
-          ∙ ap (λ so. container_or options defined depth whole on rest ending
-          (if so then definitions_taken defined lines state else state)) line
-          ∙ ap (container_or options defined depth whole on rest ending) (sym same)
-          ∙ ap (λ o. container_or options defined depth whole o rest ending left) (sym kept) ∙ is,
-    )
+    let kept : (whole && is_in_paragraph left.leaf) ≡ on = ap (λ s. whole && is_in_paragraph s.leaf) same in
+    ap (λ l. leaf_or l (container_or options taken depth whole on rest ending
+    (unless_underlined taken on rest state))) no_leaf
+    ∙ ap (λ so. container_or options taken depth whole on rest ending
+    (if so then definitions_taken taken lines state else state)) line
+    ∙ ap (container_or options taken depth whole on rest ending) (sym same)
+    ∙ ap (λ n. container_or options n depth whole on rest ending left) (sym (alike same))
+    ∙ ap (λ o. container_or options defined depth whole o rest ending left) (sym kept) ∙ is
 
 -- where a leaf begins
 pub leaf_ends : (options : MarkdownOptions) (n depth : ℕ) (whole : Bool) (rest : Rest)
@@ -331,7 +324,7 @@ leaf_ends options n depth whole rest ending state begun =
 texted : (options : MarkdownOptions) (n : ℕ) (on : Bool) (rest : Rest) (ending : List ℕ)
     (state text : State) →
     is_delimiter_row (unindented rest) ≡ false →
-    or_text (if on then table_begun options.tables n (unindented rest) ending
+    or_text (if on then table_begun options.tables (unindented rest) ending
     (paragraph_lines state.leaf) state
     else None) text ≡ text
 texted options n false rest ending state text none = refl
@@ -340,7 +333,7 @@ texted options n true rest ending state text none =
     let lines = paragraph_lines state.leaf in
     ap (λ so. or_text (if_begun so (with_leaf
     (InTable (length (delimiters those)) (last_line lines ∷ a_line those ending ∷ []))
-    (blank_written (paragraph_split n lines state)))) text)
+    (blank_written (paragraph_split lines state)))) text)
     (and_mid options.tables (is_delimiter_row those)
     (length (row_cells (last_line lines).text) == length (delimiters those)) none)
 

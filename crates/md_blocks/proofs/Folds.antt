@@ -9,7 +9,7 @@ use Rattle.md_blocks.specs.declared.html.HtmlKind.{HtmlKind}
 use Rattle.md_blocks.specs.declared.options.MarkdownOptions.{MarkdownOptions}
 use Rattle.md_blocks.specs.BlockStructure.{Step, Ends, GoesOn, begins_item, begun, blank_or, block_begun}
 use Rattle.md_blocks.specs.BlockStructure.{container_begun, deep_read, leaf_begun}
-use Rattle.md_blocks.specs.BlockStructure.{paragraph_lines, step_read, text_begun}
+use Rattle.md_blocks.specs.BlockStructure.{lines_defined, paragraph_lines, step_read, text_begun}
 use Rattle.md_blocks.specs.BlockStructure.{unless_underlined}
 use Rattle.md_blocks.specs.ContainerBlocks.{Begun, is_list_of, is_task, item_begun, quote_begun}
 use Rattle.md_blocks.specs.Entries.{Heading, Line}
@@ -102,7 +102,7 @@ outside options n depth true on rest ending state off is =
     ap (λ o. container_or options n depth true o rest ending (unless_underlined n o rest state)) off
     ∙ ap (λ so. or_ends (container_begun options n depth false rest ending state)
     (or_text (if so
-    then table_begun options.tables n (unindented rest) ending (paragraph_lines state.leaf) state else None)
+    then table_begun options.tables (unindented rest) ending (paragraph_lines state.leaf) state else None)
     (text_read n depth true (a_line (unindented rest) ending) state))) is
 outside options n depth false on rest ending state off is =
     ap (λ o. container_or options n depth false o rest ending (unless_underlined n o rest state)) off
@@ -324,58 +324,52 @@ begun_step fuel options n depth whole ended has rest ending state step no_blank 
 
 -- what is left of a line gives the state that the whole line gives
 abbrev pub Reads : ℕ → MarkdownOptions → ℕ → Bool → Bool → Bool → Rest → List ℕ → State →
-    (ℕ → State) → Type 0
+    State → Type 0
 Reads fuel options depth whole ended has rest ending state line =
-    (n : ℕ) → (m : ℕ) × (begun fuel options n depth whole ended has rest ending state ≡ line m)
+    begun fuel options (lines_defined state) depth whole ended has rest ending state ≡ line
 
 abbrev pub Left : ℕ → MarkdownOptions → ℕ → Bool → Bool → Bool → Rest → List ℕ → State →
-    (ℕ → State) → Type 0
+    State → Type 0
 Left count options depth whole ended has rest ending state line =
     (fuel : ℕ) × (count ≤ fuel) × Reads fuel options depth whole ended has rest ending state line
 
 -- a container leaves it so
-pub goes_on : (count later : ℕ) (options : MarkdownOptions) (defined depth : ℕ)
+pub goes_on : (count later : ℕ) (options : MarkdownOptions) (depth : ℕ)
     (whole ended has : Bool) (rest : Rest) (ending : List ℕ) (state : State) (next : Begun)
-    (line : ℕ → State) → is_blank_rest rest ≡ false → later < count →
-    step_read options defined depth whole rest ending state ≡ GoesOn next →
+    (line : State) → is_blank_rest rest ≡ false → later < count →
+    step_read options (lines_defined state) depth whole rest ending state ≡ GoesOn next →
     Left count options depth whole ended has rest ending state line →
     Left later options (length next.state.containers) whole ended true next.rest ending next.state line
-goes_on count later options defined depth whole ended has rest ending state next line
+goes_on count later options depth whole ended has rest ending state next line
     no_blank less is (zero, enough, reads) =
     absurd (omega (arith, less, enough))
-goes_on count later options defined depth whole ended has rest ending state next line
+goes_on count later options depth whole ended has rest ending state next line
     no_blank less is (suc fuel, enough, reads) = (
       fuel,
       omega (arith, less, enough),
-      λ n. let whole_line = reads defined in (
-        whole_line.0,
-        begun_alike fuel options n defined
-            (length next.state.containers) whole ended next.rest ending next.state
-            (step_settles options defined depth whole rest ending state next is)
-            ∙ sym (begun_step fuel options defined depth whole ended has rest ending state (GoesOn next)
-            no_blank is)
-            ∙ whole_line.1,
-      ),
+      begun_alike fuel options (lines_defined next.state) (lines_defined state)
+          (length next.state.containers) whole ended next.rest ending next.state
+          (step_settles options (lines_defined state) depth whole rest ending state next is)
+          ∙ sym (begun_step fuel options (lines_defined state) depth whole ended has rest ending state
+          (GoesOn next) no_blank is)
+          ∙ reads,
     )
 
 -- what ends the line gives its state
-pub ends_so : (count : ℕ) (options : MarkdownOptions) (defined depth : ℕ)
+pub ends_so : (count : ℕ) (options : MarkdownOptions) (depth : ℕ)
     (whole ended has : Bool) (rest : Rest) (ending : List ℕ) (state after : State)
-    (line : ℕ → State) → is_blank_rest rest ≡ false → 0 < count →
-    step_read options defined depth whole rest ending state ≡ Ends after →
+    (line : State) → is_blank_rest rest ≡ false → 0 < count →
+    step_read options (lines_defined state) depth whole rest ending state ≡ Ends after →
     Left count options depth whole ended has rest ending state line →
-    (m : ℕ) × (after ≡ line m)
-ends_so count options defined depth whole ended has rest ending state after line no_blank
+    after ≡ line
+ends_so count options depth whole ended has rest ending state after line no_blank
     some is (zero, enough, reads) =
     absurd (omega (arith, some, enough))
-ends_so count options defined depth whole ended has rest ending state after line no_blank
+ends_so count options depth whole ended has rest ending state after line no_blank
     some is (suc fuel, enough, reads) =
-    let whole_line = reads defined in (
-      whole_line.0,
-      sym (begun_step fuel options defined depth whole ended has rest ending state
-          (Ends after) no_blank is)
-          ∙ whole_line.1,
-    )
+    sym (begun_step fuel options (lines_defined state) depth whole ended has rest ending state
+    (Ends after) no_blank is)
+    ∙ reads
 
 -- the rest of a line has as many bytes as the line has after a position, or more
 pub long : (line : List ℕ) (at column : ℕ) (tab : Bool) →

@@ -7,6 +7,7 @@ use Rattle.md_blocks.specs.declared.options.MarkdownOptions.{MarkdownOptions}
 use Rattle.md_blocks.specs.Marks.{opens_item, may_interrupt}
 use Rattle.md_blocks.specs.Leaves.{is_underline}
 use Rattle.md_blocks.specs.Entries.{Line}
+use Rattle.md_blocks.specs.LinkDefinitions.{defined_lines}
 use Rattle.md_blocks.specs.Rests.{Rest, indent, is_blank_rest, unindented}
 use Rattle.md_blocks.specs.States.{State, Leaf, NoLeaf, InParagraph, InFenced, InMath, InHtml}
 use Rattle.md_blocks.specs.States.{is_in_paragraph, without_blank}
@@ -56,6 +57,10 @@ container_begun options defined depth in_paragraph rest ending state =
 -- the lines of the open paragraph
 abbrev pub paragraph_lines : Leaf → List Line
 paragraph_lines leaf = elim leaf [ InParagraph lines ↦ lines | _ ↦ [] ]
+
+-- how many of them are definitions of links (4.7)
+abbrev pub lines_defined : State → ℕ
+lines_defined state = defined_lines (paragraph_lines state.leaf)
 
 -- 4.3: whether a text that begins with a byte may underline the paragraph that the line continues
 abbrev pub may_underline : Bool → ℕ → Bool
@@ -108,7 +113,7 @@ abbrev pub text_begun : MarkdownOptions → ℕ → ℕ → Bool → Rest → Li
 text_begun options defined depth is_whole rest ending state =
     let text = unindented rest in
     let found = if is_whole && is_in_paragraph state.leaf
-    then table_begun options.tables defined text ending (paragraph_lines state.leaf) state
+    then table_begun options.tables text ending (paragraph_lines state.leaf) state
     else None in
     elim found [
       | Some table ↦ table
@@ -176,17 +181,17 @@ leaf_continued rest ending state = elim state.leaf [
 ]
 
 -- a line after so many open containers (steps 2 and 3)
-abbrev pub line_after : MarkdownOptions → ℕ → ℕ → Bool → Bool → Rest → List ℕ → State → State
-line_after options defined depth is_whole is_ended rest ending state =
+abbrev pub line_after : MarkdownOptions → ℕ → Bool → Bool → Rest → List ℕ → State → State
+line_after options depth is_whole is_ended rest ending state =
     elim (if is_whole then leaf_continued rest ending state else None) [
       | Some longer ↦ longer
-      | None ↦ begun (length rest.text) options defined depth is_whole is_ended false rest
-          ending state
+      | None ↦ begun (length rest.text) options (lines_defined state) depth is_whole is_ended
+          false rest ending state
     ]
 
 -- a line: it continues open containers (step 1), and is read after them
-abbrev pub line_read : MarkdownOptions → ℕ → Bool → Rest → List ℕ → State → State
-line_read options defined is_ended line ending state =
+abbrev pub line_read : MarkdownOptions → Bool → Rest → List ℕ → State → State
+line_read options is_ended line ending state =
     let after = matched 0 state.containers line in
-    line_after options defined after.count (after.count == length state.containers) is_ended
+    line_after options after.count (after.count == length state.containers) is_ended
     after.rest ending state

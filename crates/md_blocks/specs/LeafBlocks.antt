@@ -8,6 +8,7 @@ use Rattle.md_blocks.specs.declared.html.HtmlKind.{HtmlKind}
 use Rattle.md_blocks.specs.Marks.{run_of, opens_heading}
 use Rattle.md_blocks.specs.Leaves.{is_break, heading_content, blanks, word_length, opens_code}
 use Rattle.md_blocks.specs.Leaves.{closes_fence, is_underline, is_delimiter_row, delimiters}
+use Rattle.md_blocks.specs.LinkDefinitions.{defined_lines}
 use Rattle.md_blocks.specs.Tables.{row_cells}
 use Rattle.md_blocks.specs.declared.html.HtmlKind.TheVariants.{Tag}
 use Rattle.md_blocks.specs.HtmlBlocks.{html_kind, is_html_end, is_tag_alone, ends_at_blank_line}
@@ -151,17 +152,17 @@ is_table are_read text lines =
     are_read && (is_delimiter_row text
     && length (row_cells (last_line lines).text) == length (delimiters text))
 
-abbrev pub paragraph_split : ℕ → List Line → State → State
-paragraph_split defined lines state =
+abbrev pub paragraph_split : List Line → State → State
+paragraph_split lines state =
+    let before = take (length lines - 1) lines in
     with_leaf (InParagraph (last_line lines ∷ [])) (if nat_lt 1 (length lines)
-    then paragraph_closed defined (take (length lines - 1) lines) (with_leaf NoLeaf state)
-    else state)
+    then paragraph_closed (defined_lines before) before (with_leaf NoLeaf state) else state)
 
-abbrev pub table_begun : Bool → ℕ → List ℕ → List ℕ → List Line → State → Option State
-table_begun are_read defined text ending lines state =
+abbrev pub table_begun : Bool → List ℕ → List ℕ → List Line → State → Option State
+table_begun are_read text ending lines state =
     if_begun (is_table are_read text lines) (with_leaf
     (InTable (length (delimiters text)) (last_line lines ∷ a_line text ending ∷ []))
-    (blank_written (paragraph_split defined lines state)))
+    (blank_written (paragraph_split lines state)))
 
 -- how many cells all rows lack after a row with so many cells in a table of so many columns. A row
 -- has a cell, and by the parser's own rule none is read after which they lack more than 2^19
