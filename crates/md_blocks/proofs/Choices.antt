@@ -3,12 +3,11 @@ use Rattle.std.proofs.Common.{ℕ, Bool, List, [], ◌∷◌, ◌≡◌, ◌∙�
 use Rattle.std.proofs.Common.{refl, sym, ap, Option, Some, None}
 use Rattle.std.proofs.Common.{arith, length, drop, take, get_or, nat_lt, not, inl, inr}
 use Rattle.std.specs.Prelude.{◌||◌, if◌then◌else◌}
-use Rattle.std.proofs.lemmas.Bool.{and_parts, cases_Bool, eqb-true, false≢true, ltb-false}
+use Rattle.std.proofs.lemmas.Bool.{and_parts, cases_Bool, eqb-true, ltb-false}
 use Rattle.std.proofs.lemmas.List.{drop_all}
 use Rattle.md_blocks.specs.declared.block.ContainerKind.TheVariants.{FootnoteDefinition, Item, Quote}
-use Rattle.md_blocks.specs.declared.html.HtmlKind.{HtmlKind}
 use Rattle.md_blocks.specs.declared.options.MarkdownOptions.{MarkdownOptions}
-use Rattle.md_blocks.specs.BlockStructure.{Step, Ends, GoesOn, begins_item, block_begun, break_at}
+use Rattle.md_blocks.specs.BlockStructure.{Step, Ends, GoesOn, begins_item, block_begun}
 use Rattle.md_blocks.specs.BlockStructure.{container_begun}
 use Rattle.md_blocks.specs.BlockStructure.{footnote_at, item_at, leaf_begun, marks_begun, may_underline}
 use Rattle.md_blocks.specs.BlockStructure.{paragraph_lines, quote_at, text_begun, unless_underlined}
@@ -20,20 +19,19 @@ use Rattle.md_blocks.specs.LeafBlocks.{code_begun, definitions_taken, heading_be
 use Rattle.md_blocks.specs.LeafBlocks.{a_line, break_begun, html_begun, if_begun, kind_begun}
 use Rattle.md_blocks.specs.LeafBlocks.{paragraph_split, table_begun, text_read}
 use Rattle.md_blocks.specs.Progress.{is_text}
-use Rattle.md_blocks.specs.Leaves.{delimiters, is_break, is_delimiter_row, is_underline}
-use Rattle.md_blocks.specs.Leaves.{opens_code, opens_math}
+use Rattle.md_blocks.specs.Leaves.{delimiters, is_delimiter_row, is_underline}
 use Rattle.md_blocks.specs.Tables.{row_cells}
-use Rattle.md_blocks.specs.Marks.{ends_marker, is_digit, may_interrupt, number_length, opens_heading}
+use Rattle.md_blocks.specs.Marks.{may_interrupt, number_length}
 use Rattle.md_blocks.specs.OwnBlocks.{after_footnote, label_of, math_begun, opens_footnote}
 use Rattle.md_blocks.specs.Rests.{Rest, indent, passed, rest_at, skipped, unindented}
 use Rattle.md_blocks.specs.Stack.{innermost}
 use Rattle.md_blocks.specs.States.{State, InParagraph, InTable, NoLeaf, blank_written}
 use Rattle.md_blocks.specs.States.{containers_closed, is_in_paragraph}
 use Rattle.md_blocks.specs.States.{opened_in, with_entries, with_leaf, without_blank}
-use Rattle.md_blocks.proofs.Steps.{IsAlike, all_defined, alike_taken, left_of, marks_of}
+use Rattle.md_blocks.proofs.Steps.{IsAlike, all_defined, alike_taken, left_of}
 use Rattle.md_blocks.proofs.Steps.{no_underline, or_break, or_text}
 use Rattle.md_blocks.proofs.Steps.{room_after, tried, unchanged, untried, with_rest}
-use Rattle.md_blocks.proofs.TextBytes.{and_false, and_mid, no_item, no_item_at, no_row, other}
+use Rattle.md_blocks.proofs.TextBytes.{and_false, and_mid, no_item, no_row, other}
 
 -- an item after the leaf is closed
 abbrev list_after : ℕ → Bool → List ℕ → ℕ → State → State
@@ -123,40 +121,8 @@ container_none options one other depth on rest ending state =
     (some_if (nat_lt depth 95 && begins_item on (unindented rest)) (item_begun one depth rest ending state)
     (item_begun other depth rest ending state)))
 
--- whether a leaf begins doesn't either, unless the line is an underline
-if_none : (is : Bool) (x y : State) → if_begun is x ≡ None → if_begun is y ≡ None
-if_none true x y is = grind arith
-if_none false x y is = refl
-
-html_none : (found : Option HtmlKind) (one other depth : ℕ) (rest : Rest) (ending : List ℕ)
-    (state : State) → html_begun one depth found rest ending state ≡ None →
-    html_begun other depth found rest ending state ≡ None
-html_none None one other depth rest ending state is = refl
-html_none (Some kind) one other depth rest ending state is = grind arith
-
-break_none : (one other depth : ℕ) (text : List ℕ) (state : State) →
-    break_at one depth text state ≡ None → break_at other depth text state ≡ None
-break_none one other depth text state =
-    let mark = get_or text 0 0 in
-    either_none (mark == 42 || (mark == 45 || mark == 95)) _ _ _ _
-    (if_none (is_break mark text) _ _) (λ is. is)
-
-by_break : (may line rest : Bool) (n depth : ℕ) (text : List ℕ) (state taken made : State) →
-    (may && line) ≡ false →
-    (if may then or_break n depth text (if may && line then taken else state) (if_begun (line && rest) made)
-    else break_at n depth text state) ≡ break_at n depth text state
-by_break false line rest n depth text state taken made is = refl
-by_break true false rest n depth text state taken made is = refl
-by_break true true rest n depth text state taken made is = absurd (false≢true (sym is))
-
 abbrev pub is_underlined : Bool → List ℕ → Bool
 is_underlined on text = may_underline on (get_or text 0 0) && is_underline (get_or text 0 0) text
-
-marks_broken : (n depth : ℕ) (on : Bool) (text : List ℕ) (state : State) →
-    is_underlined on text ≡ false → marks_of text n depth on state ≡ break_at n depth text state
-marks_broken n depth on text state =
-    by_break (may_underline on (get_or text 0 0)) (is_underline (get_or text 0 0) text)
-    (nat_lt n (length (paragraph_lines state.leaf))) n depth text state _ _
 
 abbrev pub tested : Bool → Bool → Bool → Bool → ℕ → MarkdownOptions → ℕ → ℕ → Bool → Rest →
     List ℕ → State → Option State
@@ -173,22 +139,6 @@ abbrev pub chosen : ℕ → MarkdownOptions → ℕ → ℕ → Bool → Rest �
 chosen first options defined depth on rest ending state =
     tested (first == 35) (first == 96 || first == 126) (first == 36) (first == 60) first options
     defined depth on rest ending state
-
-pub leaf_none : (options : MarkdownOptions) (one other depth : ℕ) (on : Bool) (rest : Rest)
-    (ending : List ℕ) (state : State) → is_underlined on (unindented rest) ≡ false →
-    leaf_begun options one depth on rest ending state ≡ None →
-    leaf_begun options other depth on rest ending state ≡ None
-leaf_none options one other depth on rest ending state no_line =
-    let text = unindented rest in
-    let first = get_or text 0 0 in
-    either_none (first == 35) _ _ _ _ (if_none (opens_heading text) _ _)
-    (either_none (first == 96 || first == 126) _ _ _ _ (if_none (opens_code first text) _ _)
-    (either_none (first == 36) _ _ _ _
-    (either_none options.math _ _ _ _ (if_none (opens_math text) _ _) (λ is. is))
-    (either_none (first == 60) _ _ _ _
-    (html_none (kind_begun (not on) text) one other depth rest ending state)
-    (λ is. marks_broken other depth on text state no_line
-    ∙ break_none one other depth text state (sym (marks_broken one depth on text state no_line) ∙ is)))))
 
 -- an underline's first byte begins no other leaf
 at_line : (options : MarkdownOptions) (n depth : ℕ) (on : Bool) (rest : Rest)
@@ -383,15 +333,3 @@ text_block options n depth whole rest ending state is =
     ∙ ap (container_or options n depth whole on rest ending) (unchanged first n on text state refl may)
     ∙ ap (λ found. or_ends found (text_begun options n depth whole rest ending state)) no_container
     ∙ ap Ends (texted options n on rest ending state read (no_row text is))
-
--- no item begins at another byte
-pub no_item_begun : (n depth : ℕ) (on : Bool) (rest : Rest) (ending : List ℕ) (state : State) →
-    is_digit (get_or (unindented rest) 0 0) ≡ false →
-    ends_marker 0 (get_or (unindented rest) 0 0) ≡ false →
-    item_at n depth on rest ending state ≡ None
-no_item_begun n depth on rest ending state no_digit no_mark =
-    let text = unindented rest in
-    ap (λ so. if nat_lt depth 95 && (so && (not on || may_interrupt text))
-    then Some (item_begun n depth rest ending state) else None) (no_item_at text no_digit no_mark)
-    ∙ ap (λ so. if so then Some (item_begun n depth rest ending state) else None) (and_false
-    (nat_lt depth 95))
