@@ -1,9 +1,10 @@
 //! The pass over the lines of a document.
 
 ghost use Rattle.std.specs.Prelude.{◌≡◌, ◌≤◌, ◌<◌, ◌+◌, ◌++◌, ◌∷◌, []};
-ghost use Rattle.std.specs.Prelude.{ℕ, Bool, None, ◌&&◌, if◌then◌else◌, false, true, length, vec_len, List, OnOk, IfOk, IsTrue, nat_lt};
+ghost use Rattle.std.specs.Prelude.{ℕ, Bool, None, ◌&&◌, if◌then◌else◌, false, true, drop, length};
+ghost use Rattle.std.specs.Prelude.{vec_len, List, OnOk, IfOk, IsTrue, nat_lt};
 ghost use Rattle.md_blocks.specs.Tape.{enters, exits};
-ghost use Rattle.md_blocks.specs.Tapes.{has_info};
+ghost use Rattle.md_blocks.specs.Tapes.{are_whole, has_info, is_paragraph};
 
 use crate::block::Block;
 use crate::blocks::Blocks;
@@ -68,7 +69,8 @@ impl OpenLeaf {
     /// Whether it is indented code.
     #[inline(always)]
     pub(crate) fn is_indented(self) -> bool
-        ensures { (lines : List entries.Line) → result ≡ is_indented (leaf_of self lines) }
+        ensures state { (lines : List entries.Line) → result ≡ is_indented (leaf_of self lines) }
+        ensures no_paragraph { IsTrue result → is_paragraph self ≡ false }
     {
         matches!(self, OpenLeaf::Indented)
     }
@@ -104,6 +106,8 @@ pub(crate) struct Pass<'a> {
     ghost short: { length bytes.now ≤ 1152921504606846976 },
     ghost info: { has_info leaf ≡ true
         → nesting.leaves.start < vec_len nesting.leaves.lines },
+    ghost whole: { is_paragraph leaf ≡ true
+        → are_whole (drop nesting.leaves.start nesting.leaves.lines.items) ≡ true },
 }
 
 impl<'a> Pass<'a> {
@@ -114,7 +118,7 @@ impl<'a> Pass<'a> {
     ghost use Rattle.md_blocks.specs.Stack.{is_quote};
     ghost use Rattle.md_blocks.specs.States.{NoLeaf};
     ghost use Rattle.std.specs.List.{list_any};
-    ghost use Rattle.md_blocks.specs.Passes.{defined_by, leaf_of, state_of};
+    ghost use Rattle.md_blocks.specs.Passes.{defined_in, leaf_of, state_of};
     ghost use Rattle.md_blocks.specs.Positions.{IsIn, ending_of, rest_of};
     ghost use Rattle.md_blocks.specs.States.{opened_in, with_a_child, with_entries, with_leaf};
     ghost use Rattle.md_blocks.specs.Tapes.{entry_of, line_of, lines_end};
@@ -215,10 +219,10 @@ impl<'a> Pass<'a> {
     fn read_line(&mut self, position: &mut Position<'_>) -> Result<(), AllocError>
         requires in_document { IsIn self.old.bytes.now position.old }
         ensures state { (self.old.is_after_blank ≡ true → SkipsBlank (state_of self.old))
-            → OnOk result ((defined : ℕ) × (is_alone : Bool) × (state_of self.new
-            ≡ line_read self.old.options.now is_alone defined (nat_lt 0 position.old.ending)
+            → OnOk result (state_of self.new
+            ≡ line_read self.old.options.now (nat_lt 0 position.old.ending)
             (rest_of position.old) (ending_of self.old.bytes.now position.old)
-            (state_of self.old))) }
+            (state_of self.old)) }
         ensures skips { (self.old.is_after_blank ≡ true → SkipsBlank (state_of self.old))
             → OnOk result (self.new.is_after_blank ≡ true → SkipsBlank (state_of self.new)) }
         ensures document { self.new.bytes ≡ self.old.bytes }
@@ -244,10 +248,10 @@ impl<'a> Pass<'a> {
     #[inline(always)]
     fn read_in_containers(&mut self, position: &mut Position<'_>) -> Result<(), AllocError>
         requires in_document { IsIn self.old.bytes.now position.old }
-        ensures state { OnOk result ((defined : ℕ) × (is_alone : Bool) × (state_of self.new
-            ≡ line_read self.old.options.now is_alone defined (nat_lt 0 position.old.ending)
+        ensures state { OnOk result (state_of self.new
+            ≡ line_read self.old.options.now (nat_lt 0 position.old.ending)
             (rest_of position.old) (ending_of self.old.bytes.now position.old)
-            (state_of self.old))) }
+            (state_of self.old)) }
         ensures skips { OnOk result
             (self.new.is_after_blank ≡ true → SkipsBlank (state_of self.new)) }
         ensures document { self.new.bytes ≡ self.old.bytes }
@@ -272,15 +276,15 @@ impl<'a> Pass<'a> {
         is_whole: bool,
     ) -> Result<bool, AllocError>
         requires in_document { IsIn self.old.bytes.now position.old }
-        ensures state { OnOk result ((defined : ℕ) × (is_alone : Bool) × (state_of self.new
-            ≡ line_after self.old.options.now is_alone defined matched is_whole
+        ensures state { OnOk result (state_of self.new
+            ≡ line_after self.old.options.now matched is_whole
             (nat_lt 0 position.old.ending) (rest_of position.old)
-            (ending_of self.old.bytes.now position.old) (state_of self.old))) }
+            (ending_of self.old.bytes.now position.old) (state_of self.old)) }
         ensures blank { IfOk result (λ is_blank. is_blank ≡ true
-            → (is_blank_rest (rest_of position.old) ≡ true) × ((defined : ℕ) × (state_of self.new
-            ≡ blank_waits (nat_lt 0 position.old.ending) (blank_read defined matched is_whole
-            (rest_of position.old) (ending_of self.old.bytes.now position.old)
-            (state_of self.old))))) }
+            → (is_blank_rest (rest_of position.old) ≡ true) × (state_of self.new
+            ≡ blank_waits (nat_lt 0 position.old.ending) (blank_read (defined_in self.old) matched
+            is_whole (rest_of position.old) (ending_of self.old.bytes.now position.old)
+            (state_of self.old)))) }
         ensures document { self.new.bytes ≡ self.old.bytes }
         ensures options { self.new.options ≡ self.old.options }
     {
@@ -345,7 +349,7 @@ impl<'a> Pass<'a> {
     ) -> Result<(), AllocError>
         requires in_document { IsIn self.old.bytes.now position.old }
         ensures state { OnOk result (state_of self.new ≡ blank_waits (nat_lt 0 position.old.ending)
-            (blank_read (defined_by self.old self.new) matched is_whole (rest_of position.old)
+            (blank_read (defined_in self.old) matched is_whole (rest_of position.old)
             (ending_of self.old.bytes.now position.old) (state_of self.old))) }
         ensures document { self.new.bytes ≡ self.old.bytes }
         ensures options { self.new.options ≡ self.old.options }
@@ -386,7 +390,7 @@ impl<'a> Pass<'a> {
     ) -> Result<(), AllocError>
         requires in_document { IsIn self.old.bytes.now position.old }
         ensures state { OnOk result (state_of self.new ≡ blank_read
-            (defined_by self.old self.new) matched is_whole (rest_of position.old)
+            (defined_in self.old) matched is_whole (rest_of position.old)
             (ending_of self.old.bytes.now position.old) (state_of self.old)) }
         ensures document { self.new.bytes ≡ self.old.bytes }
         ensures options { self.new.options ≡ self.old.options }
@@ -419,6 +423,7 @@ impl<'a> Pass<'a> {
     /// Opens a leaf with its first line.
     #[inline(always)]
     pub(crate) fn begin(&mut self, leaf: OpenLeaf, line: Line) -> Result<(), AllocError>
+        requires whole { is_paragraph leaf ≡ true → line.columns ≡ 0 }
         ensures state { OnOk result (state_of self.new ≡ with_leaf
             (leaf_of leaf (line_of self.old.bytes.now line ∷ [])) (state_of self.old)) }
         ensures leaf { OnOk result (self.new.leaf ≡ leaf) }
@@ -436,6 +441,7 @@ impl<'a> Pass<'a> {
     /// Pushes a line of the open leaf.
     #[inline(always)]
     pub(crate) fn push_line(&mut self, line: Line) -> Result<(), AllocError>
+        requires whole { is_paragraph self.old.leaf ≡ true → line.columns ≡ 0 }
         ensures state { OnOk result (state_of self.new
             ≡ line_added (line_of self.old.bytes.now line) (state_of self.old)) }
         ensures start { self.new.nesting.leaves.start ≡ self.old.nesting.leaves.start }

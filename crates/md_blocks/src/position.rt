@@ -199,6 +199,7 @@ impl<'a> Position<'a> {
     pub(crate) fn text_line(&self) -> Line
         ensures end { result.end ≡ length self.now.line.now }
         ensures ending { result.ending ≡ self.now.ending }
+        ensures columns { result.columns ≡ 0 }
         ensures line { (bytes : List ℕ) → IsIn bytes self.now
             → line_of bytes result ≡ text_line bytes self.now }
     {
