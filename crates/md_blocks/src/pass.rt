@@ -1,7 +1,7 @@
 //! The pass over the lines of a document.
 
 ghost use Rattle.std.specs.Prelude.{◌≡◌, ◌≤◌, ◌<◌, ◌+◌, ◌++◌, ◌∷◌, []};
-ghost use Rattle.std.specs.Prelude.{ℕ, Bool, None, ◌&&◌, if◌then◌else◌, false, true, length, vec_len, List, OnOk, IfOk, IsTrue, nat_lt};
+ghost use Rattle.std.specs.Prelude.{ℕ, Bool, None, ◌&&◌, if◌then◌else◌, false, true, length, vec_len, List, OnOk, IfOk, IsTrue, nat_lt, drop};
 ghost use Rattle.md_blocks.specs.Tape.{enters, exits};
 ghost use Rattle.md_blocks.specs.Tapes.{has_info};
 
@@ -107,6 +107,7 @@ pub(crate) struct Pass<'a> {
 }
 
 impl<'a> Pass<'a> {
+    ghost use Rattle.md_blocks.specs.Documents.{Choice, document_read, lines_of, lines_read, mark_length};
     ghost use Rattle.md_blocks.specs.BlockStructure.{leaf_continued, line_after, line_read, started};
     ghost use Rattle.md_blocks.specs.LeafBlocks.{blank_read, blank_waits, if_begun, line_added};
     ghost use Rattle.md_blocks.specs.Progress.{SkipsBlank};
@@ -157,6 +158,8 @@ impl<'a> Pass<'a> {
     /// Returns the result.
     pub(crate) fn into_blocks(self) -> Blocks
         requires { vec_len self.nesting.stack ≤ 0 }
+        ensures tape { result.tape.items ≡ self.entry.nesting.tape.items }
+        ensures lines { result.lines.items ≡ self.entry.nesting.leaves.lines.items }
     {
         let Pass {
             nesting,
@@ -174,10 +177,32 @@ impl<'a> Pass<'a> {
 
     /// Reads the document.
     pub(crate) fn run(&mut self) -> Result<(), AllocError>
-        ensures { OnOk result (vec_len self.new.nesting.stack ≤ 0) }
+        requires first { self.old.is_after_blank ≡ false }
+        ensures closed { OnOk result (vec_len self.new.nesting.stack ≤ 0) }
+        ensures document { self.new.bytes ≡ self.old.bytes }
+        ensures state { self.old.options.now.front_matter ≡ false
+            → state_of self.old ≡ started
+            → OnOk result ((choices : List Choice) × (defined : ℕ) × (state_of self.new
+            ≡ document_read self.old.options.now choices defined self.old.bytes.now)) }
+    {
+        let from = self.read_front_matter()?;
+        self.read_lines(from)?;
+        self.close_unmatched(0)
+    }
+
+    /// Reads the lines that begin at `from`.
+    #[inline(always)]
+    fn read_lines(&mut self, from: usize) -> Result<(), AllocError>
+        requires first { self.old.is_after_blank ≡ false }
+        requires within { from ≤ length self.old.bytes.now }
+        ensures state { OnOk result ((choices : List Choice) × (state_of self.new
+            ≡ lines_read self.old.options.now choices (lines_of (drop from self.old.bytes.now))
+            (state_of self.old))) }
+        ensures document { self.new.bytes ≡ self.old.bytes }
+        ensures options { self.new.options ≡ self.old.options }
     {
         let bytes = self.bytes;
-        let mut at = self.read_front_matter()?;
+        let mut at = from;
         'lines: while at < bytes.len() {
             let end = line_end(bytes, at);
             let next = after_ending(bytes, end);
@@ -185,7 +210,7 @@ impl<'a> Pass<'a> {
             self.read_line(&mut Position::new(&bytes[..end], at, ending))?;
             at = next;
         }
-        self.close_unmatched(0)
+        Ok(())
     }
 
     /// Reads front matter, if the options say so. Returns the index after it, or after a byte order
@@ -193,6 +218,10 @@ impl<'a> Pass<'a> {
     fn read_front_matter(&mut self) -> Result<usize, AllocError>
         ensures off { self.old.options.now.front_matter ≡ false
             → OnOk result (self.new ≡ self.old) }
+        ensures mark { self.old.options.now.front_matter ≡ false
+            → IfOk result (λ from. from ≡ mark_length self.old.bytes.now) }
+        ensures within { IfOk result (λ from. from ≤ length self.old.bytes.now) }
+        ensures first { self.new.is_after_blank ≡ self.old.is_after_blank }
         ensures document { self.new.bytes ≡ self.old.bytes }
         ensures options { self.new.options ≡ self.old.options }
     {
@@ -201,7 +230,7 @@ impl<'a> Pass<'a> {
         }
         match front_matter(self.bytes) {
             Some(found) => {
-                self.put(Block::FrontMatter {
+                self.nesting.put(Block::FrontMatter {
                     ending: found.ending,
                 })?;
                 Ok(found.ending.end)

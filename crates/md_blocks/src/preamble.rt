@@ -1,5 +1,8 @@
 //! Skips what precedes the first line of a document: a byte order mark, and front matter.
 
+ghost use Rattle.std.specs.Prelude.{◌≡◌, ◌≤◌, length, IfSome};
+ghost use Rattle.md_blocks.specs.Documents.{mark_length};
+
 use md_lines::{Span, after_ending, line_end, trim_end};
 
 /// A byte order mark.
@@ -16,7 +19,10 @@ pub struct FrontMatter {
 }
 
 /// The beginning of a document, after a byte order mark.
-pub(crate) fn start_of(bytes: &[u8]) -> usize {
+pub(crate) fn start_of(bytes: &[u8]) -> usize
+    ensures value { result ≡ mark_length bytes.now }
+    ensures within { result ≤ length bytes.now }
+{
     if bytes.starts_with(BYTE_ORDER_MARK) {
         BYTE_ORDER_MARK.len()
     } else {
@@ -25,7 +31,9 @@ pub(crate) fn start_of(bytes: &[u8]) -> usize {
 }
 
 /// The front matter at the beginning of a document.
-pub fn front_matter(bytes: &[u8]) -> Option<FrontMatter> {
+pub fn front_matter(bytes: &[u8]) -> Option<FrontMatter>
+    ensures within { IfSome result (λ found. found.ending.end ≤ length bytes.now) }
+{
     let at = start_of(bytes);
     let end = line_end(bytes, at);
     if !is_fence(bytes, at, end) {

@@ -1,0 +1,72 @@
+-- A document: its lines, and what is read of them.
+use Rattle.std.specs.Prelude.{ℕ, Bool, List, [], ◌∷◌, ◌==◌, ◌&&◌, nat_eq, nat_lt, get_or, length, take, drop}
+use Rattle.std.specs.Prelude.{zero, suc, false, if◌then◌else◌}
+use Rattle.std.specs.List.{prefix_len, starts_with}
+use Rattle.md_lines.specs.Lines.{ends_no_line}
+use Rattle.md_blocks.specs.declared.options.MarkdownOptions.{MarkdownOptions}
+use Rattle.md_blocks.specs.BlockStructure.{line_read, started}
+use Rattle.md_blocks.specs.Entries.{Line, Entry}
+use Rattle.md_blocks.specs.Rests.{rest_at}
+use Rattle.md_blocks.specs.States.{State, closed_to}
+
+-- 2.1: the length of the line ending at the beginning of some bytes: a line feed, a carriage return,
+-- or a carriage return and a line feed; no ending at the end of the document
+abbrev pub ending_length : List ℕ → ℕ
+ending_length [] = 0
+ending_length (byte ∷ rest) = if byte == 13 && get_or rest 0 0 == 10 then 2 else 1
+
+-- 2.1: the first line of some bytes: those before a line feed or a carriage return, and its ending
+abbrev pub first_line : List ℕ → Line
+first_line bytes =
+    let count = prefix_len ends_no_line bytes in
+    let left = drop count bytes in
+    record { text = take count bytes; ending = take (ending_length left) left }
+
+-- the bytes after it
+abbrev pub after_line : List ℕ → List ℕ
+after_line bytes =
+    let left = drop (prefix_len ends_no_line bytes) bytes in
+    drop (ending_length left) left
+
+-- the lines of some bytes. Each takes a byte, so the length of the bytes is enough `fuel`
+abbrev pub lines_in : ℕ → List ℕ → List Line
+lines_in zero bytes = []
+lines_in (suc fuel) [] = []
+lines_in (suc fuel) (byte ∷ rest) =
+    first_line (byte ∷ rest) ∷ lines_in fuel (after_line (byte ∷ rest))
+
+abbrev pub lines_of : List ℕ → List Line
+lines_of bytes = lines_in (length bytes) bytes
+
+-- what a line's contract leaves open: whether its text is a tag alone on the line (6.10), and how
+-- many lines of the paragraph before it are definitions of links (4.7)
+pub record Choice : Type 0 where
+  pub is_alone : Bool
+  pub defined : ℕ
+
+abbrev pub first_choice : List Choice → Choice
+first_choice choices = get_or choices 0 (record { is_alone = false; defined = 0 })
+
+-- lines read one after the other, each with a choice of its own
+abbrev pub lines_read : MarkdownOptions → List Choice → List Line → State → State
+lines_read options choices [] state = state
+lines_read options choices (line ∷ lines) state =
+    let choice = first_choice choices in
+    lines_read options (drop 1 choices) lines (line_read options choice.is_alone choice.defined
+    (nat_lt 0 (length line.ending)) (rest_at 0 line.text) line.ending state)
+
+-- an own rule: a byte order mark at the beginning of a document is no text
+abbrev pub mark_length : List ℕ → ℕ
+mark_length bytes = if starts_with nat_eq bytes (239 ∷ 187 ∷ 191 ∷ []) then 3 else 0
+
+-- the state after a document without front matter: after its last line all that is open is closed;
+-- `defined` is how many lines of an open paragraph are definitions of links
+abbrev pub document_read : MarkdownOptions → List Choice → ℕ → List ℕ → State
+document_read options choices defined bytes =
+    closed_to defined 0
+    (lines_read options choices (lines_of (drop (mark_length bytes) bytes)) started)
+
+-- the entries of such a document
+abbrev pub document_entries : MarkdownOptions → List Choice → ℕ → List ℕ → List Entry
+document_entries options choices defined bytes =
+    (document_read options choices defined bytes).entries
