@@ -1,13 +1,15 @@
 -- The lines of a document, one after the other.
-use Rattle.std.proofs.Common.{ℕ, Bool, List, [], ◌∷◌, ◌≡◌, ◌∙◌, ◌==◌, ◌&&◌, ◌+◌, ◌-◌, ◌≤◌, ◌<◌, true}
+use Rattle.std.proofs.Common.{ℕ, Bool, Option, Some, None, List, [], ◌∷◌, ◌++◌, ◌≡◌, ◌∙◌, ◌==◌, ◌&&◌, ◌+◌, ◌-◌, ◌≤◌, ◌<◌, true}
 use Rattle.std.proofs.Common.{false, refl, sym, ap, arith, length, drop, take, get_or, nat_lt, not}
 use Rattle.std.proofs.Common.{zero, suc, inl, inr}
 use Rattle.std.specs.Prelude.{if◌then◌else◌}
 use Rattle.std.specs.List.{prefix_len}
-use Rattle.std.proofs.lemmas.Bool.{cases_Bool, ltb-false, ltb-true}
-use Rattle.std.proofs.lemmas.List.{length-drop, length-take-le, drop-drop, drop-take, at_drop_more, drop_all, get_or-drop}
+use Rattle.std.proofs.lemmas.Bool.{cases_Bool, cases_lt, false≢true, ltb-false, ltb-true}
+use Rattle.std.proofs.lemmas.List.{length-drop, length-take, length-take-le, drop-drop, drop-take, at_drop_more, drop_all, get_or-drop}
+use Rattle.std.proofs.lemmas.List.{take-take, take-append-drop}
 use Rattle.md_lines.specs.Lines.{after_ending, ends_no_line}
-use Rattle.md_blocks.specs.Documents.{after_line, ending_length, first_line, lines_in, lines_of}
+use Rattle.md_blocks.specs.Documents.{Front, after_line, ending_length, first_line, front_closed}
+use Rattle.md_blocks.specs.Documents.{front_opened, is_front_fence, lines_in, lines_of}
 use Rattle.md_blocks.specs.Entries.{Line}
 
 one_or_two : (b : Bool) → 1 ≤ (if b then 2 else 1)
@@ -107,3 +109,63 @@ pub ending_long : (bytes : List ℕ) (end next : ℕ) → end ≤ length bytes �
     next - end ≡ length (take (next - end) (drop end bytes))
 ending_long bytes end next inside there = sym (length-take-le (next - end) (drop end bytes)
     (omega (arith, length-drop end bytes, inside, there)))
+
+-- bytes up to one index, and from there up to another one
+grown : (bytes : List ℕ) (one other : ℕ) → one ≤ other →
+    take one bytes ++ drop one (take other bytes) ≡ take other bytes
+grown bytes one other le =
+    ap (λ those. those ++ drop one (take other bytes)) (sym (take-take one other bytes le))
+    ∙ take-append-drop one (take other bytes)
+
+pub sliced : (bytes : List ℕ) (one other : ℕ) → one ≤ other →
+    take (other - one) (drop one bytes) ≡ drop one (take other bytes)
+sliced bytes one other le =
+    sym (drop-take one (other - one) bytes)
+    ∙ ap (λ i. drop one (take i bytes)) (omega (arith, le))
+
+grown_by : (bytes : List ℕ) (end next : ℕ) → end ≤ next →
+    take end bytes ++ take (next - end) (drop end bytes) ≡ take next bytes
+grown_by bytes end next le =
+    ap (λ those. take end bytes ++ those) (sliced bytes end next le)
+    ∙ grown bytes end next le
+
+abbrev pub front_so : Bool → List ℕ → List ℕ → List Line → Option Front
+front_so is text before lines =
+    if is then Some (record { text = text; rest = lines }) else front_closed before lines
+
+-- a line after the first fence
+pub front_there : (bytes : List ℕ) (at end next : ℕ) → at < length bytes →
+    end ≡ at + prefix_len ends_no_line (drop at bytes) → next ≡ after_ending bytes end → at ≤ end →
+    end ≤ next → front_closed (take at bytes) (lines_of (drop at bytes))
+    ≡ front_so (is_front_fence (drop at (take end bytes))) (take end bytes) (take next bytes)
+    (lines_of (drop next bytes))
+front_there bytes at end next within end_is next_is before after =
+    let is = is_front_fence (drop at (take end bytes)) in
+    let lines = lines_of (drop next bytes) in
+    let ending = take (next - end) (drop end bytes) in
+    ap (front_closed (take at bytes)) (line_there bytes at end next within end_is next_is after)
+    ∙ ap (λ text. front_so is text (text ++ ending) lines) (grown bytes at end before)
+    ∙ ap (λ text. front_so is (take end bytes) text lines) (grown_by bytes end next after)
+
+-- the first line
+pub front_first : (bytes : List ℕ) (at end next : ℕ) → at < length bytes →
+    end ≡ at + prefix_len ends_no_line (drop at bytes) → next ≡ after_ending bytes end → at ≤ end →
+    end ≤ next → front_opened (take at bytes) (lines_of (drop at bytes))
+    ≡ (if is_front_fence (drop at (take end bytes))
+    then front_closed (take next bytes) (lines_of (drop next bytes)) else None)
+front_first bytes at end next within end_is next_is before after =
+    let is = is_front_fence (drop at (take end bytes)) in
+    let lines = lines_of (drop next bytes) in
+    let ending = take (next - end) (drop end bytes) in
+    ap (front_opened (take at bytes)) (line_there bytes at end next within end_is next_is after)
+    ∙ ap (λ text. if is then front_closed (text ++ ending) lines else None) (grown bytes at end before)
+    ∙ ap (λ text. if is then front_closed text lines else None) (grown_by bytes end next after)
+
+-- a fence has bytes
+pub has_fence : (bytes : List ℕ) (at end : ℕ) → at ≤ end →
+    is_front_fence (drop at (take end bytes)) ≡ true → at ≤ length bytes → at < length bytes
+has_fence bytes at end le is within = elim (cases_lt at (length bytes)) [
+  | inl before ↦ before
+  | inr after ↦ absurd (false≢true (ap is_front_fence (sym (drop_all at (take end bytes)
+      (omega (arith, after, length-take end bytes)))) ∙ is))
+]

@@ -6,6 +6,8 @@ use Rattle.md_lines.specs.Reading.{line_text}
 use Rattle.md_blocks.specs.declared.pass.Pass.{Pass}
 use Rattle.md_blocks.specs.declared.pass.OpenLeaf.{OpenLeaf}
 use Rattle.md_blocks.specs.declared.pass.OpenLeaf.TheVariants as leaf
+use Rattle.md_blocks.specs.declared.preamble.FrontMatter.{FrontMatter}
+use Rattle.md_blocks.specs.Documents.{Front, lines_of}
 use Rattle.md_blocks.specs.Entries.{Line}
 use Rattle.md_blocks.specs.LinkDefinitions.{defined_from}
 use Rattle.md_blocks.specs.Tapes.{line_of, first_text, entries_of}
@@ -62,3 +64,10 @@ abbrev pub HasWholeLines : ℕ → Pass → Type 0
 HasWholeLines end pass =
     let leaves = pass.nesting.leaves in
     All (λ line. line.columns ≡ 0) (drop leaves.start (take end leaves.lines.items))
+
+-- the front matter that the code finds
+abbrev pub front_at : List ℕ → FrontMatter → Front
+front_at bytes found = record {
+  text = take found.ending.start bytes;
+  rest = lines_of (drop found.ending.end bytes);
+}

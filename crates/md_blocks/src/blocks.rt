@@ -1,6 +1,6 @@
 //! The block pass as one call, and its result.
 
-ghost use Rattle.std.specs.Prelude.{◌≡◌, ℕ, List, IfOk, IsTrue, false};
+ghost use Rattle.std.specs.Prelude.{◌≡◌, ℕ, List, IfOk, IsTrue};
 ghost use Rattle.md_blocks.specs.Documents.{Choice, document_entries};
 ghost use Rattle.md_blocks.specs.Tape.{leads};
 ghost use Rattle.md_blocks.specs.Tapes.{entries_of};
@@ -44,8 +44,7 @@ pub fn parse_blocks(
     bytes: &[u8],
     options: &MarkdownOptions,
 ) -> Result<Blocks, AllocError>
-    ensures entries { options.now.front_matter ≡ false
-        → IfOk result (λ blocks. (choices : List Choice) × (defined : ℕ)
+    ensures entries { IfOk result (λ blocks. (choices : List Choice) × (defined : ℕ)
         × (entries_of bytes.now blocks.lines.items blocks.tape.items
         ≡ document_entries options.now choices defined bytes.now)) }
 {

@@ -107,7 +107,7 @@ pub(crate) struct Pass<'a> {
 }
 
 impl<'a> Pass<'a> {
-    ghost use Rattle.md_blocks.specs.Documents.{Choice, document_read, lines_of, lines_read, mark_length};
+    ghost use Rattle.md_blocks.specs.Documents.{Choice, document_read, lines_of, lines_read, beginning};
     ghost use Rattle.md_blocks.specs.BlockStructure.{leaf_continued, line_after, line_read, started};
     ghost use Rattle.md_blocks.specs.LeafBlocks.{blank_read, blank_waits, if_begun, line_added};
     ghost use Rattle.md_blocks.specs.Progress.{SkipsBlank};
@@ -180,8 +180,7 @@ impl<'a> Pass<'a> {
         requires first { self.old.is_after_blank ≡ false }
         ensures closed { OnOk result (vec_len self.new.nesting.stack ≤ 0) }
         ensures document { self.new.bytes ≡ self.old.bytes }
-        ensures state { self.old.options.now.front_matter ≡ false
-            → state_of self.old ≡ started
+        ensures state { state_of self.old ≡ started
             → OnOk result ((choices : List Choice) × (defined : ℕ) × (state_of self.new
             ≡ document_read self.old.options.now choices defined self.old.bytes.now)) }
     {
@@ -218,8 +217,11 @@ impl<'a> Pass<'a> {
     fn read_front_matter(&mut self) -> Result<usize, AllocError>
         ensures off { self.old.options.now.front_matter ≡ false
             → OnOk result (self.new ≡ self.old) }
-        ensures mark { self.old.options.now.front_matter ≡ false
-            → IfOk result (λ from. from ≡ mark_length self.old.bytes.now) }
+        ensures state { state_of self.old ≡ started → IfOk result (λ from.
+            beginning self.old.options.now self.old.bytes.now ≡ record {
+                state = state_of self.new;
+                lines = lines_of (drop from self.old.bytes.now);
+            }) }
         ensures within { IfOk result (λ from. from ≤ length self.old.bytes.now) }
         ensures first { self.new.is_after_blank ≡ self.old.is_after_blank }
         ensures document { self.new.bytes ≡ self.old.bytes }
