@@ -219,8 +219,8 @@ impl<'a> Pass<'a> {
             → OnOk result (self.new ≡ self.old) }
         ensures state { state_of self.old ≡ started → IfOk result (λ from.
             beginning self.old.options.now self.old.bytes.now ≡ record {
-                state = state_of self.new;
-                lines = lines_of (drop from self.old.bytes.now);
+              state = state_of self.new;
+              lines = lines_of (drop from self.old.bytes.now);
             }) }
         ensures within { IfOk result (λ from. from ≤ length self.old.bytes.now) }
         ensures first { self.new.is_after_blank ≡ self.old.is_after_blank }

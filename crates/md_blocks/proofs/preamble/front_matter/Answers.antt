@@ -1,8 +1,7 @@
 -- Each line after the first fence is in front matter, or is the second fence.
-use Rattle.std.proofs.Common.{◌≡◌, ◌∙◌, ◌<◌, arith, ap, sym, drop, length, take, refl, true, Some, None, [], Bool}
-use Rattle.std.proofs.Common.{ℕ, List, false, not}
+use Rattle.std.proofs.Common.{◌≡◌, ◌∙◌, ◌<◌, arith, ap, sym, drop, length, take, true, Some, None}
+use Rattle.std.proofs.Common.{ℕ, false}
 use Rattle.std.specs.Prelude.{if◌then◌else◌}
-use Rattle.std.proofs.lemmas.List.{drop_all}
 use Rattle.md_blocks.specs.Documents as documents
 use Rattle.md_blocks.specs.Documents.{Front, front_closed, is_front_fence, lines_of}
 use Rattle.md_blocks.proofs.DocumentLemmas.{front_first, front_so, front_there, has_fence, sliced}
