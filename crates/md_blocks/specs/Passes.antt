@@ -5,7 +5,9 @@ use Rattle.md_lines.specs.Reading.{line_text}
 use Rattle.md_blocks.specs.declared.pass.Pass.{Pass}
 use Rattle.md_blocks.specs.declared.pass.OpenLeaf.{OpenLeaf}
 use Rattle.md_blocks.specs.declared.pass.OpenLeaf.TheVariants as leaf
+use Rattle.md_blocks.specs.declared.preamble.FrontMatter.{FrontMatter}
 use Rattle.md_blocks.specs.BlockStructure.{lines_defined}
+use Rattle.md_blocks.specs.Documents.{Front, lines_of}
 use Rattle.md_blocks.specs.Entries.{Line}
 use Rattle.md_blocks.specs.LinkDefinitions.{defined_from}
 use Rattle.md_blocks.specs.Tapes.{are_whole, line_of, first_text, entries_of}
@@ -66,3 +68,10 @@ abbrev pub HasWholeLines : ℕ → Pass → Type 0
 HasWholeLines end pass =
     let leaves = pass.nesting.leaves in
     are_whole (drop leaves.start (take end leaves.lines.items)) ≡ true
+
+-- the front matter that the code finds
+abbrev pub front_at : List ℕ → FrontMatter → Front
+front_at bytes found = record {
+  text = take found.ending.start bytes;
+  rest = lines_of (drop found.ending.end bytes);
+}

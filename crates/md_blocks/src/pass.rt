@@ -111,6 +111,7 @@ pub(crate) struct Pass<'a> {
 }
 
 impl<'a> Pass<'a> {
+    ghost use Rattle.md_blocks.specs.Documents.{document_read, lines_of, lines_read, beginning};
     ghost use Rattle.md_blocks.specs.BlockStructure.{leaf_continued, line_after, line_read, started};
     ghost use Rattle.md_blocks.specs.LeafBlocks.{blank_read, blank_waits, if_begun, line_added};
     ghost use Rattle.md_blocks.specs.Progress.{SkipsBlank};
@@ -161,6 +162,8 @@ impl<'a> Pass<'a> {
     /// Returns the result.
     pub(crate) fn into_blocks(self) -> Blocks
         requires { vec_len self.nesting.stack ≤ 0 }
+        ensures tape { result.tape.items ≡ self.entry.nesting.tape.items }
+        ensures lines { result.lines.items ≡ self.entry.nesting.leaves.lines.items }
     {
         let Pass {
             nesting,
@@ -178,10 +181,31 @@ impl<'a> Pass<'a> {
 
     /// Reads the document.
     pub(crate) fn run(&mut self) -> Result<(), AllocError>
-        ensures { OnOk result (vec_len self.new.nesting.stack ≤ 0) }
+        requires first { self.old.is_after_blank ≡ false }
+        ensures closed { OnOk result (vec_len self.new.nesting.stack ≤ 0) }
+        ensures document { self.new.bytes ≡ self.old.bytes }
+        ensures state { state_of self.old ≡ started
+            → OnOk result (state_of self.new
+            ≡ document_read self.old.options.now self.old.bytes.now) }
+    {
+        let from = self.read_front_matter()?;
+        self.read_lines(from)?;
+        self.close_unmatched(0)
+    }
+
+    /// Reads the lines that begin at `from`.
+    #[inline(always)]
+    fn read_lines(&mut self, from: usize) -> Result<(), AllocError>
+        requires first { self.old.is_after_blank ≡ false }
+        requires within { from ≤ length self.old.bytes.now }
+        ensures state { OnOk result (state_of self.new
+            ≡ lines_read self.old.options.now (lines_of (drop from self.old.bytes.now))
+            (state_of self.old)) }
+        ensures document { self.new.bytes ≡ self.old.bytes }
+        ensures options { self.new.options ≡ self.old.options }
     {
         let bytes = self.bytes;
-        let mut at = self.read_front_matter()?;
+        let mut at = from;
         'lines: while at < bytes.len() {
             let end = line_end(bytes, at);
             let next = after_ending(bytes, end);
@@ -189,7 +213,7 @@ impl<'a> Pass<'a> {
             self.read_line(&mut Position::new(&bytes[..end], at, ending))?;
             at = next;
         }
-        self.close_unmatched(0)
+        Ok(())
     }
 
     /// Reads front matter, if the options say so. Returns the index after it, or after a byte order
@@ -197,6 +221,13 @@ impl<'a> Pass<'a> {
     fn read_front_matter(&mut self) -> Result<usize, AllocError>
         ensures off { self.old.options.now.front_matter ≡ false
             → OnOk result (self.new ≡ self.old) }
+        ensures state { state_of self.old ≡ started → IfOk result (λ from.
+            beginning self.old.options.now self.old.bytes.now ≡ record {
+              state = state_of self.new;
+              lines = lines_of (drop from self.old.bytes.now);
+            }) }
+        ensures within { IfOk result (λ from. from ≤ length self.old.bytes.now) }
+        ensures first { self.new.is_after_blank ≡ self.old.is_after_blank }
         ensures document { self.new.bytes ≡ self.old.bytes }
         ensures options { self.new.options ≡ self.old.options }
     {
@@ -205,7 +236,7 @@ impl<'a> Pass<'a> {
         }
         match front_matter(self.bytes) {
             Some(found) => {
-                self.put(Block::FrontMatter {
+                self.nesting.put(Block::FrontMatter {
                     ending: found.ending,
                 })?;
                 Ok(found.ending.end)

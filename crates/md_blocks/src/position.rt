@@ -50,6 +50,7 @@ impl<'a> Position<'a> {
         requires short { length line.now ≤ 1152921504606846976 }
         ensures at { result.at ≡ at }
         ensures line { result.line.now ≡ line.now }
+        ensures ending { result.ending ≡ ending }
         ensures rest { rest_of result ≡ rest_at 0 (drop at line.now) }
     {
         let (text, indent) = text_after(line, at, 0);
