@@ -9,8 +9,13 @@ use Rattle.std.proofs.lemmas.List.{length-drop, length-take, length-take-le, dro
 use Rattle.std.proofs.lemmas.List.{take-take, take-append-drop}
 use Rattle.md_lines.specs.Lines.{after_ending, ends_no_line}
 use Rattle.md_blocks.specs.Documents.{Front, after_line, ending_length, first_line, front_closed}
-use Rattle.md_blocks.specs.Documents.{front_opened, is_front_fence, lines_in, lines_of}
+use Rattle.md_blocks.specs.Documents.{beginning, document_read, front_opened, is_front_fence}
+use Rattle.md_blocks.specs.Documents.{lines_in, lines_of, lines_read}
 use Rattle.md_blocks.specs.Entries.{Line}
+use Rattle.std.specs.Prelude.{Result, Ok, Err, OnOk}
+use Rattle.md_blocks.specs.declared.options.MarkdownOptions.{MarkdownOptions}
+use Rattle.md_blocks.specs.BlockStructure.{lines_defined}
+use Rattle.md_blocks.specs.States.{State, closed_to}
 
 one_or_two : (b : Bool) → 1 ≤ (if b then 2 else 1)
 one_or_two true = omega arith
@@ -169,3 +174,12 @@ has_fence bytes at end le is within = elim (cases_lt at (length bytes)) [
   | inr after ↦ absurd (false≢true (ap is_front_fence (sym (drop_all at (take end bytes)
       (omega (arith, after, length-take end bytes)))) ∙ is))
 ]
+
+-- the state after a document, from that after its last line
+pub document_closed : {A E : Type 0} (r : Result A E) (new last : State) (options : MarkdownOptions)
+    (bytes : List ℕ) → last ≡ lines_read options (beginning options bytes).lines
+    (beginning options bytes).state →
+    OnOk r (new ≡ closed_to (lines_defined last) 0 last) → OnOk r (new ≡ document_read options bytes)
+document_closed (Ok _) new last options bytes same closed =
+    closed ∙ ap (λ state. closed_to (lines_defined state) 0 state) same
+document_closed (Err _) new last options bytes same closed = tt

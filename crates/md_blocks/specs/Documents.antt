@@ -1,6 +1,6 @@
 -- A document: its lines, and what is read of them.
 use Rattle.std.specs.Prelude.{ℕ, Bool, Option, Some, None, List, [], ◌∷◌, ◌++◌, ◌==◌, ◌&&◌, nat_eq, nat_lt, get_or, length, take, drop}
-use Rattle.std.specs.Prelude.{zero, suc, codes, false, if◌then◌else◌}
+use Rattle.std.specs.Prelude.{zero, suc, codes, if◌then◌else◌}
 use Rattle.std.specs.List.{prefix_len, starts_with}
 use Rattle.std.specs.Str.{bytes_eq}
 use Rattle.md_lines.specs.Lines.{ends_no_line}
