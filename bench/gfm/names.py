@@ -14,9 +14,12 @@ DEFINITION = re.compile(r"^(?:abbrev pub|pub record|pub data) (\w+)", re.MULTILI
 # or they are for the code alone.
 WITHIN = {
     "md_blocks/BlankLines": "in_list blank_before",
-    "md_blocks/BlockStructure": "started",
+    "md_blocks/BlockStructure": "started lines_defined",
     "md_blocks/ContainerBlocks": "container_of is_list_of",
     "md_blocks/Containers": "Matched",
+    "md_blocks/Documents": "ending_length first_line after_line lines_in lines_read mark_length "
+                           "is_front_fence Front front_closed front_opened front_matter Beginning "
+                           "beginning document_read document_entries",
     "md_blocks/Entries": "last_line",
     "md_blocks/HtmlBlocks": "raw_ends is_raw_name is_block_name name_length is_end somewhere "
                             "first_of_end",

@@ -3,12 +3,11 @@ use Rattle.std.proofs.Common.{ℕ, Bool, List, [], ◌∷◌, ◌≡◌, ◌∙�
 use Rattle.std.proofs.Common.{refl, sym, ap, Option, Some, None}
 use Rattle.std.proofs.Common.{arith, length, drop, take, get_or, nat_lt, not, inl, inr}
 use Rattle.std.specs.Prelude.{◌||◌, if◌then◌else◌}
-use Rattle.std.proofs.lemmas.Bool.{and_parts, cases_Bool, eqb-true, false≢true, ltb-false}
+use Rattle.std.proofs.lemmas.Bool.{and_parts, cases_Bool, eqb-true, ltb-false}
 use Rattle.std.proofs.lemmas.List.{drop_all}
 use Rattle.md_blocks.specs.declared.block.ContainerKind.TheVariants.{FootnoteDefinition, Item, Quote}
-use Rattle.md_blocks.specs.declared.html.HtmlKind.{HtmlKind}
 use Rattle.md_blocks.specs.declared.options.MarkdownOptions.{MarkdownOptions}
-use Rattle.md_blocks.specs.BlockStructure.{Step, Ends, GoesOn, begins_item, block_begun, break_at}
+use Rattle.md_blocks.specs.BlockStructure.{Step, Ends, GoesOn, begins_item, block_begun}
 use Rattle.md_blocks.specs.BlockStructure.{container_begun}
 use Rattle.md_blocks.specs.BlockStructure.{footnote_at, item_at, leaf_begun, marks_begun, may_underline}
 use Rattle.md_blocks.specs.BlockStructure.{paragraph_lines, quote_at, text_begun, unless_underlined}
@@ -20,20 +19,19 @@ use Rattle.md_blocks.specs.LeafBlocks.{code_begun, definitions_taken, heading_be
 use Rattle.md_blocks.specs.LeafBlocks.{a_line, break_begun, html_begun, if_begun, kind_begun}
 use Rattle.md_blocks.specs.LeafBlocks.{paragraph_split, table_begun, text_read}
 use Rattle.md_blocks.specs.Progress.{is_text}
-use Rattle.md_blocks.specs.Leaves.{delimiters, is_break, is_delimiter_row, is_underline}
-use Rattle.md_blocks.specs.Leaves.{opens_code, opens_math}
+use Rattle.md_blocks.specs.Leaves.{delimiters, is_delimiter_row, is_underline}
 use Rattle.md_blocks.specs.Tables.{row_cells}
-use Rattle.md_blocks.specs.Marks.{ends_marker, is_digit, may_interrupt, number_length, opens_heading}
+use Rattle.md_blocks.specs.Marks.{may_interrupt, number_length}
 use Rattle.md_blocks.specs.OwnBlocks.{after_footnote, label_of, math_begun, opens_footnote}
 use Rattle.md_blocks.specs.Rests.{Rest, indent, passed, rest_at, skipped, unindented}
 use Rattle.md_blocks.specs.Stack.{innermost}
 use Rattle.md_blocks.specs.States.{State, InParagraph, InTable, NoLeaf, blank_written}
 use Rattle.md_blocks.specs.States.{containers_closed, is_in_paragraph}
 use Rattle.md_blocks.specs.States.{opened_in, with_entries, with_leaf, without_blank}
-use Rattle.md_blocks.proofs.Steps.{IsAlike, all_defined, alike_taken, left_of, marks_of}
+use Rattle.md_blocks.proofs.Steps.{IsAlike, all_defined, alike_taken, left_of}
 use Rattle.md_blocks.proofs.Steps.{no_underline, or_break, or_text}
 use Rattle.md_blocks.proofs.Steps.{room_after, tried, unchanged, untried, with_rest}
-use Rattle.md_blocks.proofs.TextBytes.{and_false, and_mid, no_item, no_item_at, no_row, other}
+use Rattle.md_blocks.proofs.TextBytes.{and_false, and_mid, no_item, no_row, other}
 
 -- an item after the leaf is closed
 abbrev list_after : ℕ → Bool → List ℕ → ℕ → State → State
@@ -123,84 +121,36 @@ container_none options one other depth on rest ending state =
     (some_if (nat_lt depth 95 && begins_item on (unindented rest)) (item_begun one depth rest ending state)
     (item_begun other depth rest ending state)))
 
--- whether a leaf begins doesn't either, unless the line is an underline
-if_none : (is : Bool) (x y : State) → if_begun is x ≡ None → if_begun is y ≡ None
-if_none true x y is = grind arith
-if_none false x y is = refl
-
-html_none : (found : Option HtmlKind) (one other depth : ℕ) (rest : Rest) (ending : List ℕ)
-    (state : State) → html_begun one depth found rest ending state ≡ None →
-    html_begun other depth found rest ending state ≡ None
-html_none None one other depth rest ending state is = refl
-html_none (Some kind) one other depth rest ending state is = grind arith
-
-break_none : (one other depth : ℕ) (text : List ℕ) (state : State) →
-    break_at one depth text state ≡ None → break_at other depth text state ≡ None
-break_none one other depth text state =
-    let mark = get_or text 0 0 in
-    either_none (mark == 42 || (mark == 45 || mark == 95)) _ _ _ _
-    (if_none (is_break mark text) _ _) (λ is. is)
-
-by_break : (may line rest : Bool) (n depth : ℕ) (text : List ℕ) (state taken made : State) →
-    (may && line) ≡ false →
-    (if may then or_break n depth text (if may && line then taken else state) (if_begun (line && rest) made)
-    else break_at n depth text state) ≡ break_at n depth text state
-by_break false line rest n depth text state taken made is = refl
-by_break true false rest n depth text state taken made is = refl
-by_break true true rest n depth text state taken made is = absurd (false≢true (sym is))
-
 abbrev pub is_underlined : Bool → List ℕ → Bool
 is_underlined on text = may_underline on (get_or text 0 0) && is_underline (get_or text 0 0) text
 
-marks_broken : (n depth : ℕ) (on : Bool) (text : List ℕ) (state : State) →
-    is_underlined on text ≡ false → marks_of text n depth on state ≡ break_at n depth text state
-marks_broken n depth on text state =
-    by_break (may_underline on (get_or text 0 0)) (is_underline (get_or text 0 0) text)
-    (nat_lt n (length (paragraph_lines state.leaf))) n depth text state _ _
-
-abbrev pub tested : Bool → Bool → Bool → Bool → ℕ → MarkdownOptions → Bool → ℕ → ℕ → Bool → Rest →
+abbrev pub tested : Bool → Bool → Bool → Bool → ℕ → MarkdownOptions → ℕ → ℕ → Bool → Rest →
     List ℕ → State → Option State
-tested heading fence math html first options alone defined depth on rest ending state =
+tested heading fence math html first options defined depth on rest ending state =
     if heading then heading_begun defined depth (unindented rest) state
     else if fence then code_begun defined first depth rest state
     else if math then (if options.math then math_begun defined depth rest ending state else None)
     else if html
-    then html_begun defined depth (kind_begun (alone && not on) (unindented rest)) rest ending state
+    then html_begun defined depth (kind_begun (not on) (unindented rest)) rest ending state
     else marks_begun defined depth on rest state
 
 -- which leaf begins, by the first byte
-abbrev pub chosen : ℕ → MarkdownOptions → Bool → ℕ → ℕ → Bool → Rest → List ℕ → State → Option State
-chosen first options alone defined depth on rest ending state =
-    tested (first == 35) (first == 96 || first == 126) (first == 36) (first == 60) first options alone
+abbrev pub chosen : ℕ → MarkdownOptions → ℕ → ℕ → Bool → Rest → List ℕ → State → Option State
+chosen first options defined depth on rest ending state =
+    tested (first == 35) (first == 96 || first == 126) (first == 36) (first == 60) first options
     defined depth on rest ending state
 
-pub leaf_none : (options : MarkdownOptions) (alone : Bool) (one other depth : ℕ) (on : Bool) (rest : Rest)
-    (ending : List ℕ) (state : State) → is_underlined on (unindented rest) ≡ false →
-    leaf_begun options alone one depth on rest ending state ≡ None →
-    leaf_begun options alone other depth on rest ending state ≡ None
-leaf_none options alone one other depth on rest ending state no_line =
-    let text = unindented rest in
-    let first = get_or text 0 0 in
-    either_none (first == 35) _ _ _ _ (if_none (opens_heading text) _ _)
-    (either_none (first == 96 || first == 126) _ _ _ _ (if_none (opens_code first text) _ _)
-    (either_none (first == 36) _ _ _ _
-    (either_none options.math _ _ _ _ (if_none (opens_math text) _ _) (λ is. is))
-    (either_none (first == 60) _ _ _ _
-    (html_none (kind_begun (alone && not on) text) one other depth rest ending state)
-    (λ is. marks_broken other depth on text state no_line
-    ∙ break_none one other depth text state (sym (marks_broken one depth on text state no_line) ∙ is)))))
-
 -- an underline's first byte begins no other leaf
-at_line : (options : MarkdownOptions) (alone : Bool) (n depth : ℕ) (on : Bool) (rest : Rest)
+at_line : (options : MarkdownOptions) (n depth : ℕ) (on : Bool) (rest : Rest)
     (ending : List ℕ) (state : State) → is_underlined on (unindented rest) ≡ true →
-    leaf_begun options alone n depth on rest ending state ≡ marks_begun n depth on rest state
-at_line options alone n depth on rest ending state line =
+    leaf_begun options n depth on rest ending state ≡ marks_begun n depth on rest state
+at_line options n depth on rest ending state line =
     let first = get_or (unindented rest) 0 0 in
     let may = (and_parts _ _ line).0 in
     let mark = (and_parts on (first == 61 || first == 45) may).1 in
     elim (cases_Bool (first == 61)) [
-      | inl e ↦ ap (λ b. chosen b options alone n depth on rest ending state) (eqb-true first 61 e)
-      | inr e ↦ ap (λ b. chosen b options alone n depth on rest ending state)
+      | inl e ↦ ap (λ b. chosen b options n depth on rest ending state) (eqb-true first 61 e)
+      | inr e ↦ ap (λ b. chosen b options n depth on rest ending state)
           (eqb-true first 45 (ap (λ so. so || first == 45) (sym e) ∙ mark))
     ]
 
@@ -210,11 +160,11 @@ or_none n depth text left None is = refl
 or_none n depth text left (Some heading) is = grind arith
 
 -- so if none begins there, all lines of the paragraph are definitions
-all_are : (options : MarkdownOptions) (alone : Bool) (n depth : ℕ) (on : Bool) (rest : Rest)
+all_are : (options : MarkdownOptions) (n depth : ℕ) (on : Bool) (rest : Rest)
     (ending : List ℕ) (state : State) → is_underlined on (unindented rest) ≡ true →
-    leaf_begun options alone n depth on rest ending state ≡ None →
+    leaf_begun options n depth on rest ending state ≡ None →
     nat_lt n (length (paragraph_lines state.leaf)) ≡ false
-all_are options alone n depth on rest ending state line is =
+all_are options n depth on rest ending state line is =
     let text = unindented rest in
     let first = get_or text 0 0 in
     let parts = and_parts (may_underline on first) (is_underline first text) line in
@@ -222,7 +172,7 @@ all_are options alone n depth on rest ending state line is =
     let none = or_none n depth text (left_of text n on state)
     (heading_underlined n first text lines state)
     (sym (tried first n depth on text state refl parts.0)
-    ∙ sym (at_line options alone n depth on rest ending state line) ∙ is) in
+    ∙ sym (at_line options n depth on rest ending state line) ∙ is) in
     let made = with_leaf NoLeaf (with_entries
     (Heading (if first == 61 then 1 else 2) (drop n lines) ∷ []) (blank_written state)) in
     all_defined (nat_lt n (length lines)) state made
@@ -271,18 +221,15 @@ emptied options one other depth whole on rest ending defined lines state all =
     (text_begun options other depth whole rest ending s)) (sym none)
 
 -- a block that begins where no leaf does, with one number for both
-abbrev pub Begins : MarkdownOptions → ℕ → Bool → Rest → List ℕ → State → Step → Type 0
-Begins options depth whole rest ending state step =
-    (n : ℕ) × (alone : Bool) × (block_begun options alone n depth whole rest ending state ≡ step)
-
-pub block_is : (options : MarkdownOptions) (alone : Bool) (taken defined depth : ℕ) (whole is_line : Bool)
+pub block_is : (options : MarkdownOptions) (taken defined depth : ℕ) (whole is_line : Bool)
     (rest : Rest) (ending : List ℕ) (state left : State) (step : Step) →
     is_underlined (whole && is_in_paragraph state.leaf) (unindented rest) ≡ is_line →
-    leaf_begun options alone taken depth (whole && is_in_paragraph state.leaf) rest ending state ≡ None →
+    leaf_begun options taken depth (whole && is_in_paragraph state.leaf) rest ending state ≡ None →
     left ≡ unless_underlined taken (whole && is_in_paragraph state.leaf) rest state →
+    (left ≡ state → defined ≡ taken) →
     container_or options defined depth whole (whole && is_in_paragraph left.leaf) rest ending left ≡ step →
-    Begins options depth whole rest ending state step
-block_is options alone taken defined depth whole true rest ending state left step line no_leaf is_left is =
+    block_begun options taken depth whole rest ending state ≡ step
+block_is options taken defined depth whole true rest ending state left step line no_leaf is_left alike is =
     let on = whole && is_in_paragraph state.leaf in
     let text = unindented rest in
     let lines = paragraph_lines state.leaf in
@@ -291,40 +238,34 @@ block_is options alone taken defined depth whole true rest ending state left ste
     let kept : (whole && is_in_paragraph left.leaf) ≡ on =
     ap (λ s. whole && is_in_paragraph s.leaf) is_left
     ∙ on_kept whole (is_in_paragraph state.leaf) (get_or text 0 0 == 61 || get_or text 0 0 == 45)
-    (is_underline (get_or text 0 0) text) gone state refl refl in (
-      taken,
-      alone,
-      ap (λ l. leaf_or l (container_or options taken depth whole on rest ending
-          (unless_underlined taken on rest state))) no_leaf
-          ∙ ap (container_or options taken depth whole on rest ending) (sym is_left ∙ lost)
-          ∙ emptied options taken defined depth whole on rest ending taken lines state
-          (all_are options alone taken depth on rest ending state line no_leaf)
-          ∙ ap (container_or options defined depth whole on rest ending) (sym lost)
-          ∙ ap (λ o. container_or options defined depth whole o rest ending left) (sym kept) ∙ is,
-    )
-block_is options alone taken defined depth whole false rest ending state left step line no_leaf is_left is =
+    (is_underline (get_or text 0 0) text) gone state refl refl in
+    ap (λ l. leaf_or l (container_or options taken depth whole on rest ending
+    (unless_underlined taken on rest state))) no_leaf
+    ∙ ap (container_or options taken depth whole on rest ending) (sym is_left ∙ lost)
+    ∙ emptied options taken defined depth whole on rest ending taken lines state
+    (all_are options taken depth on rest ending state line no_leaf)
+    ∙ ap (container_or options defined depth whole on rest ending) (sym lost)
+    ∙ ap (λ o. container_or options defined depth whole o rest ending left) (sym kept) ∙ is
+block_is options taken defined depth whole false rest ending state left step line no_leaf is_left alike is =
     let on = whole && is_in_paragraph state.leaf in
     let lines = paragraph_lines state.leaf in
     let same : left ≡ state = is_left
     ∙ ap (λ so. if so then definitions_taken taken lines state else state) line in
-    let kept : (whole && is_in_paragraph left.leaf) ≡ on = ap (λ s. whole && is_in_paragraph s.leaf) same in (
-      defined,
-      alone,
-      ap (λ l. leaf_or l (container_or options defined depth whole on rest ending
-          (unless_underlined defined on rest state)))
-          (leaf_none options alone taken defined depth on rest ending state line no_leaf)
-          ∙ ap (λ so. container_or options defined depth whole on rest ending
-          (if so then definitions_taken defined lines state else state)) line
-          ∙ ap (container_or options defined depth whole on rest ending) (sym same)
-          ∙ ap (λ o. container_or options defined depth whole o rest ending left) (sym kept) ∙ is,
-    )
+    let kept : (whole && is_in_paragraph left.leaf) ≡ on = ap (λ s. whole && is_in_paragraph s.leaf) same in
+    ap (λ l. leaf_or l (container_or options taken depth whole on rest ending
+    (unless_underlined taken on rest state))) no_leaf
+    ∙ ap (λ so. container_or options taken depth whole on rest ending
+    (if so then definitions_taken taken lines state else state)) line
+    ∙ ap (container_or options taken depth whole on rest ending) (sym same)
+    ∙ ap (λ n. container_or options n depth whole on rest ending left) (sym (alike same))
+    ∙ ap (λ o. container_or options defined depth whole o rest ending left) (sym kept) ∙ is
 
 -- where a leaf begins
-pub leaf_ends : (options : MarkdownOptions) (alone : Bool) (n depth : ℕ) (whole : Bool) (rest : Rest)
+pub leaf_ends : (options : MarkdownOptions) (n depth : ℕ) (whole : Bool) (rest : Rest)
     (ending : List ℕ) (state begun : State) →
-    leaf_begun options alone n depth (whole && is_in_paragraph state.leaf) rest ending state ≡ Some begun →
-    block_begun options alone n depth whole rest ending state ≡ Ends (without_blank begun)
-leaf_ends options alone n depth whole rest ending state begun =
+    leaf_begun options n depth (whole && is_in_paragraph state.leaf) rest ending state ≡ Some begun →
+    block_begun options n depth whole rest ending state ≡ Ends (without_blank begun)
+leaf_ends options n depth whole rest ending state begun =
     let on = whole && is_in_paragraph state.leaf in
     ap (λ found. leaf_or found (container_or options n depth whole on rest ending
     (unless_underlined n on rest state)))
@@ -333,7 +274,7 @@ leaf_ends options alone n depth whole rest ending state begun =
 texted : (options : MarkdownOptions) (n : ℕ) (on : Bool) (rest : Rest) (ending : List ℕ)
     (state text : State) →
     is_delimiter_row (unindented rest) ≡ false →
-    or_text (if on then table_begun options.tables n (unindented rest) ending
+    or_text (if on then table_begun options.tables (unindented rest) ending
     (paragraph_lines state.leaf) state
     else None) text ≡ text
 texted options n false rest ending state text none = refl
@@ -342,13 +283,13 @@ texted options n true rest ending state text none =
     let lines = paragraph_lines state.leaf in
     ap (λ so. or_text (if_begun so (with_leaf
     (InTable (length (delimiters those)) (last_line lines ∷ a_line those ending ∷ []))
-    (blank_written (paragraph_split n lines state)))) text)
+    (blank_written (paragraph_split lines state)))) text)
     (and_mid options.tables (is_delimiter_row those)
     (length (row_cells (last_line lines).text) == length (delimiters those)) none)
 
 pub text_block : (options : MarkdownOptions) (n depth : ℕ) (whole : Bool) (rest : Rest)
     (ending : List ℕ) (state : State) → is_text (get_or (unindented rest) 0 0) ≡ true →
-    block_begun options false n depth whole rest ending state
+    block_begun options n depth whole rest ending state
     ≡ Ends (text_read n depth whole (a_line (unindented rest) ending) state)
 text_block options n depth whole rest ending state is =
     let on = whole && is_in_paragraph state.leaf in
@@ -357,18 +298,18 @@ text_block options n depth whole rest ending state is =
     let may : may_underline on first ≡ false = no_underline on first
     (ap (λ so. so || first == 45) (other 61 first is refl) ∙ other 45 first is refl) in
     let read = text_read n depth whole (a_line text ending) state in
-    let no_leaf : leaf_begun options false n depth on rest ending state ≡ None =
+    let no_leaf : leaf_begun options n depth on rest ending state ≡ None =
     ap (λ so. tested so (first == 96 || first == 126) (first == 36)
-    (first == 60) first options false n depth on rest ending state)
+    (first == 60) first options n depth on rest ending state)
     (other 35 first is refl)
     ∙ ap (λ so. tested false (so || first == 126) (first == 36)
-    (first == 60) first options false n depth on rest ending state)
+    (first == 60) first options n depth on rest ending state)
     (other 96 first is refl)
-    ∙ ap (λ so. tested false so (first == 36) (first == 60) first options false n depth on rest ending state)
+    ∙ ap (λ so. tested false so (first == 36) (first == 60) first options n depth on rest ending state)
     (other 126 first is refl)
-    ∙ ap (λ so. tested false false so (first == 60) first options false n depth on rest ending state)
+    ∙ ap (λ so. tested false false so (first == 60) first options n depth on rest ending state)
     (other 36 first is refl)
-    ∙ ap (λ so. tested false false false so first options false n depth on rest ending state)
+    ∙ ap (λ so. tested false false false so first options n depth on rest ending state)
     (other 60 first is refl)
     ∙ untried first n depth on text state refl may
     ∙ ap (λ so. if so || (first == 45 || first == 95) then break_begun n first depth text state else None)
@@ -392,15 +333,3 @@ text_block options n depth whole rest ending state is =
     ∙ ap (container_or options n depth whole on rest ending) (unchanged first n on text state refl may)
     ∙ ap (λ found. or_ends found (text_begun options n depth whole rest ending state)) no_container
     ∙ ap Ends (texted options n on rest ending state read (no_row text is))
-
--- no item begins at another byte
-pub no_item_begun : (n depth : ℕ) (on : Bool) (rest : Rest) (ending : List ℕ) (state : State) →
-    is_digit (get_or (unindented rest) 0 0) ≡ false →
-    ends_marker 0 (get_or (unindented rest) 0 0) ≡ false →
-    item_at n depth on rest ending state ≡ None
-no_item_begun n depth on rest ending state no_digit no_mark =
-    let text = unindented rest in
-    ap (λ so. if nat_lt depth 95 && (so && (not on || may_interrupt text))
-    then Some (item_begun n depth rest ending state) else None) (no_item_at text no_digit no_mark)
-    ∙ ap (λ so. if so then Some (item_begun n depth rest ending state) else None) (and_false
-    (nat_lt depth 95))

@@ -1,15 +1,15 @@
 -- The blocks of a line, with one number of definitions for all of them.
 use Rattle.std.proofs.Common.{ℕ, Bool, List, [], ◌∷◌, ◌≡◌, ◌∙◌, ◌==◌, ◌&&◌, ◌+◌, ◌≤◌, ◌<◌, true}
 use Rattle.std.proofs.Common.{false, refl, sym, ap, Option, Some, None}
-use Rattle.std.proofs.Common.{arith, length, drop, get_or, nat_lt, not, inl, inr, zero, suc}
+use Rattle.std.proofs.Common.{arith, length, drop, get_or, nat_lt, not, zero, suc}
 use Rattle.std.specs.Prelude.{◌||◌, ◌-◌, ◌%◌, replicate, if◌then◌else◌}
 use Rattle.std.proofs.lemmas.List.{length-append, length-drop, length-replicate}
-use Rattle.std.proofs.lemmas.Bool.{cases_Bool, eqb-true, false≢true}
+use Rattle.std.proofs.lemmas.Bool.{false≢true}
 use Rattle.md_blocks.specs.declared.html.HtmlKind.{HtmlKind}
 use Rattle.md_blocks.specs.declared.options.MarkdownOptions.{MarkdownOptions}
 use Rattle.md_blocks.specs.BlockStructure.{Step, Ends, GoesOn, begins_item, begun, blank_or, block_begun}
-use Rattle.md_blocks.specs.BlockStructure.{container_begun, deep_read, footnote_at, item_at, leaf_begun}
-use Rattle.md_blocks.specs.BlockStructure.{paragraph_lines, quote_at, step_read, text_begun}
+use Rattle.md_blocks.specs.BlockStructure.{container_begun, deep_read, leaf_begun}
+use Rattle.md_blocks.specs.BlockStructure.{lines_defined, paragraph_lines, step_read, text_begun}
 use Rattle.md_blocks.specs.BlockStructure.{unless_underlined}
 use Rattle.md_blocks.specs.ContainerBlocks.{Begun, is_list_of, is_task, item_begun, quote_begun}
 use Rattle.md_blocks.specs.Entries.{Heading, Line}
@@ -18,7 +18,7 @@ use Rattle.md_blocks.specs.LeafBlocks.{a_line, fence_of, first_word, heading_of,
 use Rattle.md_blocks.specs.LeafBlocks.{if_begun, indented_read, kind_begun}
 use Rattle.md_blocks.specs.LeafBlocks.{line_added, row_read, table_begun, text_read}
 use Rattle.md_blocks.specs.Leaves.{opens_code, opens_math}
-use Rattle.md_blocks.specs.Marks.{ends_marker, is_digit, number_length, opens_heading, run_of}
+use Rattle.md_blocks.specs.Marks.{number_length, opens_heading, run_of}
 use Rattle.md_blocks.specs.OwnBlocks.{after_dollars, after_footnote, opens_footnote}
 use Rattle.md_blocks.specs.Rests.{Rest, first_of, indent, is_blank_rest, is_none, passed, rest_at}
 use Rattle.md_blocks.specs.Rests.{text_of, unindented}
@@ -29,7 +29,7 @@ use Rattle.md_blocks.specs.States.{closed_to, containers_closed, is_in_paragraph
 use Rattle.md_blocks.specs.States.{list_closed, with_a_child}
 use Rattle.md_blocks.specs.States.{with_entries, with_leaf}
 use Rattle.md_blocks.proofs.Choices.{container_or, containers_alike, followed, leaf_or}
-use Rattle.md_blocks.proofs.Choices.{no_item_begun, or_ends, tested}
+use Rattle.md_blocks.proofs.Choices.{or_ends}
 use Rattle.md_blocks.proofs.Steps.{IsAlike, break_after, or_text, room_after, with_rest}
 use Rattle.md_blocks.proofs.TextBytes.{and_false}
 
@@ -55,8 +55,8 @@ html_after found depth rest ending closed = elim found [
       (with_leaf (InHtml kind (a_line rest.text ending ∷ [])) (room_after depth closed)))
 ]
 
-abbrev leaf_after : MarkdownOptions → Bool → ℕ → Rest → List ℕ → State → Option State
-leaf_after options alone depth rest ending closed =
+abbrev leaf_after : MarkdownOptions → ℕ → Rest → List ℕ → State → Option State
+leaf_after options depth rest ending closed =
     let text = unindented rest in
     let first = get_or text 0 0 in
     let room = room_after depth closed in
@@ -70,15 +70,15 @@ leaf_after options alone depth rest ending closed =
     else if first == 36
     then (if options.math then if_begun (opens_math text) (with_leaf (InMath (fence_of 36 rest)
     (if is_none content then [] else a_line content ending ∷ [])) room) else None)
-    else if first == 60 then html_after (kind_begun (alone && true) text) depth rest ending closed
+    else if first == 60 then html_after (kind_begun true text) depth rest ending closed
     else break_after depth text closed
 
-leaves_alike : (options : MarkdownOptions) (alone : Bool) (one other depth : ℕ) (rest : Rest)
+leaves_alike : (options : MarkdownOptions) (one other depth : ℕ) (rest : Rest)
     (ending : List ℕ) (state : State) → IsAlike state →
-    leaf_begun options alone one depth false rest ending state
-    ≡ leaf_begun options alone other depth false rest ending state
-leaves_alike options alone one other depth rest ending state alike =
-    ap (leaf_after options alone depth rest ending) (alike one other)
+    leaf_begun options one depth false rest ending state
+    ≡ leaf_begun options other depth false rest ending state
+leaves_alike options one other depth rest ending state alike =
+    ap (leaf_after options depth rest ending) (alike one other)
 
 abbrev text_after : ℕ → Line → State → State
 text_after depth line closed =
@@ -102,17 +102,17 @@ outside options n depth true on rest ending state off is =
     ap (λ o. container_or options n depth true o rest ending (unless_underlined n o rest state)) off
     ∙ ap (λ so. or_ends (container_begun options n depth false rest ending state)
     (or_text (if so
-    then table_begun options.tables n (unindented rest) ending (paragraph_lines state.leaf) state else None)
+    then table_begun options.tables (unindented rest) ending (paragraph_lines state.leaf) state else None)
     (text_read n depth true (a_line (unindented rest) ending) state))) is
 outside options n depth false on rest ending state off is =
     ap (λ o. container_or options n depth false o rest ending (unless_underlined n o rest state)) off
 
 -- a step where no paragraph is open
-steps_alike : (options : MarkdownOptions) (alone : Bool) (one other depth : ℕ) (whole : Bool) (rest : Rest)
+steps_alike : (options : MarkdownOptions) (one other depth : ℕ) (whole : Bool) (rest : Rest)
     (ending : List ℕ) (state : State) → is_in_paragraph state.leaf ≡ false →
-    step_read options alone one depth whole rest ending state
-    ≡ step_read options alone other depth whole rest ending state
-steps_alike options alone one other depth whole rest ending state is =
+    step_read options one depth whole rest ending state
+    ≡ step_read options other depth whole rest ending state
+steps_alike options one other depth whole rest ending state is =
     let on = whole && is_in_paragraph state.leaf in
     let off : on ≡ false = ap (λ so. whole && so) is ∙ and_false whole in
     let alike = alike_there state is in
@@ -122,22 +122,22 @@ steps_alike options alone one other depth whole rest ending state is =
     else indented_read depth whole rest ending state) is
     ∙ sym (ap (λ so. if so then text_read other depth whole line state
     else indented_read depth whole rest ending state) is) in
-    let to : (n : ℕ) → block_begun options alone n depth whole rest ending state
-    ≡ leaf_or (leaf_begun options alone n depth false rest ending state)
+    let to : (n : ℕ) → block_begun options n depth whole rest ending state
+    ≡ leaf_or (leaf_begun options n depth false rest ending state)
     (or_ends (container_begun options n depth false rest ending state) (text_read n depth whole line state)) =
-    λ n. ap (λ o. leaf_or (leaf_begun options alone n depth o rest ending state)
+    λ n. ap (λ o. leaf_or (leaf_begun options n depth o rest ending state)
     (container_or options n depth whole on rest ending (unless_underlined n on rest state))) off
-    ∙ ap (leaf_or (leaf_begun options alone n depth false rest ending state))
+    ∙ ap (leaf_or (leaf_begun options n depth false rest ending state))
     (outside options n depth whole on rest ending state off is) in
-    ap (λ d. if few then block_begun options alone one depth whole rest ending state else Ends d) deep
+    ap (λ d. if few then block_begun options one depth whole rest ending state else Ends d) deep
     ∙ ap (λ b. if few then b else Ends (deep_read other depth whole rest ending state)) (to one
     ∙ ap (λ l. leaf_or l (or_ends (container_begun options one depth false rest ending state)
     (text_read one depth whole line state)))
-    (leaves_alike options alone one other depth rest ending state alike)
-    ∙ ap (λ c. leaf_or (leaf_begun options alone other depth false rest ending state) (or_ends c
+    (leaves_alike options one other depth rest ending state alike)
+    ∙ ap (λ c. leaf_or (leaf_begun options other depth false rest ending state) (or_ends c
     (text_read one depth whole line state)))
     (containers_alike options one other depth false rest ending state alike)
-    ∙ ap (λ t. leaf_or (leaf_begun options alone other depth false rest ending state)
+    ∙ ap (λ t. leaf_or (leaf_begun options other depth false rest ending state)
     (or_ends (container_begun options other depth false rest ending state) t))
     (texts_after one other depth whole line state alike)
     ∙ sym (to other))
@@ -156,56 +156,8 @@ container_of_step None None text next is = ap begun_in is
 container_of_step None (Some begun) text next is = ap begun_in is
 container_of_step (Some leaf) container text next is = absurd (false≢true (sym (ap is_end is)))
 
--- none begins where HTML may begin
-none_at_html : (options : MarkdownOptions) (n depth : ℕ) (on : Bool) (rest : Rest) (ending : List ℕ)
-    (state : State) → get_or (unindented rest) 0 0 ≡ 60 →
-    container_begun options n depth on rest ending state ≡ None
-none_at_html options n depth on rest ending state is =
-    ap (λ first. if first == 62 then quote_at n depth rest state
-    else if first == 91 then footnote_at options.footnotes n depth rest state
-    else item_at n depth on rest ending state) is
-    ∙ no_item_begun n depth on rest ending state (ap is_digit is) (ap (ends_marker 0) is)
-
--- a container begins whether or not a tag is alone on its line
-goes_alone : (options : MarkdownOptions) (alone other : Bool) (n depth : ℕ) (whole : Bool) (rest : Rest)
-    (ending : List ℕ) (state : State) (next : Begun) →
-    block_begun options alone n depth whole rest ending state ≡ GoesOn next →
-    block_begun options other n depth whole rest ending state ≡ GoesOn next
-goes_alone options alone other n depth whole rest ending state next is =
-    let on = whole && is_in_paragraph state.leaf in
-    let first = get_or (unindented rest) 0 0 in
-    let left = unless_underlined n on rest state in
-    let container = container_begun options n depth on rest ending left in
-    let text = text_begun options n depth whole rest ending left in
-    elim (cases_Bool (first == 60)) [
-      | inl e ↦ absurd (some_not next (sym (none_at_html options n depth on rest ending left
-          (eqb-true first 60 e))
-          ∙ container_of_step (leaf_begun options alone n depth on rest ending state) container text next is))
-      | inr e ↦ ap (λ found. leaf_or found (or_ends container text))
-          (ap (λ so. tested (first == 35) (first == 96 || first == 126) (first == 36) so first options
-          other n depth on rest ending state) e
-          ∙ sym (ap (λ so. tested (first == 35) (first == 96 || first == 126) (first == 36) so first options
-          alone n depth on rest ending state) e)) ∙ is
-    ] where
-      some_not : (next : Begun) → None ≡ Some next → ⊥
-      some_not next is = false≢true (ap (λ found. elim found [ Some _ ↦ true | None ↦ false ]) is)
-
 abbrev shallow : Bool → Step → State → Step
 shallow few block deep = if few then block else Ends deep
-
-goes_if : (few : Bool) (one other : Step) (deep : State) (next : Begun) →
-    (one ≡ GoesOn next → other ≡ GoesOn next) → shallow few one deep ≡ GoesOn next →
-    shallow few other deep ≡ GoesOn next
-goes_if true one other deep next f is = f is
-goes_if false one other deep next f is = absurd (false≢true (sym (ap is_end is)))
-
-pub step_alone : (options : MarkdownOptions) (alone other : Bool) (n depth : ℕ) (whole : Bool) (rest : Rest)
-    (ending : List ℕ) (state : State) (next : Begun) →
-    step_read options alone n depth whole rest ending state ≡ GoesOn next →
-    step_read options other n depth whole rest ending state ≡ GoesOn next
-step_alone options alone other n depth whole rest ending state next =
-    goes_if (nat_lt (indent rest) 4) _ _ _ next
-    (goes_alone options alone other n depth whole rest ending state next)
 
 -- after a container no paragraph is open, or nothing is left of the line
 abbrev pub is_settled : Begun → Bool
@@ -278,10 +230,10 @@ settled_there options n depth on rest ending state =
       either true a b first second = first
       either false a b first second = second
 
-step_settles : (options : MarkdownOptions) (alone : Bool) (n depth : ℕ) (whole : Bool) (rest : Rest)
+step_settles : (options : MarkdownOptions) (n depth : ℕ) (whole : Bool) (rest : Rest)
     (ending : List ℕ) (state : State) (next : Begun) →
-    step_read options alone n depth whole rest ending state ≡ GoesOn next → is_settled next ≡ true
-step_settles options alone n depth whole rest ending state next =
+    step_read options n depth whole rest ending state ≡ GoesOn next → is_settled next ≡ true
+step_settles options n depth whole rest ending state next =
     settle (nat_lt (indent rest) 4) where
       on : Bool
       on = whole && is_in_paragraph state.leaf
@@ -290,20 +242,20 @@ step_settles options alone n depth whole rest ending state next =
       left = unless_underlined n on rest state
 
       settle : (few : Bool) →
-          shallow few (block_begun options alone n depth whole rest ending state)
+          shallow few (block_begun options n depth whole rest ending state)
           (deep_read n depth whole rest ending state) ≡ GoesOn next → is_settled next ≡ true
       settle true is = sym (ap settles (container_of_step
-          (leaf_begun options alone n depth on rest ending state)
+          (leaf_begun options n depth on rest ending state)
           (container_begun options n depth on rest ending left)
           (text_begun options n depth whole rest ending left) next is))
           ∙ settled_there options n depth on rest ending left
       settle false is = absurd (false≢true (sym (ap is_end is)))
 
 -- the rest of a line after a step
-abbrev followed_by : ℕ → MarkdownOptions → Bool → ℕ → Bool → Bool → List ℕ → Step → State
-followed_by fuel options alone n whole ended ending step = elim step [
+abbrev followed_by : ℕ → MarkdownOptions → ℕ → Bool → Bool → List ℕ → Step → State
+followed_by fuel options n whole ended ending step = elim step [
   | Ends after ↦ after
-  | GoesOn next ↦ begun fuel options alone n (length next.state.containers) whole ended true next.rest
+  | GoesOn next ↦ begun fuel options n (length next.state.containers) whole ended true next.rest
       ending next.state
 ]
 
@@ -312,18 +264,18 @@ unopened true p is no_blank = absurd (false≢true (sym no_blank))
 unopened false true is no_blank = absurd (false≢true is)
 unopened false false is no_blank = refl
 
-steps_follow : (fuel : ℕ) (options : MarkdownOptions) (alone : Bool) (one other depth : ℕ)
+steps_follow : (fuel : ℕ) (options : MarkdownOptions) (one other depth : ℕ)
     (whole ended : Bool) (rest : Rest) (ending : List ℕ) (state : State) (step : Step) →
-    step_read options alone other depth whole rest ending state ≡ step →
+    step_read options other depth whole rest ending state ≡ step →
     ((next : Begun) → is_settled next ≡ true →
-    begun fuel options alone one (length next.state.containers) whole ended true next.rest ending next.state
-    ≡ begun fuel options alone other
+    begun fuel options one (length next.state.containers) whole ended true next.rest ending next.state
+    ≡ begun fuel options other
     (length next.state.containers) whole ended true next.rest ending next.state) →
-    followed_by fuel options alone one whole ended ending step
-    ≡ followed_by fuel options alone other whole ended ending step
-steps_follow fuel options alone one other depth whole ended rest ending state (Ends after) is inner = refl
-steps_follow fuel options alone one other depth whole ended rest ending state (GoesOn next) is inner =
-    inner next (step_settles options alone other depth whole rest ending state next is)
+    followed_by fuel options one whole ended ending step
+    ≡ followed_by fuel options other whole ended ending step
+steps_follow fuel options one other depth whole ended rest ending state (Ends after) is inner = refl
+steps_follow fuel options one other depth whole ended rest ending state (GoesOn next) is inner =
+    inner next (step_settles options other depth whole rest ending state next is)
 
 blank_case : (blank : Bool) (state one other : State) → (blank ≡ false → one ≡ other) →
     (if blank then state else one) ≡ (if blank then state else other)
@@ -331,102 +283,93 @@ blank_case true state one other same = refl
 blank_case false state one other same = same refl
 
 -- after a container the number counts for nothing
-pub begun_alike : (fuel : ℕ) (options : MarkdownOptions) (alone : Bool) (one other depth : ℕ)
+pub begun_alike : (fuel : ℕ) (options : MarkdownOptions) (one other depth : ℕ)
     (whole ended : Bool) (rest : Rest) (ending : List ℕ) (state : State) →
     is_settled (with_rest rest state) ≡ true →
-    begun fuel options alone one depth whole ended true rest ending state
-    ≡ begun fuel options alone other depth whole ended true rest ending state
-begun_alike zero options alone one other depth whole ended rest ending state settled = refl
-begun_alike (suc fuel) options alone one other depth whole ended rest ending state settled =
+    begun fuel options one depth whole ended true rest ending state
+    ≡ begun fuel options other depth whole ended true rest ending state
+begun_alike zero options one other depth whole ended rest ending state settled = refl
+begun_alike (suc fuel) options one other depth whole ended rest ending state settled =
     blank_case (is_blank_rest rest) state _ _ (λ no_blank.
-    ap (followed_by fuel options alone one whole ended ending)
-    (steps_alike options alone one other depth whole rest ending state
+    ap (followed_by fuel options one whole ended ending)
+    (steps_alike options one other depth whole rest ending state
     (unopened (is_blank_rest rest) (is_in_paragraph state.leaf) settled no_blank))
-    ∙ steps_follow fuel options alone one other depth whole ended rest ending state
-    (step_read options alone other depth whole rest ending state) refl
-    (λ next there. begun_alike fuel options alone one other (length next.state.containers) whole ended
+    ∙ steps_follow fuel options one other depth whole ended rest ending state
+    (step_read options other depth whole rest ending state) refl
+    (λ next there. begun_alike fuel options one other (length next.state.containers) whole ended
     next.rest ending next.state there))
 
 -- a line whose rest is blank, whose text ends it, or after whose text a container is open
-pub begun_blank : (fuel : ℕ) (options : MarkdownOptions) (alone : Bool) (n depth : ℕ)
+pub begun_blank : (fuel : ℕ) (options : MarkdownOptions) (n depth : ℕ)
     (whole ended has : Bool) (rest : Rest) (ending : List ℕ) (state : State) →
     is_blank_rest rest ≡ true →
-    begun fuel options alone n depth whole ended has rest ending state
+    begun fuel options n depth whole ended has rest ending state
     ≡ blank_or n depth whole ended has rest ending state
-begun_blank zero options alone n depth whole ended has rest ending state is = refl
-begun_blank (suc fuel) options alone n depth whole ended has rest ending state is =
+begun_blank zero options n depth whole ended has rest ending state is = refl
+begun_blank (suc fuel) options n depth whole ended has rest ending state is =
     ap (λ so. if so then blank_or n depth whole ended has rest ending state
-    else followed_by fuel options alone n whole ended ending
-    (step_read options alone n depth whole rest ending state)) is
+    else followed_by fuel options n whole ended ending
+    (step_read options n depth whole rest ending state)) is
 
-pub begun_step : (fuel : ℕ) (options : MarkdownOptions) (alone : Bool) (n depth : ℕ)
+pub begun_step : (fuel : ℕ) (options : MarkdownOptions) (n depth : ℕ)
     (whole ended has : Bool) (rest : Rest) (ending : List ℕ) (state : State) (step : Step) →
-    is_blank_rest rest ≡ false → step_read options alone n depth whole rest ending state ≡ step →
-    begun (suc fuel) options alone n depth whole ended has rest ending state
-    ≡ followed_by fuel options alone n whole ended ending step
-begun_step fuel options alone n depth whole ended has rest ending state step no_blank is =
+    is_blank_rest rest ≡ false → step_read options n depth whole rest ending state ≡ step →
+    begun (suc fuel) options n depth whole ended has rest ending state
+    ≡ followed_by fuel options n whole ended ending step
+begun_step fuel options n depth whole ended has rest ending state step no_blank is =
     ap (λ so. if so then blank_or n depth whole ended has rest ending state
-    else followed_by fuel options alone n whole ended ending
-    (step_read options alone n depth whole rest ending state)) no_blank
-    ∙ ap (followed_by fuel options alone n whole ended ending) is
+    else followed_by fuel options n whole ended ending
+    (step_read options n depth whole rest ending state)) no_blank
+    ∙ ap (followed_by fuel options n whole ended ending) is
 
 -- what is left of a line gives the state that the whole line gives
 abbrev pub Reads : ℕ → MarkdownOptions → ℕ → Bool → Bool → Bool → Rest → List ℕ → State →
-    (ℕ → Bool → State) → Type 0
+    State → Type 0
 Reads fuel options depth whole ended has rest ending state line =
-    (n : ℕ) (alone : Bool) → (m : ℕ) × (other : Bool)
-    × (begun fuel options alone n depth whole ended has rest ending state ≡ line m other)
+    begun fuel options (lines_defined state) depth whole ended has rest ending state ≡ line
 
 abbrev pub Left : ℕ → MarkdownOptions → ℕ → Bool → Bool → Bool → Rest → List ℕ → State →
-    (ℕ → Bool → State) → Type 0
+    State → Type 0
 Left count options depth whole ended has rest ending state line =
     (fuel : ℕ) × (count ≤ fuel) × Reads fuel options depth whole ended has rest ending state line
 
 -- a container leaves it so
-pub goes_on : (count later : ℕ) (options : MarkdownOptions) (taken : Bool) (defined depth : ℕ)
+pub goes_on : (count later : ℕ) (options : MarkdownOptions) (depth : ℕ)
     (whole ended has : Bool) (rest : Rest) (ending : List ℕ) (state : State) (next : Begun)
-    (line : ℕ → Bool → State) → is_blank_rest rest ≡ false → later < count →
-    step_read options taken defined depth whole rest ending state ≡ GoesOn next →
+    (line : State) → is_blank_rest rest ≡ false → later < count →
+    step_read options (lines_defined state) depth whole rest ending state ≡ GoesOn next →
     Left count options depth whole ended has rest ending state line →
     Left later options (length next.state.containers) whole ended true next.rest ending next.state line
-goes_on count later options taken defined depth whole ended has rest ending state next line
+goes_on count later options depth whole ended has rest ending state next line
     no_blank less is (zero, enough, reads) =
     absurd (omega (arith, less, enough))
-goes_on count later options taken defined depth whole ended has rest ending state next line
+goes_on count later options depth whole ended has rest ending state next line
     no_blank less is (suc fuel, enough, reads) = (
       fuel,
       omega (arith, less, enough),
-      λ n alone. let whole_line = reads defined alone in (
-        whole_line.0,
-        whole_line.1,
-        begun_alike fuel options alone n defined
-            (length next.state.containers) whole ended next.rest ending next.state
-            (step_settles options taken defined depth whole rest ending state next is)
-            ∙ sym (begun_step fuel options alone defined depth whole ended has rest ending state (GoesOn next)
-            no_blank (step_alone options taken alone defined depth whole rest ending state next is))
-            ∙ whole_line.2,
-      ),
+      begun_alike fuel options (lines_defined next.state) (lines_defined state)
+          (length next.state.containers) whole ended next.rest ending next.state
+          (step_settles options (lines_defined state) depth whole rest ending state next is)
+          ∙ sym (begun_step fuel options (lines_defined state) depth whole ended has rest ending state
+          (GoesOn next) no_blank is)
+          ∙ reads,
     )
 
 -- what ends the line gives its state
-pub ends_so : (count : ℕ) (options : MarkdownOptions) (taken : Bool) (defined depth : ℕ)
+pub ends_so : (count : ℕ) (options : MarkdownOptions) (depth : ℕ)
     (whole ended has : Bool) (rest : Rest) (ending : List ℕ) (state after : State)
-    (line : ℕ → Bool → State) → is_blank_rest rest ≡ false → 0 < count →
-    step_read options taken defined depth whole rest ending state ≡ Ends after →
+    (line : State) → is_blank_rest rest ≡ false → 0 < count →
+    step_read options (lines_defined state) depth whole rest ending state ≡ Ends after →
     Left count options depth whole ended has rest ending state line →
-    (m : ℕ) × (other : Bool) × (after ≡ line m other)
-ends_so count options taken defined depth whole ended has rest ending state after line no_blank
+    after ≡ line
+ends_so count options depth whole ended has rest ending state after line no_blank
     some is (zero, enough, reads) =
     absurd (omega (arith, some, enough))
-ends_so count options taken defined depth whole ended has rest ending state after line no_blank
+ends_so count options depth whole ended has rest ending state after line no_blank
     some is (suc fuel, enough, reads) =
-    let whole_line = reads defined taken in (
-      whole_line.0,
-      whole_line.1,
-      sym (begun_step fuel options taken defined depth whole ended has rest ending state
-          (Ends after) no_blank is)
-          ∙ whole_line.2,
-    )
+    sym (begun_step fuel options (lines_defined state) depth whole ended has rest ending state
+    (Ends after) no_blank is)
+    ∙ reads
 
 -- the rest of a line has as many bytes as the line has after a position, or more
 pub long : (line : List ℕ) (at column : ℕ) (tab : Bool) →

@@ -15,3 +15,4 @@ pub mod Choices
 pub mod TextBytes
 pub mod Folds
 pub mod Skipping
+pub mod DocumentLemmas

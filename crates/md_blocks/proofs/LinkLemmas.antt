@@ -1,19 +1,18 @@
 -- Definitions of links, part by part.
 use Rattle.std.proofs.Common.{◌≡◌, ◌<◌, ◌≤◌, ◌+◌, ◌-◌, ◌++◌, ◌∙◌, ℕ, Bool, true, false, List, [], ◌∷◌, zero, suc}
-use Rattle.std.proofs.Common.{length, drop, arith, ap, refl, sym, inl, inr, subst, min, drop-cons, get_or}
+use Rattle.std.proofs.Common.{length, drop, take, arith, ap, refl, sym, inl, inr, subst, min, drop-cons, get_or}
 use Rattle.std.specs.Prelude.{Option, Some, None, option_map, if◌then◌else◌, ◌&&◌, ◌||◌, not, ◌==◌, map}
-use Rattle.std.specs.List.{All, list_any}
+use Rattle.std.specs.List.{list_any}
 use Rattle.std.specs.Prelude.{replicate}
-use Rattle.std.proofs.lemmas.List.Elements.{All-head, All-tail}
 use Rattle.md_blocks.specs.Entries.{Line}
-use Rattle.md_blocks.specs.Tapes.{between, line_of}
+use Rattle.md_blocks.specs.Tapes.{are_whole, between, line_of}
 use Rattle.std.specs.Str.{is_utf8, IsUtf8}
-use Rattle.std.proofs.lemmas.Bool.{cases_Bool, eq-eqb, ne_eqb}
-use Rattle.std.proofs.lemmas.List.{length-drop, length-map, drop-map, drop-drop, drop_all}
+use Rattle.std.proofs.lemmas.Bool.{and_parts, cases_Bool, eq-eqb, ne_eqb}
+use Rattle.std.proofs.lemmas.List.{drop-append-le, length-drop, length-map, drop-map, drop-drop, drop-take, drop_all}
 use Rattle.std.proofs.lemmas.Str.{IsUtf8-from_is_utf8}
 use Rattle.md_lines.specs.declared.line.Line.{Line as Place}
 use Rattle.md_lines.specs.declared.span.Span.{Span}
-use Rattle.std.specs.Prelude.{IfSome}
+use Rattle.std.specs.Prelude.{IfSome, Result, Ok, Err, OnErr, OnOk}
 use Rattle.md_lines.specs.Reading.{line_text}
 use Rattle.md_lines.specs.Texts.{Part, is_none, begins_with, after_next}
 use Rattle.md_lines.specs.Texts.{after_line_end}
@@ -302,17 +301,64 @@ no_nul (byte ∷ text) is = elim (cases_Bool (byte == 0)) [
   differ both = cc
 
 -- the texts of lines of which no columns belong to the prefixes
-pub whole_texts : (bytes : List ℕ) (lines : List Place) → All (λ line. line.columns ≡ 0) lines →
+pub whole_texts : (bytes : List ℕ) (lines : List Place) → are_whole lines ≡ true →
     map (line_text bytes) lines ≡ map (λ (line : Line). line.text) (map (line_of bytes) lines)
 whole_texts bytes [] whole = refl
 whole_texts bytes (line ∷ lines) whole =
     sym (ap (λ b. (if b then between line.start line.end bytes
     else replicate (4 - line.columns) 32 ++ between (suc line.start) line.end bytes)
     ∷ map (λ (line : Line). line.text) (map (line_of bytes) lines))
-    (eq-eqb line.columns 0 (All-head (λ line. line.columns ≡ 0) line lines whole))
+    (and_parts (line.columns == 0) (are_whole lines) whole).0
     ∙ ap (λ xs. line_text bytes line ∷ xs)
-    (sym (whole_texts bytes lines (All-tail (λ line. line.columns ≡ 0) line lines whole))))
+    (sym (whole_texts bytes lines (and_parts (line.columns == 0) (are_whole lines) whole).1)))
 
 pub moved_by : (before after start count : ℕ) → after ≡ start → start ≡ before + count →
     after - before ≡ count
 moved_by before after start count is sum = omega arith
+
+-- whole lines are whole from one of them on, up to one of them, and with another one
+pub whole_drop : (n : ℕ) (lines : List Place) → are_whole lines ≡ true → are_whole (drop n lines) ≡ true
+whole_drop zero lines whole = whole
+whole_drop (suc n) [] whole = whole
+whole_drop (suc n) (line ∷ lines) whole =
+    whole_drop n lines (and_parts (line.columns == 0) (are_whole lines) whole).1
+
+pub whole_take : (n : ℕ) (lines : List Place) → are_whole lines ≡ true → are_whole (take n lines) ≡ true
+whole_take zero lines whole = refl
+whole_take (suc n) [] whole = refl
+whole_take (suc n) (line ∷ lines) whole =
+    let parts = and_parts (line.columns == 0) (are_whole lines) whole in
+    ap (λ so. so && are_whole (take n lines)) parts.0 ∙ whole_take n lines parts.1
+
+pub whole_push : (lines : List Place) (line : Place) → are_whole lines ≡ true → line.columns ≡ 0 →
+    are_whole (lines ++ line ∷ []) ≡ true
+whole_push [] line whole none = ap (λ n. n == 0 && true) none
+whole_push (one ∷ lines) line whole none =
+    let parts = and_parts (one.columns == 0) (are_whole lines) whole in
+    ap (λ so. so && are_whole (lines ++ line ∷ [])) parts.0 ∙ whole_push lines line parts.1 none
+
+pub whole_later : (from to : ℕ) (lines : List Place) → from ≤ to → are_whole (drop from lines) ≡ true →
+    are_whole (drop to lines) ≡ true
+whole_later from to lines forward is =
+    let whole : from + (to - from) ≡ to = omega (arith, forward) in
+    sym (ap are_whole (drop-drop (to - from) from lines ∙ ap (λ n. drop n lines) whole))
+    ∙ whole_drop (to - from) (drop from lines) is
+
+-- lines after one is pushed, or memory ran out
+pub whole_pushed : {A E : Type 0} (r : Result A E) (before after : List Place) (line : Place) (start : ℕ) →
+    OnOk r (after ≡ before ++ line ∷ []) → OnErr r (after ≡ before) → start ≤ length before →
+    are_whole (drop start before) ≡ true → line.columns ≡ 0 → are_whole (drop start after) ≡ true
+whole_pushed (Ok _) before after line start ok err within is none =
+    ap (λ those. are_whole (drop start those)) ok
+    ∙ ap are_whole (drop-append-le start before (line ∷ []) within)
+    ∙ whole_push (drop start before) line is none
+whole_pushed (Err _) before after line start ok err within is none =
+    ap (λ those. are_whole (drop start those)) err ∙ is
+
+pub whole_before : (from to : ℕ) (lines : List Place) → from ≤ to → are_whole (drop from lines) ≡ true →
+    are_whole (drop from (take to lines)) ≡ true
+whole_before from to lines forward is =
+    let whole : from + (to - from) ≡ to = omega (arith, forward) in
+    ap (λ n. are_whole (drop from (take n lines))) (sym whole)
+    ∙ ap are_whole (drop-take from (to - from) lines)
+    ∙ whole_take (to - from) (drop from lines) is

@@ -151,19 +151,19 @@ waited entries containers lacking false = closed entries containers lacking
 
 -- so a further blank line changes nothing
 pub skips : (entries : List Entry) (containers : List Open) (lacking : ℕ) (options : MarkdownOptions)
-    (alone : Bool) (n : ℕ) (ended : Bool) (rest : Rest) (ending : List ℕ) →
+    (ended : Bool) (rest : Rest) (ending : List ℕ) →
     list_all goes_blank containers ≡ true → is_blank_rest rest ≡ true →
-    line_read options alone n ended rest ending (st entries containers NoLeaf (Some (quotes_depth containers)) lacking)
+    line_read options ended rest ending (st entries containers NoLeaf (Some (quotes_depth containers)) lacking)
     ≡ st entries containers NoLeaf (Some (quotes_depth containers)) lacking
-skips entries containers lacking options alone n ended rest ending goes is =
+skips entries containers lacking options ended rest ending goes is =
     let state = st entries containers NoLeaf (Some (quotes_depth containers)) lacking in
     let found = all_match containers rest 0 goes is in
     let after = matched 0 containers rest in
     let count : after.count ≡ length containers = found.0 ∙ omega arith in
     ap (λ so. or_text (if so then None else None)
-    (begun (length after.rest.text) options alone n after.count (after.count == length containers) ended false
+    (begun (length after.rest.text) options 0 after.count (after.count == length containers) ended false
     after.rest ending state)) (eq-eqb after.count (length containers) count)
-    ∙ begun_blank (length after.rest.text) options alone n after.count (after.count == length containers) ended
+    ∙ begun_blank (length after.rest.text) options 0 after.count (after.count == length containers) ended
     false after.rest ending state found.1
     ∙ ap (λ so. blank_waits ended (if so && false then state else containers_closed after.count state))
     (eq-eqb after.count (length containers) count)
@@ -328,14 +328,14 @@ left_over true line (InMath fence lines) state closed is none = absurd (false≢
 left_over true line (InHtml kind lines) state closed is none = absurd (false≢true is)
 left_over true line (InTable columns lines) state closed is none = absurd (false≢true is)
 
-pub blank_skips : (options : MarkdownOptions) (alone : Bool) (n m : ℕ) (whole ended : Bool)
+pub blank_skips : (options : MarkdownOptions) (m : ℕ) (whole ended : Bool)
     (line rest : Rest) (ending later : List ℕ) (state new : State) →
     new ≡ blank_waits true (blank_read m (matched 0 state.containers line).count whole
     (matched 0 state.containers line).rest ending state) →
     is_blank_rest (matched 0 state.containers line).rest ≡ true → new.leaf ≡ NoLeaf →
     list_any is_quote new.containers ≡ false → is_blank_rest rest ≡ true →
-    line_read options alone n ended rest later new ≡ new
-blank_skips options alone n m whole ended line rest ending later state new is blank none no_quote further =
+    line_read options ended rest later new ≡ new
+blank_skips options m whole ended line rest ending later state new is blank none no_quote further =
     let found = matched 0 state.containers line in
     let those = taken state.containers line in
     let closed = closed_to m found.count state in
@@ -349,8 +349,8 @@ blank_skips options alone n m whole ended line rest ending later state new is bl
     let goes = (accepted state.containers line 0 (ap (list_any is_quote) (sym opened) ∙ no_quote) blank).0 in
     let there : new ≡ st new.entries new.containers NoLeaf (Some (quotes_depth new.containers)) new.lacking =
     alike _ _ refl refl none (ap (λ s. s.blank) is ∙ ap (λ s. Some (quotes_depth s.containers)) (sym is)) refl in
-    ap (line_read options alone n ended rest later) there
-    ∙ skips new.entries new.containers new.lacking options alone n ended rest later
+    ap (line_read options ended rest later) there
+    ∙ skips new.entries new.containers new.lacking options ended rest later
     (ap (list_all goes_blank) opened ∙ goes) further
     ∙ sym there where
       by_whole : (whole : Bool) →

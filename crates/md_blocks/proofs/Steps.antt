@@ -2,8 +2,8 @@
 use Rattle.std.proofs.Common.{ℕ, Bool, List, [], ◌∷◌, ◌≡◌, ◌∙◌, ◌==◌, true, false, refl, sym, ap}
 use Rattle.std.proofs.Common.{Option, Some, None}
 use Rattle.std.proofs.Common.{arith, length, drop, get_or, nat_lt, ◌&&◌}
-use Rattle.std.specs.Prelude.{Result, Ok, Err, IfOk, ◌||◌, if◌then◌else◌}
-use Rattle.std.proofs.Common.{inl, inr, not}
+use Rattle.std.specs.Prelude.{Result, Ok, Err, IfOk, OnOk, ◌||◌, if◌then◌else◌}
+use Rattle.std.proofs.Common.{inl, inr}
 use Rattle.std.proofs.lemmas.Bool.{cases_Bool, eqb-true, le-ltb, ltb-false}
 use Rattle.std.proofs.lemmas.List.{drop_all}
 use Rattle.md_blocks.specs.BlockStructure.{break_at, may_underline, paragraph_lines}
@@ -22,6 +22,12 @@ pub both_ok : {A E : Type 0} (r : Result A E) (P Q R : A → Type 0) →
     ((a : A) → P a → Q a → R a) → IfOk r P → IfOk r Q → IfOk r R
 both_ok (Ok a) P Q R f p q = f a p q
 both_ok (Err e) P Q R f p q = tt
+
+-- a state that a result has is another one
+pub ok_to : {A E : Type 0} (r : Result A E) (new mid last : State) → mid ≡ last →
+    OnOk r (new ≡ mid) → OnOk r (new ≡ last)
+ok_to (Ok _) new mid last same is = is ∙ same
+ok_to (Err _) new mid last same is = tt
 
 abbrev pub with_rest : Rest → State → Begun
 with_rest rest state = record { state = state; rest = rest }
@@ -126,9 +132,9 @@ heads mark defined depth on text state new is may heading =
     ∙ ap (or_break defined depth text (left_of text defined on state)) heading
 
 -- and else a break: where the line is an underline, all lines of the paragraph are definitions
-abbrev pub BreakOr : List ℕ → ℕ → Bool → State → Bool → State → Type 0
-BreakOr text depth on state has new =
-    (n : ℕ) × (marks_of text n depth on state ≡ if_begun has new)
+abbrev pub BreakOr : List ℕ → ℕ → ℕ → Bool → State → Bool → State → Type 0
+BreakOr text n depth on state has new =
+    (marks_of text n depth on state ≡ if_begun has new)
     × (has ≡ false → new ≡ left_of text n on state)
 
 left_is : (mark defined : ℕ) (on is_line : Bool) (text : List ℕ) (state : State) →
@@ -150,12 +156,12 @@ pub breaks_or : (mark taken defined depth : ℕ) (on is_line has : Bool) (text :
     (state left new : State) → mark ≡ get_or text 0 0 → may_underline on mark ≡ true →
     is_underline mark text ≡ is_line →
     heading_underlined taken mark text (paragraph_lines state.leaf) state ≡ None →
-    left ≡ definitions_taken taken (paragraph_lines state.leaf) state →
-    (is_line ≡ false → left ≡ state) →
+    (is_line ≡ true → left ≡ definitions_taken taken (paragraph_lines state.leaf) state) →
+    (is_line ≡ false → left ≡ state) → (left ≡ state → defined ≡ taken) →
     break_at defined depth text left ≡ if_begun has new → (has ≡ false → new ≡ left) →
-    BreakOr text depth on state has new
+    BreakOr text taken depth on state has new
 breaks_or mark taken defined depth on true has text state left new is may line not_head is_left
-    same begun stays =
+    same alike begun stays =
     let lines = paragraph_lines state.leaf in
     let left_there = left_is mark taken on true text state is may line in
     let made = with_leaf NoLeaf (with_entries (Heading (if mark == 61 then 1 else 2) (drop taken lines) ∷ [])
@@ -163,27 +169,26 @@ breaks_or mark taken defined depth on true has text state left new is may line n
     let all : nat_lt taken (length lines) ≡ false =
     all_defined (nat_lt taken (length lines)) state made
     (ap (λ so. if_begun (so && nat_lt taken (length lines)) made) (sym line) ∙ not_head) in (
-      taken,
       tried mark taken depth on text state is may
           ∙ ap (or_break taken depth text (left_of text taken on state)) not_head
           ∙ ap (break_at taken depth text) left_there
           ∙ breaks_alike taken defined depth text (definitions_taken taken lines state)
           (alike_taken taken lines state all)
-          ∙ ap (break_at defined depth text) (sym is_left) ∙ begun,
-      λ none. stays none ∙ is_left ∙ sym left_there,
+          ∙ ap (break_at defined depth text) (sym (is_left refl)) ∙ begun,
+      λ none. stays none ∙ is_left refl ∙ sym left_there,
     )
 breaks_or mark taken defined depth on false has text state left new is may line not_head is_left
-    same begun stays =
+    same alike begun stays =
     let lines = paragraph_lines state.leaf in
-    let left_there = left_is mark defined on false text state is may line in
+    let left_there = left_is mark taken on false text state is may line in
     let made = with_leaf NoLeaf (with_entries (Heading (if mark == 61 then 1 else 2)
-    (drop defined lines) ∷ [])
+    (drop taken lines) ∷ [])
     (blank_written state)) in (
-      defined,
-      tried mark defined depth on text state is may
-          ∙ ap (λ so. or_break defined depth text (left_of text defined on state)
-          (if_begun (so && nat_lt defined (length lines)) made)) line
-          ∙ ap (break_at defined depth text) (left_there ∙ sym (same refl)) ∙ begun,
+      tried mark taken depth on text state is may
+          ∙ ap (λ so. or_break taken depth text (left_of text taken on state)
+          (if_begun (so && nat_lt taken (length lines)) made)) line
+          ∙ ap (break_at taken depth text) (left_there ∙ sym (same refl))
+          ∙ ap (λ n. break_at n depth text left) (sym (alike (same refl))) ∙ begun,
       λ none. stays none ∙ same refl ∙ sym left_there,
     )
 
@@ -200,12 +205,6 @@ fence_is_none mark is = elim (cases_Bool (mark == 96)) [
   | inr e ↦ ap (λ m. m == 61 || m == 45)
       (eqb-true mark 126 (ap (λ so. so || mark == 126) (sym e) ∙ is))
 ]
-
--- a tag alone on its line begins nothing in a paragraph
-pub alone_is : (alone on : Bool) → (on ≡ true → alone ≡ false) → (alone && not on) ≡ alone
-alone_is true true is = sym (is refl)
-alone_is true false is = refl
-alone_is false on is = refl
 
 -- a table, or else text
 abbrev pub or_text : Option State → State → State

@@ -7,6 +7,7 @@ use Rattle.md_blocks.specs.declared.options.MarkdownOptions.{MarkdownOptions}
 use Rattle.md_blocks.specs.Marks.{opens_item, may_interrupt}
 use Rattle.md_blocks.specs.Leaves.{is_underline}
 use Rattle.md_blocks.specs.Entries.{Line}
+use Rattle.md_blocks.specs.LinkDefinitions.{defined_lines}
 use Rattle.md_blocks.specs.Rests.{Rest, indent, is_blank_rest, unindented}
 use Rattle.md_blocks.specs.States.{State, Leaf, NoLeaf, InParagraph, InFenced, InMath, InHtml}
 use Rattle.md_blocks.specs.States.{is_in_paragraph, without_blank}
@@ -57,6 +58,10 @@ container_begun options defined depth in_paragraph rest ending state =
 abbrev pub paragraph_lines : Leaf → List Line
 paragraph_lines leaf = elim leaf [ InParagraph lines ↦ lines | _ ↦ [] ]
 
+-- how many of them are definitions of links (4.7)
+abbrev pub lines_defined : State → ℕ
+lines_defined state = defined_lines (paragraph_lines state.leaf)
+
 -- 4.3: whether a text that begins with a byte may underline the paragraph that the line continues
 abbrev pub may_underline : Bool → ℕ → Bool
 may_underline in_paragraph mark = in_paragraph && (mark == 61 || mark == 45)
@@ -89,10 +94,9 @@ marks_begun defined depth in_paragraph rest state =
       | None ↦ break_at defined depth text left
     ] else break_at defined depth text state
 
--- 4 Leaf blocks: the one that begins at a text, by its first byte; `is_alone` says whether the text
--- is a tag alone on its line (6.10), which begins no block in a paragraph
-abbrev pub leaf_begun : MarkdownOptions → Bool → ℕ → ℕ → Bool → Rest → List ℕ → State → Option State
-leaf_begun options is_alone defined depth in_paragraph rest ending state =
+-- 4 Leaf blocks: the one that begins at a text, by its first byte
+abbrev pub leaf_begun : MarkdownOptions → ℕ → ℕ → Bool → Rest → List ℕ → State → Option State
+leaf_begun options defined depth in_paragraph rest ending state =
     let text = unindented rest in
     let first = get_or text 0 0 in
     if first == 35 then heading_begun defined depth text state
@@ -100,7 +104,7 @@ leaf_begun options is_alone defined depth in_paragraph rest ending state =
     else if first == 36
     then (if options.math then math_begun defined depth rest ending state else None)
     else if first == 60
-    then html_begun defined depth (kind_begun (is_alone && not in_paragraph) text) rest ending state
+    then html_begun defined depth (kind_begun (not in_paragraph) text) rest ending state
     else marks_begun defined depth in_paragraph rest state
 
 -- 4.8, GFM 4.10: text where no other block begins: a table begins at a delimiter row in a paragraph,
@@ -109,7 +113,7 @@ abbrev pub text_begun : MarkdownOptions → ℕ → ℕ → Bool → Rest → Li
 text_begun options defined depth is_whole rest ending state =
     let text = unindented rest in
     let found = if is_whole && is_in_paragraph state.leaf
-    then table_begun options.tables defined text ending (paragraph_lines state.leaf) state
+    then table_begun options.tables text ending (paragraph_lines state.leaf) state
     else None in
     elim found [
       | Some table ↦ table
@@ -129,11 +133,11 @@ pub data Step : Type 0 where
   GoesOn : Begun → Step
 
 -- the block at the text that is left of a line
-abbrev pub block_begun : MarkdownOptions → Bool → ℕ → ℕ → Bool → Rest → List ℕ → State → Step
-block_begun options is_alone defined depth is_whole rest ending state =
+abbrev pub block_begun : MarkdownOptions → ℕ → ℕ → Bool → Rest → List ℕ → State → Step
+block_begun options defined depth is_whole rest ending state =
     let in_paragraph = is_whole && is_in_paragraph state.leaf in
     let left = unless_underlined defined in_paragraph rest state in
-    elim (leaf_begun options is_alone defined depth in_paragraph rest ending state) [
+    elim (leaf_begun options defined depth in_paragraph rest ending state) [
       | Some begun ↦ Ends (without_blank begun)
       | None ↦ elim (container_begun options defined depth in_paragraph rest ending left) [
         | Some begun ↦ GoesOn begun
@@ -141,10 +145,10 @@ block_begun options is_alone defined depth is_whole rest ending state =
       ]
     ]
 
-abbrev pub step_read : MarkdownOptions → Bool → ℕ → ℕ → Bool → Rest → List ℕ → State → Step
-step_read options is_alone defined depth is_whole rest ending state =
+abbrev pub step_read : MarkdownOptions → ℕ → ℕ → Bool → Rest → List ℕ → State → Step
+step_read options defined depth is_whole rest ending state =
     if nat_lt (indent rest) 4
-    then block_begun options is_alone defined depth is_whole rest ending state
+    then block_begun options defined depth is_whole rest ending state
     else Ends (deep_read defined depth is_whole rest ending state)
 
 -- a blank rest of a line: a blank line, if no container begins in the line
@@ -156,15 +160,14 @@ blank_or defined depth is_whole is_ended has_begun rest ending state =
 -- the blocks of a line after what it continues: containers, each at the rest that the one before
 -- leaves, and then what ends the line. Each takes a byte, so the length of the rest is enough `fuel`.
 -- At most one paragraph is open before the line, so that one number `defined` serves all steps
-abbrev pub begun : ℕ → MarkdownOptions → Bool → ℕ → ℕ → Bool → Bool → Bool → Rest → List ℕ → State →
-    State
-begun zero options is_alone defined depth is_whole is_ended has_begun rest ending state =
+abbrev pub begun : ℕ → MarkdownOptions → ℕ → ℕ → Bool → Bool → Bool → Rest → List ℕ → State → State
+begun zero options defined depth is_whole is_ended has_begun rest ending state =
     blank_or defined depth is_whole is_ended has_begun rest ending state
-begun (suc fuel) options is_alone defined depth is_whole is_ended has_begun rest ending state =
+begun (suc fuel) options defined depth is_whole is_ended has_begun rest ending state =
     if is_blank_rest rest then blank_or defined depth is_whole is_ended has_begun rest ending state
-    else elim (step_read options is_alone defined depth is_whole rest ending state) [
+    else elim (step_read options defined depth is_whole rest ending state) [
       | Ends after ↦ after
-      | GoesOn next ↦ begun fuel options is_alone defined (length next.state.containers) is_whole
+      | GoesOn next ↦ begun fuel options defined (length next.state.containers) is_whole
           is_ended true next.rest ending next.state
     ]
 
@@ -178,17 +181,17 @@ leaf_continued rest ending state = elim state.leaf [
 ]
 
 -- a line after so many open containers (steps 2 and 3)
-abbrev pub line_after : MarkdownOptions → Bool → ℕ → ℕ → Bool → Bool → Rest → List ℕ → State → State
-line_after options is_alone defined depth is_whole is_ended rest ending state =
+abbrev pub line_after : MarkdownOptions → ℕ → Bool → Bool → Rest → List ℕ → State → State
+line_after options depth is_whole is_ended rest ending state =
     elim (if is_whole then leaf_continued rest ending state else None) [
       | Some longer ↦ longer
-      | None ↦ begun (length rest.text) options is_alone defined depth is_whole is_ended false rest
-          ending state
+      | None ↦ begun (length rest.text) options (lines_defined state) depth is_whole is_ended
+          false rest ending state
     ]
 
 -- a line: it continues open containers (step 1), and is read after them
-abbrev pub line_read : MarkdownOptions → Bool → ℕ → Bool → Rest → List ℕ → State → State
-line_read options is_alone defined is_ended line ending state =
+abbrev pub line_read : MarkdownOptions → Bool → Rest → List ℕ → State → State
+line_read options is_ended line ending state =
     let after = matched 0 state.containers line in
-    line_after options is_alone defined after.count (after.count == length state.containers) is_ended
+    line_after options after.count (after.count == length state.containers) is_ended
     after.rest ending state

@@ -6,6 +6,8 @@ use Rattle.std.specs.List.{list_any, prefix_len, starts_with}
 use Rattle.std.specs.Char.{is_ascii_alphabetic, is_ascii_alphanumeric}
 use Rattle.std.specs.Str.{str_eq_ignore_ascii_case}
 use Rattle.md_lines.specs.Lines.{is_blank}
+use Rattle.md_lines.specs.Tags.{after_tag}
+use Rattle.md_blocks.specs.Marks.{is_blank_text}
 use Rattle.md_blocks.specs.Leaves.{without_first}
 use Rattle.md_blocks.specs.declared.html.HtmlKind.{HtmlKind}
 use Rattle.md_blocks.specs.declared.html.HtmlKind.TheVariants.{Raw, Comment, Instruction}
@@ -87,6 +89,13 @@ html_kind text =
     else if starts_with nat_eq text (codes "<!")
     then (if is_ascii_alphabetic (get_or text 2 0) then Some Declaration else None)
     else tag_kind text
+
+-- whether a text is one tag (6.10), and then only spaces and tabs
+abbrev pub is_tag_alone : List ℕ → Bool
+is_tag_alone text = elim (after_tag (text ∷ [])) [
+  | None ↦ false
+  | Some rest ↦ is_blank_text (get_or rest 0 [])
+]
 
 -- whether a text begins with what ends a block of a kind; a blank line ends the last two
 abbrev pub is_end : HtmlKind → List ℕ → Bool

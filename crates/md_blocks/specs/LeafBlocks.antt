@@ -8,9 +8,10 @@ use Rattle.md_blocks.specs.declared.html.HtmlKind.{HtmlKind}
 use Rattle.md_blocks.specs.Marks.{run_of, opens_heading}
 use Rattle.md_blocks.specs.Leaves.{is_break, heading_content, blanks, word_length, opens_code}
 use Rattle.md_blocks.specs.Leaves.{closes_fence, is_underline, is_delimiter_row, delimiters}
+use Rattle.md_blocks.specs.LinkDefinitions.{defined_lines}
 use Rattle.md_blocks.specs.Tables.{row_cells}
 use Rattle.md_blocks.specs.declared.html.HtmlKind.TheVariants.{Tag}
-use Rattle.md_blocks.specs.HtmlBlocks.{html_kind, is_html_end, ends_at_blank_line}
+use Rattle.md_blocks.specs.HtmlBlocks.{html_kind, is_html_end, is_tag_alone, ends_at_blank_line}
 use Rattle.md_blocks.specs.Stack.{quotes_depth}
 use Rattle.md_blocks.specs.Rests.{Rest, indent, unindented, skipped, is_blank_rest}
 use Rattle.md_blocks.specs.Entries.{Line, last_line, Break, Heading}
@@ -107,12 +108,12 @@ fenced_read fence rest ending state =
     then leaf_closed 0 state
     else line_added (a_line (skipped fence.indent rest).text ending) state
 
--- 4.6 HTML blocks: the kind that a text begins; `is_alone` says whether it is a tag alone on its
--- line (6.10), which begins no block in a paragraph
+-- 4.6 HTML blocks: the kind that a text begins; `may_be_tag` is false in a paragraph, where a tag
+-- alone on its line begins no block
 abbrev pub kind_begun : Bool → List ℕ → Option HtmlKind
-kind_begun is_alone text = elim (html_kind text) [
+kind_begun may_be_tag text = elim (html_kind text) [
   | Some kind ↦ Some kind
-  | None ↦ if is_alone then Some Tag else None
+  | None ↦ if may_be_tag && is_tag_alone text then Some Tag else None
 ]
 
 -- HTML after a line that may end it
@@ -151,17 +152,17 @@ is_table are_read text lines =
     are_read && (is_delimiter_row text
     && length (row_cells (last_line lines).text) == length (delimiters text))
 
-abbrev pub paragraph_split : ℕ → List Line → State → State
-paragraph_split defined lines state =
+abbrev pub paragraph_split : List Line → State → State
+paragraph_split lines state =
+    let before = take (length lines - 1) lines in
     with_leaf (InParagraph (last_line lines ∷ [])) (if nat_lt 1 (length lines)
-    then paragraph_closed defined (take (length lines - 1) lines) (with_leaf NoLeaf state)
-    else state)
+    then paragraph_closed (defined_lines before) before (with_leaf NoLeaf state) else state)
 
-abbrev pub table_begun : Bool → ℕ → List ℕ → List ℕ → List Line → State → Option State
-table_begun are_read defined text ending lines state =
+abbrev pub table_begun : Bool → List ℕ → List ℕ → List Line → State → Option State
+table_begun are_read text ending lines state =
     if_begun (is_table are_read text lines) (with_leaf
     (InTable (length (delimiters text)) (last_line lines ∷ a_line text ending ∷ []))
-    (blank_written (paragraph_split defined lines state)))
+    (blank_written (paragraph_split lines state)))
 
 -- how many cells all rows lack after a row with so many cells in a table of so many columns. A row
 -- has a cell, and by the parser's own rule none is read after which they lack more than 2^19

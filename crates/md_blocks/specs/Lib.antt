@@ -19,3 +19,4 @@ pub mod ContainerBlocks
 pub mod OwnBlocks
 pub mod BlockStructure
 pub mod Progress
+pub mod Documents

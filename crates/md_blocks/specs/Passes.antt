@@ -1,14 +1,16 @@
 -- For the code alone: the state for which a pass stands.
-use Rattle.std.specs.Prelude.{ℕ, List, ◌≡◌, ◌-◌, map, drop, take, option_map}
-use Rattle.std.specs.List.{All}
+use Rattle.std.specs.Prelude.{ℕ, List, ◌≡◌, ◌-◌, true, map, drop, take, option_map}
 use Rattle.md_lines.specs.declared.line.Line.{Line as Place}
 use Rattle.md_lines.specs.Reading.{line_text}
 use Rattle.md_blocks.specs.declared.pass.Pass.{Pass}
 use Rattle.md_blocks.specs.declared.pass.OpenLeaf.{OpenLeaf}
 use Rattle.md_blocks.specs.declared.pass.OpenLeaf.TheVariants as leaf
+use Rattle.md_blocks.specs.declared.preamble.FrontMatter.{FrontMatter}
+use Rattle.md_blocks.specs.BlockStructure.{lines_defined}
+use Rattle.md_blocks.specs.Documents.{Front, lines_of}
 use Rattle.md_blocks.specs.Entries.{Line}
 use Rattle.md_blocks.specs.LinkDefinitions.{defined_from}
-use Rattle.md_blocks.specs.Tapes.{line_of, first_text, entries_of}
+use Rattle.md_blocks.specs.Tapes.{are_whole, line_of, first_text, entries_of}
 use Rattle.md_blocks.specs.States.{State, Leaf, NoLeaf, InParagraph, InIndented, InFenced}
 use Rattle.md_blocks.specs.States.{InMath, InHtml, InTable}
 
@@ -47,6 +49,10 @@ lines_to end pass =
 abbrev pub texts_from : List ℕ → List Place → ℕ → List (List ℕ)
 texts_from bytes lines from = map (line_text bytes) (drop from lines)
 
+-- how many lines of the open paragraph are definitions of links
+abbrev pub defined_in : Pass → ℕ
+defined_in pass = lines_defined (state_of pass)
+
 -- how many more lines of the leaf are definitions after some step
 abbrev pub defined_by : Pass → Pass → ℕ
 defined_by before after = after.nesting.leaves.start - before.nesting.leaves.start
@@ -61,4 +67,11 @@ defined_to end pass =
 abbrev pub HasWholeLines : ℕ → Pass → Type 0
 HasWholeLines end pass =
     let leaves = pass.nesting.leaves in
-    All (λ line. line.columns ≡ 0) (drop leaves.start (take end leaves.lines.items))
+    are_whole (drop leaves.start (take end leaves.lines.items)) ≡ true
+
+-- the front matter that the code finds
+abbrev pub front_at : List ℕ → FrontMatter → Front
+front_at bytes found = record {
+  text = take found.ending.start bytes;
+  rest = lines_of (drop found.ending.end bytes);
+}

@@ -23,5 +23,5 @@ is_text byte = not (nat_lt byte 128) || is_in Alphabetic byte
 -- a blank line changes nothing
 abbrev pub SkipsBlank : State → Type 0
 SkipsBlank state =
-    (options : MarkdownOptions) (alone : Bool) (n : ℕ) (ended : Bool) (rest : Rest) (ending : List ℕ) →
-    is_blank_rest rest ≡ true → line_read options alone n ended rest ending state ≡ state
+    (options : MarkdownOptions) (ended : Bool) (rest : Rest) (ending : List ℕ) →
+    is_blank_rest rest ≡ true → line_read options ended rest ending state ≡ state

@@ -3,6 +3,7 @@
 use Rattle.std.specs.Prelude.{ℕ, List, [], ◌∷◌, ◌++◌, ◌-◌, ◌==◌, map, take, drop, replicate}
 use Rattle.std.specs.Prelude.{length, get_or, suc, Bool, true, false}
 use Rattle.std.specs.Prelude.{if◌then◌else◌}
+use Rattle.std.specs.List.{list_all}
 use Rattle.md_lines.specs.declared.line.Line.{Line as Place}
 use Rattle.md_lines.specs.declared.span.Span.{Span}
 use Rattle.md_blocks.specs.declared.block.Block.{Block}
@@ -86,6 +87,15 @@ abbrev pub has_info : OpenLeaf → Bool
 has_info (leaf.Fenced _) = true
 has_info (leaf.Math _) = true
 has_info _ = false
+
+-- whether an open leaf is a paragraph
+abbrev pub is_paragraph : OpenLeaf → Bool
+is_paragraph leaf.Paragraph = true
+is_paragraph _ = false
+
+-- whether no columns of the lines belong to the prefixes
+abbrev pub are_whole : List Place → Bool
+are_whole lines = list_all (λ line. line.columns == 0) lines
 
 -- the end of the range of lines that an entry of the tape has; 0 if it has none
 abbrev pub lines_end : Block → ℕ

@@ -1,7 +1,9 @@
 //! The block pass as one call, and its result.
 
-ghost use Rattle.std.specs.Prelude.{IsTrue};
+ghost use Rattle.std.specs.Prelude.{◌≡◌, ℕ, List, IfOk, IsTrue};
+ghost use Rattle.md_blocks.specs.Documents.{document_entries};
 ghost use Rattle.md_blocks.specs.Tape.{leads};
+ghost use Rattle.md_blocks.specs.Tapes.{entries_of};
 
 use crate::block::{Block, LineRange};
 use crate::definition::Definitions;
@@ -41,7 +43,11 @@ pub fn parse_blocks(
     alloc: Global,
     bytes: &[u8],
     options: &MarkdownOptions,
-) -> Result<Blocks, AllocError> {
+) -> Result<Blocks, AllocError>
+    ensures entries { IfOk result (λ blocks.
+        entries_of bytes.now blocks.lines.items blocks.tape.items
+        ≡ document_entries options.now bytes.now) }
+{
     let mut pass = Pass::new(alloc, bytes, options)?;
     match pass.run() {
         Ok(()) => Ok(pass.into_blocks()),

@@ -26,15 +26,13 @@ impl<'a> Pass<'a> {
     ghost use Rattle.md_blocks.specs.Passes.{defined_by, leaf_lines, leaf_of, lines_to, state_of};
     ghost use Rattle.md_blocks.specs.Passes.{HasWholeLines, defined_to};
     ghost use Rattle.md_blocks.specs.LinkDefinitions.{defined_lines};
+    ghost use Rattle.md_blocks.specs.Passes.{defined_in};
 
     /// Closes the open leaf and the containers beyond this depth.
     pub(crate) fn close_unmatched(&mut self, depth: usize) -> Result<(), AllocError>
         ensures shrinks { OnOk result (vec_len self.new.nesting.stack ≤ depth) }
         ensures state { OnOk result (state_of self.new
-            ≡ closed_to (defined_by self.old self.new) depth (state_of self.old)) }
-        ensures defined { OnOk result (self.old.leaf ≡ leaf.Paragraph
-            → defined_by self.old self.new
-            ≡ defined_to (vec_len self.old.nesting.leaves.lines) self.old) }
+            ≡ closed_to (defined_in self.old) depth (state_of self.old)) }
         ensures document { self.new.bytes ≡ self.old.bytes }
         ensures options { self.new.options ≡ self.old.options }
     {
@@ -48,10 +46,7 @@ impl<'a> Pass<'a> {
     pub(crate) fn make_room(&mut self, depth: usize) -> Result<(), AllocError>
         ensures shrinks { OnOk result (vec_len self.new.nesting.stack ≤ depth) }
         ensures state { OnOk result (state_of self.new
-            ≡ room (defined_by self.old self.new) depth (state_of self.old)) }
-        ensures defined { OnOk result (self.old.leaf ≡ leaf.Paragraph
-            → defined_by self.old self.new
-            ≡ defined_to (vec_len self.old.nesting.leaves.lines) self.old) }
+            ≡ room (defined_in self.old) depth (state_of self.old)) }
         ensures document { self.new.bytes ≡ self.old.bytes }
         ensures options { self.new.options ≡ self.old.options }
     {
@@ -64,10 +59,7 @@ impl<'a> Pass<'a> {
     pub(crate) fn make_room_for_text(&mut self, depth: usize) -> Result<(), AllocError>
         ensures shrinks { OnOk result (vec_len self.new.nesting.stack ≤ depth) }
         ensures state { OnOk result (state_of self.new
-            ≡ room_for_text (defined_by self.old self.new) depth (state_of self.old)) }
-        ensures defined { OnOk result (self.old.leaf ≡ leaf.Paragraph
-            → defined_by self.old self.new
-            ≡ defined_to (vec_len self.old.nesting.leaves.lines) self.old) }
+            ≡ room_for_text (defined_in self.old) depth (state_of self.old)) }
         ensures document { self.new.bytes ≡ self.old.bytes }
         ensures options { self.new.options ≡ self.old.options }
     {
@@ -155,10 +147,7 @@ impl<'a> Pass<'a> {
     pub(crate) fn close_leaf(&mut self) -> Result<(), AllocError>
         ensures stack { self.new.nesting.stack ≡ self.old.nesting.stack }
         ensures state { OnOk result (state_of self.new
-            ≡ leaf_closed (defined_by self.old self.new) (state_of self.old)) }
-        ensures defined { OnOk result (self.old.leaf ≡ leaf.Paragraph
-            → defined_by self.old self.new
-            ≡ defined_to (vec_len self.old.nesting.leaves.lines) self.old) }
+            ≡ leaf_closed (defined_in self.old) (state_of self.old)) }
         ensures lines { self.new.nesting.leaves.lines ≡ self.old.nesting.leaves.lines }
         ensures document { self.new.bytes ≡ self.old.bytes }
         ensures options { self.new.options ≡ self.old.options }
@@ -191,6 +180,8 @@ impl<'a> Pass<'a> {
         ensures state { OnOk result (state_of self.new ≡ paragraph_closed
             (defined_by self.old self.new) (lines_to end self.old) (state_of self.old)) }
         ensures defined { OnOk result (defined_by self.old self.new ≡ defined_to end self.old) }
+        ensures whole { OnOk result (HasWholeLines end self.old
+            → defined_by self.old self.new ≡ defined_lines (lines_to end self.old)) }
         ensures leaf { self.new.leaf ≡ self.old.leaf }
         ensures lines { self.new.nesting.leaves.lines ≡ self.old.nesting.leaves.lines }
         ensures document { self.new.bytes ≡ self.old.bytes }

@@ -24,7 +24,7 @@ use crate::position::Position;
 use std::alloc::AllocError;
 
 impl<'a> Pass<'a> {
-    ghost use Rattle.md_blocks.specs.Passes.{defined_by, state_of};
+    ghost use Rattle.md_blocks.specs.Passes.{defined_in, state_of};
     ghost use Rattle.md_blocks.specs.Positions.{IsIn, ending_of};
     ghost use Rattle.md_blocks.specs.Progress.{begun_of};
 
@@ -42,10 +42,10 @@ impl<'a> Pass<'a> {
         ensures goes_on { IfOk result (λ has_begun. IsTrue has_begun
             → position.old.at < position.new.at) }
         ensures state { IfOk result (λ has_begun. byte ≡ get_or (text_at position.old) 0 0
-            → (defined : ℕ) × (container_begun self.old.options.now defined depth
+            → container_begun self.old.options.now (defined_in self.old) depth
             (is_whole && is_in_paragraph (state_of self.old).leaf) (rest_of position.old)
             (ending_of self.old.bytes.now position.old) (state_of self.old)
-            ≡ (if has_begun then Some (begun_of self.new position.new) else None))) }
+            ≡ (if has_begun then Some (begun_of self.new position.new) else None)) }
         ensures stays { IfOk result (λ has_begun. has_begun ≡ false
             → (self.new ≡ self.old) × (position.new ≡ position.old)) }
         ensures same_line { position.new.line ≡ position.old.line }
@@ -98,10 +98,10 @@ impl<'a> Pass<'a> {
         requires shallow { depth < 95 }
         ensures goes_on { IfOk result (λ has_begun. IsTrue has_begun
             → position.old.at < position.new.at) }
-        ensures state { IfOk result (λ has_begun. (defined : ℕ)
-            × (item_at defined depth in_paragraph (rest_of position.old)
+        ensures state { IfOk result (λ has_begun.
+            item_at (defined_in self.old) depth in_paragraph (rest_of position.old)
             (ending_of self.old.bytes.now position.old) (state_of self.old)
-            ≡ (if has_begun then Some (begun_of self.new position.new) else None))) }
+            ≡ (if has_begun then Some (begun_of self.new position.new) else None)) }
         ensures stays { IfOk result (λ has_begun. has_begun ≡ false
             → (self.new ≡ self.old) × (position.new ≡ position.old)) }
         ensures same_line { position.new.line ≡ position.old.line }
@@ -122,10 +122,10 @@ impl<'a> Pass<'a> {
         requires shallow { depth < 96 }
         ensures goes_on { OnOk result (position.old.at < position.new.at) }
         ensures state { OnOk result (state_of self.new
-            ≡ (quote_begun (defined_by self.old self.new) depth (rest_of position.old)
+            ≡ (quote_begun (defined_in self.old) depth (rest_of position.old)
             (state_of self.old)).state) }
         ensures rest { OnOk result (rest_of position.new
-            ≡ (quote_begun (defined_by self.old self.new) depth (rest_of position.old)
+            ≡ (quote_begun (defined_in self.old) depth (rest_of position.old)
             (state_of self.old)).rest) }
         ensures same_line { position.new.line ≡ position.old.line }
         ensures same_ending { position.new.ending ≡ position.old.ending }
@@ -155,7 +155,7 @@ impl<'a> Pass<'a> {
         ensures not_code { IfOk result (λ has_begun. IsTrue has_begun
             → position.new.indent ≡ 0) }
         ensures state { IfOk result (λ has_begun.
-            footnote_begun (defined_by self.old self.new) depth (rest_of position.old)
+            footnote_begun (defined_in self.old) depth (rest_of position.old)
             (state_of self.old) ≡ if_begun has_begun (state_of self.new)) }
         ensures rest { IfOk result (λ has_begun. has_begun ≡ true
             → rest_of position.new ≡ after_footnote (rest_of position.old)) }
@@ -195,9 +195,9 @@ impl<'a> Pass<'a> {
         requires not_code { position.old.indent < 4 }
         requires shallow { depth < 95 }
         ensures goes_on { OnOk result (position.old.at < position.new.at) }
-        ensures state { OnOk result ((defined : ℕ) × (state_of self.new
-            ≡ (item_begun defined depth (rest_of position.old)
-            (ending_of self.old.bytes.now position.old) (state_of self.old)).state)) }
+        ensures state { OnOk result (state_of self.new
+            ≡ (item_begun (defined_in self.old) depth (rest_of position.old)
+            (ending_of self.old.bytes.now position.old) (state_of self.old)).state) }
         ensures rest { OnOk result (rest_of position.new ≡ (item_begun 0 depth
             (rest_of position.old) (ending_of self.old.bytes.now position.old)
             (state_of self.old)).rest) }
@@ -236,7 +236,7 @@ impl<'a> Pass<'a> {
         requires shallow { depth < 95 }
         requires number { marker.digits ≡ number_length (drop start self.old.bytes.now) }
         ensures grows { OnOk result (vec_len self.new.nesting.stack ≤ depth + 1) }
-        ensures state { OnOk result (state_of self.new ≡ list_begun (defined_by self.old self.new)
+        ensures state { OnOk result (state_of self.new ≡ list_begun (defined_in self.old)
             depth (nat_lt 0 marker.digits) (take marker.digits (drop start self.old.bytes.now))
             marker.byte (state_of self.old)) }
         ensures document { self.new.bytes ≡ self.old.bytes }

@@ -7,11 +7,11 @@ ghost use Rattle.md_blocks.specs.declared.html.HtmlKind.TheVariants.{Tag};
 ghost use Rattle.md_blocks.specs.HtmlBlocks.{html_kind, tag_kind, name_length, is_raw_name};
 ghost use Rattle.md_blocks.specs.HtmlBlocks.{is_block_name, begins_with, is_end, is_html_end};
 ghost use Rattle.md_blocks.specs.HtmlBlocks.{first_of_end, ends_at_blank_line, named_kind};
-ghost use Rattle.md_blocks.specs.HtmlBlocks.{ends_name};
+ghost use Rattle.md_blocks.specs.HtmlBlocks.{ends_name, is_tag_alone};
 
 use crate::marker::is_blank_from;
 use crate::table::without_first;
-use md_lines::{Line, Place, read_tag};
+use md_lines::{Cursor, Line, Place, skip_tag};
 use memchr::memchr;
 
 /// The kind of an HTML block, which decides where it ends.
@@ -39,8 +39,7 @@ impl HtmlKind {
         ensures first { is_some (html_kind text.now) ≡ true → result ≡ html_kind text.now }
         ensures tag { is_some (html_kind text.now) ≡ false
             → IfSome result (λ kind. (kind ≡ Tag) × (may_be_tag ≡ true)) }
-        ensures value { (is_alone : Bool) × (may_be_tag ≡ false → is_alone ≡ false)
-            × (result ≡ kind_begun is_alone text.now) }
+        ensures value { result ≡ kind_begun may_be_tag text.now }
     {
         match HtmlKind::of_beginning(text) {
             None if may_be_tag && is_tag_alone(text) => Some(HtmlKind::Tag),
@@ -177,12 +176,12 @@ fn name_length(text: &[u8]) -> usize
 }
 
 /// Whether a text is one opening or closing tag, followed only by spaces and tabs.
-fn is_tag_alone(text: &[u8]) -> bool {
+fn is_tag_alone(text: &[u8]) -> bool
+    ensures { result ≡ is_tag_alone text.now }
+{
     let lines = [Line::part(0, text.len())];
-    match read_tag(text, &lines, Place { line: 0, at: 0 }) {
-        Some(place) => is_blank_from(text, place.at),
-        None => false,
-    }
+    let mut cursor = Cursor::new(text, &lines, Place { line: 0, at: 0 });
+    skip_tag(&mut cursor) && is_blank_from(cursor.rest_of_line(), 0)
 }
 
 /// Whether a text begins with a word, in any case.

@@ -39,6 +39,7 @@ impl Leaves {
 #[inline(always)]
 pub(crate) fn part(span: Span) -> Line
     ensures text { (bytes : List ℕ) → text_of_line bytes result ≡ text_between span bytes }
+    ensures columns { result.columns ≡ 0 }
 {
     Line {
         start: span.start,

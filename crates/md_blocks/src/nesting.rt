@@ -5,7 +5,7 @@ ghost use Rattle.md_blocks.specs.Stack.{quotes_depth, with_child, without_list};
 ghost use Rattle.md_blocks.specs.BlankLines.{in_list};
 ghost use Rattle.md_blocks.specs.Tape.{leads, enters, exits};
 ghost use Rattle.std.specs.Prelude.{IsTrue, ◌≡◌, ◌≤◌, ◌<◌, ◌+◌, ◌-◌, ◌++◌, ◌∷◌, ◌||◌, [], vec_len};
-ghost use Rattle.std.specs.Prelude.{drop, length, take, IfOk, OnOk, IsSome, slice_get, true, false};
+ghost use Rattle.std.specs.Prelude.{drop, length, take, IfOk, OnErr, OnOk, IsSome, slice_get, true, false};
 ghost use Rattle.std.specs.Prelude.{List, ℕ};
 ghost use Rattle.std.specs.List.{list_any, All};
 ghost use Rattle.md_blocks.specs.Tapes.{lines_end, entries_of};
@@ -159,6 +159,8 @@ impl Nesting {
         ensures start { self.new.leaves.start ≡ self.old.leaves.start }
         ensures lines { OnOk result (self.new.leaves.lines.items
             ≡ self.old.leaves.lines.items ++ line ∷ []) }
+        ensures unchanged { OnErr result
+            (self.new.leaves.lines.items ≡ self.old.leaves.lines.items) }
         ensures grows { vec_len self.old.leaves.lines ≤ vec_len self.new.leaves.lines }
         ensures entries { OnOk result ((bytes : List ℕ) →
             entries_of bytes self.new.leaves.lines.items self.new.tape.items

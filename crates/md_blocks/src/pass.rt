@@ -1,9 +1,10 @@
 //! The pass over the lines of a document.
 
 ghost use Rattle.std.specs.Prelude.{◌≡◌, ◌≤◌, ◌<◌, ◌+◌, ◌++◌, ◌∷◌, []};
-ghost use Rattle.std.specs.Prelude.{ℕ, Bool, None, ◌&&◌, if◌then◌else◌, false, true, length, vec_len, List, OnOk, IfOk, IsTrue, nat_lt};
+ghost use Rattle.std.specs.Prelude.{ℕ, Bool, None, ◌&&◌, if◌then◌else◌, false, true, drop, length};
+ghost use Rattle.std.specs.Prelude.{vec_len, List, OnOk, IfOk, IsTrue, nat_lt};
 ghost use Rattle.md_blocks.specs.Tape.{enters, exits};
-ghost use Rattle.md_blocks.specs.Tapes.{has_info};
+ghost use Rattle.md_blocks.specs.Tapes.{are_whole, has_info, is_paragraph};
 
 use crate::block::Block;
 use crate::blocks::Blocks;
@@ -68,7 +69,8 @@ impl OpenLeaf {
     /// Whether it is indented code.
     #[inline(always)]
     pub(crate) fn is_indented(self) -> bool
-        ensures { (lines : List entries.Line) → result ≡ is_indented (leaf_of self lines) }
+        ensures state { (lines : List entries.Line) → result ≡ is_indented (leaf_of self lines) }
+        ensures no_paragraph { IsTrue result → is_paragraph self ≡ false }
     {
         matches!(self, OpenLeaf::Indented)
     }
@@ -104,9 +106,12 @@ pub(crate) struct Pass<'a> {
     ghost short: { length bytes.now ≤ 1152921504606846976 },
     ghost info: { has_info leaf ≡ true
         → nesting.leaves.start < vec_len nesting.leaves.lines },
+    ghost whole: { is_paragraph leaf ≡ true
+        → are_whole (drop nesting.leaves.start nesting.leaves.lines.items) ≡ true },
 }
 
 impl<'a> Pass<'a> {
+    ghost use Rattle.md_blocks.specs.Documents.{document_read, lines_of, lines_read, beginning};
     ghost use Rattle.md_blocks.specs.BlockStructure.{leaf_continued, line_after, line_read, started};
     ghost use Rattle.md_blocks.specs.LeafBlocks.{blank_read, blank_waits, if_begun, line_added};
     ghost use Rattle.md_blocks.specs.Progress.{SkipsBlank};
@@ -114,7 +119,7 @@ impl<'a> Pass<'a> {
     ghost use Rattle.md_blocks.specs.Stack.{is_quote};
     ghost use Rattle.md_blocks.specs.States.{NoLeaf};
     ghost use Rattle.std.specs.List.{list_any};
-    ghost use Rattle.md_blocks.specs.Passes.{defined_by, leaf_of, state_of};
+    ghost use Rattle.md_blocks.specs.Passes.{defined_in, leaf_of, state_of};
     ghost use Rattle.md_blocks.specs.Positions.{IsIn, ending_of, rest_of};
     ghost use Rattle.md_blocks.specs.States.{opened_in, with_a_child, with_entries, with_leaf};
     ghost use Rattle.md_blocks.specs.Tapes.{entry_of, line_of, lines_end};
@@ -157,6 +162,8 @@ impl<'a> Pass<'a> {
     /// Returns the result.
     pub(crate) fn into_blocks(self) -> Blocks
         requires { vec_len self.nesting.stack ≤ 0 }
+        ensures tape { result.tape.items ≡ self.entry.nesting.tape.items }
+        ensures lines { result.lines.items ≡ self.entry.nesting.leaves.lines.items }
     {
         let Pass {
             nesting,
@@ -174,10 +181,31 @@ impl<'a> Pass<'a> {
 
     /// Reads the document.
     pub(crate) fn run(&mut self) -> Result<(), AllocError>
-        ensures { OnOk result (vec_len self.new.nesting.stack ≤ 0) }
+        requires first { self.old.is_after_blank ≡ false }
+        ensures closed { OnOk result (vec_len self.new.nesting.stack ≤ 0) }
+        ensures document { self.new.bytes ≡ self.old.bytes }
+        ensures state { state_of self.old ≡ started
+            → OnOk result (state_of self.new
+            ≡ document_read self.old.options.now self.old.bytes.now) }
+    {
+        let from = self.read_front_matter()?;
+        self.read_lines(from)?;
+        self.close_unmatched(0)
+    }
+
+    /// Reads the lines that begin at `from`.
+    #[inline(always)]
+    fn read_lines(&mut self, from: usize) -> Result<(), AllocError>
+        requires first { self.old.is_after_blank ≡ false }
+        requires within { from ≤ length self.old.bytes.now }
+        ensures state { OnOk result (state_of self.new
+            ≡ lines_read self.old.options.now (lines_of (drop from self.old.bytes.now))
+            (state_of self.old)) }
+        ensures document { self.new.bytes ≡ self.old.bytes }
+        ensures options { self.new.options ≡ self.old.options }
     {
         let bytes = self.bytes;
-        let mut at = self.read_front_matter()?;
+        let mut at = from;
         'lines: while at < bytes.len() {
             let end = line_end(bytes, at);
             let next = after_ending(bytes, end);
@@ -185,7 +213,7 @@ impl<'a> Pass<'a> {
             self.read_line(&mut Position::new(&bytes[..end], at, ending))?;
             at = next;
         }
-        self.close_unmatched(0)
+        Ok(())
     }
 
     /// Reads front matter, if the options say so. Returns the index after it, or after a byte order
@@ -193,6 +221,13 @@ impl<'a> Pass<'a> {
     fn read_front_matter(&mut self) -> Result<usize, AllocError>
         ensures off { self.old.options.now.front_matter ≡ false
             → OnOk result (self.new ≡ self.old) }
+        ensures state { state_of self.old ≡ started → IfOk result (λ from.
+            beginning self.old.options.now self.old.bytes.now ≡ record {
+              state = state_of self.new;
+              lines = lines_of (drop from self.old.bytes.now);
+            }) }
+        ensures within { IfOk result (λ from. from ≤ length self.old.bytes.now) }
+        ensures first { self.new.is_after_blank ≡ self.old.is_after_blank }
         ensures document { self.new.bytes ≡ self.old.bytes }
         ensures options { self.new.options ≡ self.old.options }
     {
@@ -201,7 +236,7 @@ impl<'a> Pass<'a> {
         }
         match front_matter(self.bytes) {
             Some(found) => {
-                self.put(Block::FrontMatter {
+                self.nesting.put(Block::FrontMatter {
                     ending: found.ending,
                 })?;
                 Ok(found.ending.end)
@@ -215,10 +250,10 @@ impl<'a> Pass<'a> {
     fn read_line(&mut self, position: &mut Position<'_>) -> Result<(), AllocError>
         requires in_document { IsIn self.old.bytes.now position.old }
         ensures state { (self.old.is_after_blank ≡ true → SkipsBlank (state_of self.old))
-            → OnOk result ((defined : ℕ) × (is_alone : Bool) × (state_of self.new
-            ≡ line_read self.old.options.now is_alone defined (nat_lt 0 position.old.ending)
+            → OnOk result (state_of self.new
+            ≡ line_read self.old.options.now (nat_lt 0 position.old.ending)
             (rest_of position.old) (ending_of self.old.bytes.now position.old)
-            (state_of self.old))) }
+            (state_of self.old)) }
         ensures skips { (self.old.is_after_blank ≡ true → SkipsBlank (state_of self.old))
             → OnOk result (self.new.is_after_blank ≡ true → SkipsBlank (state_of self.new)) }
         ensures document { self.new.bytes ≡ self.old.bytes }
@@ -244,10 +279,10 @@ impl<'a> Pass<'a> {
     #[inline(always)]
     fn read_in_containers(&mut self, position: &mut Position<'_>) -> Result<(), AllocError>
         requires in_document { IsIn self.old.bytes.now position.old }
-        ensures state { OnOk result ((defined : ℕ) × (is_alone : Bool) × (state_of self.new
-            ≡ line_read self.old.options.now is_alone defined (nat_lt 0 position.old.ending)
+        ensures state { OnOk result (state_of self.new
+            ≡ line_read self.old.options.now (nat_lt 0 position.old.ending)
             (rest_of position.old) (ending_of self.old.bytes.now position.old)
-            (state_of self.old))) }
+            (state_of self.old)) }
         ensures skips { OnOk result
             (self.new.is_after_blank ≡ true → SkipsBlank (state_of self.new)) }
         ensures document { self.new.bytes ≡ self.old.bytes }
@@ -272,15 +307,15 @@ impl<'a> Pass<'a> {
         is_whole: bool,
     ) -> Result<bool, AllocError>
         requires in_document { IsIn self.old.bytes.now position.old }
-        ensures state { OnOk result ((defined : ℕ) × (is_alone : Bool) × (state_of self.new
-            ≡ line_after self.old.options.now is_alone defined matched is_whole
+        ensures state { OnOk result (state_of self.new
+            ≡ line_after self.old.options.now matched is_whole
             (nat_lt 0 position.old.ending) (rest_of position.old)
-            (ending_of self.old.bytes.now position.old) (state_of self.old))) }
+            (ending_of self.old.bytes.now position.old) (state_of self.old)) }
         ensures blank { IfOk result (λ is_blank. is_blank ≡ true
-            → (is_blank_rest (rest_of position.old) ≡ true) × ((defined : ℕ) × (state_of self.new
-            ≡ blank_waits (nat_lt 0 position.old.ending) (blank_read defined matched is_whole
-            (rest_of position.old) (ending_of self.old.bytes.now position.old)
-            (state_of self.old))))) }
+            → (is_blank_rest (rest_of position.old) ≡ true) × (state_of self.new
+            ≡ blank_waits (nat_lt 0 position.old.ending) (blank_read (defined_in self.old) matched
+            is_whole (rest_of position.old) (ending_of self.old.bytes.now position.old)
+            (state_of self.old)))) }
         ensures document { self.new.bytes ≡ self.old.bytes }
         ensures options { self.new.options ≡ self.old.options }
     {
@@ -345,7 +380,7 @@ impl<'a> Pass<'a> {
     ) -> Result<(), AllocError>
         requires in_document { IsIn self.old.bytes.now position.old }
         ensures state { OnOk result (state_of self.new ≡ blank_waits (nat_lt 0 position.old.ending)
-            (blank_read (defined_by self.old self.new) matched is_whole (rest_of position.old)
+            (blank_read (defined_in self.old) matched is_whole (rest_of position.old)
             (ending_of self.old.bytes.now position.old) (state_of self.old))) }
         ensures document { self.new.bytes ≡ self.old.bytes }
         ensures options { self.new.options ≡ self.old.options }
@@ -386,7 +421,7 @@ impl<'a> Pass<'a> {
     ) -> Result<(), AllocError>
         requires in_document { IsIn self.old.bytes.now position.old }
         ensures state { OnOk result (state_of self.new ≡ blank_read
-            (defined_by self.old self.new) matched is_whole (rest_of position.old)
+            (defined_in self.old) matched is_whole (rest_of position.old)
             (ending_of self.old.bytes.now position.old) (state_of self.old)) }
         ensures document { self.new.bytes ≡ self.old.bytes }
         ensures options { self.new.options ≡ self.old.options }
@@ -419,6 +454,7 @@ impl<'a> Pass<'a> {
     /// Opens a leaf with its first line.
     #[inline(always)]
     pub(crate) fn begin(&mut self, leaf: OpenLeaf, line: Line) -> Result<(), AllocError>
+        requires whole { is_paragraph leaf ≡ true → line.columns ≡ 0 }
         ensures state { OnOk result (state_of self.new ≡ with_leaf
             (leaf_of leaf (line_of self.old.bytes.now line ∷ [])) (state_of self.old)) }
         ensures leaf { OnOk result (self.new.leaf ≡ leaf) }
@@ -436,6 +472,7 @@ impl<'a> Pass<'a> {
     /// Pushes a line of the open leaf.
     #[inline(always)]
     pub(crate) fn push_line(&mut self, line: Line) -> Result<(), AllocError>
+        requires whole { is_paragraph self.old.leaf ≡ true → line.columns ≡ 0 }
         ensures state { OnOk result (state_of self.new
             ≡ line_added (line_of self.old.bytes.now line) (state_of self.old)) }
         ensures start { self.new.nesting.leaves.start ≡ self.old.nesting.leaves.start }

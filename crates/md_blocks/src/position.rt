@@ -50,6 +50,7 @@ impl<'a> Position<'a> {
         requires short { length line.now ≤ 1152921504606846976 }
         ensures at { result.at ≡ at }
         ensures line { result.line.now ≡ line.now }
+        ensures ending { result.ending ≡ ending }
         ensures rest { rest_of result ≡ rest_at 0 (drop at line.now) }
     {
         let (text, indent) = text_after(line, at, 0);
@@ -199,6 +200,7 @@ impl<'a> Position<'a> {
     pub(crate) fn text_line(&self) -> Line
         ensures end { result.end ≡ length self.now.line.now }
         ensures ending { result.ending ≡ self.now.ending }
+        ensures columns { result.columns ≡ 0 }
         ensures line { (bytes : List ℕ) → IsIn bytes self.now
             → line_of bytes result ≡ text_line bytes self.now }
     {

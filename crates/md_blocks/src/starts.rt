@@ -2,7 +2,7 @@
 
 ghost use Rattle.std.specs.Prelude.{◌≡◌, ◌<◌, ◌∷◌, [], true, false, ℕ, Bool, IfOk, OnOk};
 ghost use Rattle.std.specs.Prelude.{IfSome, is_some, length, vec_len};
-ghost use Rattle.std.specs.Prelude.{◌&&◌, ◌||◌, ◌==◌, get_or, IsTrue, nat_lt, if◌then◌else◌};
+ghost use Rattle.std.specs.Prelude.{◌&&◌, ◌||◌, ◌==◌, get_or, IsTrue, nat_lt, not, if◌then◌else◌};
 ghost use Rattle.md_blocks.specs.BlockStructure.{break_at, leaf_begun, marks_begun, may_underline};
 ghost use Rattle.md_blocks.specs.BlockStructure.{Ends, GoesOn, begun, block_begun, deep_read};
 ghost use Rattle.md_blocks.specs.BlockStructure.{step_read, text_begun, unless_underlined};
@@ -34,7 +34,7 @@ use std::alloc::AllocError;
 const MOST_MISSING: usize = 1 << 19;
 
 impl<'a> Pass<'a> {
-    ghost use Rattle.md_blocks.specs.Passes.{defined_by, leaf_lines, state_of};
+    ghost use Rattle.md_blocks.specs.Passes.{defined_in, leaf_lines, state_of};
     ghost use Rattle.md_blocks.specs.Positions.{IsIn, ending_of, rest_of, text_at, text_line};
     ghost use Rattle.md_blocks.specs.Progress.{begun_of};
 
@@ -47,15 +47,16 @@ impl<'a> Pass<'a> {
         is_whole: bool,
     ) -> Result<bool, AllocError>
         requires in_document { IsIn self.old.bytes.now position.old }
-        ensures state { OnOk result ((defined : ℕ) × (is_alone : Bool) × (state_of self.new
-            ≡ begun (length (rest_of position.old).text) self.old.options.now is_alone defined matched
-            is_whole (nat_lt 0 position.old.ending) false (rest_of position.old)
-            (ending_of self.old.bytes.now position.old) (state_of self.old))) }
-        ensures blank { IfOk result (λ is_blank. is_blank ≡ true
-            → (is_blank_rest (rest_of position.old) ≡ true) × ((defined : ℕ) × (state_of self.new
-            ≡ blank_waits (nat_lt 0 position.old.ending) (blank_read defined matched is_whole
+        ensures state { OnOk result (state_of self.new
+            ≡ begun (length (rest_of position.old).text) self.old.options.now
+            (defined_in self.old) matched is_whole (nat_lt 0 position.old.ending) false
             (rest_of position.old) (ending_of self.old.bytes.now position.old)
-            (state_of self.old))))) }
+            (state_of self.old)) }
+        ensures blank { IfOk result (λ is_blank. is_blank ≡ true
+            → (is_blank_rest (rest_of position.old) ≡ true) × (state_of self.new
+            ≡ blank_waits (nat_lt 0 position.old.ending) (blank_read (defined_in self.old) matched
+            is_whole (rest_of position.old) (ending_of self.old.bytes.now position.old)
+            (state_of self.old)))) }
         ensures document { self.new.bytes ≡ self.old.bytes }
         ensures options { self.new.options ≡ self.old.options }
     {
@@ -90,10 +91,10 @@ impl<'a> Pass<'a> {
         ensures goes_on { IfOk result (λ goes_on. IsTrue goes_on
             → position.old.at < position.new.at) }
         ensures state { IfOk result (λ goes_on. byte ≡ get_or (text_at position.old) 0 0
-            → (defined : ℕ) × (is_alone : Bool) × (step_read self.old.options.now is_alone defined
+            → step_read self.old.options.now (defined_in self.old)
             depth is_whole (rest_of position.old) (ending_of self.old.bytes.now position.old)
             (state_of self.old)
-            ≡ (if goes_on then GoesOn (begun_of self.new position.new) else Ends (state_of self.new)))) }
+            ≡ (if goes_on then GoesOn (begun_of self.new position.new) else Ends (state_of self.new))) }
         ensures same_line { position.new.line ≡ position.old.line }
         ensures same_ending { position.new.ending ≡ position.old.ending }
         ensures document { self.new.bytes ≡ self.old.bytes }
@@ -119,7 +120,7 @@ impl<'a> Pass<'a> {
         is_whole: bool,
     ) -> Result<(), AllocError>
         requires in_document { IsIn self.old.bytes.now position.old }
-        ensures state { OnOk result (state_of self.new ≡ deep_read (defined_by self.old self.new)
+        ensures state { OnOk result (state_of self.new ≡ deep_read (defined_in self.old)
             depth is_whole (rest_of position.old) (ending_of self.old.bytes.now position.old)
             (state_of self.old)) }
         ensures same_line { position.new.line ≡ position.old.line }
@@ -149,10 +150,10 @@ impl<'a> Pass<'a> {
         ensures goes_on { IfOk result (λ goes_on. IsTrue goes_on
             → position.old.at < position.new.at) }
         ensures state { IfOk result (λ goes_on. byte ≡ get_or (text_at position.old) 0 0
-            → (defined : ℕ) × (is_alone : Bool) × (block_begun self.old.options.now is_alone defined
+            → block_begun self.old.options.now (defined_in self.old)
             depth is_whole (rest_of position.old) (ending_of self.old.bytes.now position.old)
             (state_of self.old)
-            ≡ (if goes_on then GoesOn (begun_of self.new position.new) else Ends (state_of self.new)))) }
+            ≡ (if goes_on then GoesOn (begun_of self.new position.new) else Ends (state_of self.new))) }
         ensures same_line { position.new.line ≡ position.old.line }
         ensures same_ending { position.new.ending ≡ position.old.ending }
         ensures document { self.new.bytes ≡ self.old.bytes }
@@ -178,9 +179,10 @@ impl<'a> Pass<'a> {
         is_whole: bool,
     ) -> Result<(), AllocError>
         requires in_document { IsIn self.old.bytes.now position.now }
-        ensures state { OnOk result ((defined : ℕ) × (state_of self.new
-            ≡ text_begun self.old.options.now defined depth is_whole (rest_of position.now)
-            (ending_of self.old.bytes.now position.now) (state_of self.old))) }
+        ensures state { OnOk result (state_of self.new
+            ≡ text_begun self.old.options.now (defined_in self.old) depth is_whole
+            (rest_of position.now) (ending_of self.old.bytes.now position.now)
+            (state_of self.old)) }
         ensures document { self.new.bytes ≡ self.old.bytes }
         ensures options { self.new.options ≡ self.old.options }
     {
@@ -203,11 +205,11 @@ impl<'a> Pass<'a> {
     ) -> Result<bool, AllocError>
         requires in_document { IsIn self.old.bytes.now position.now }
         ensures state { IfOk result (λ has_begun. byte ≡ get_or (text_at position.now) 0 0
-            → (defined : ℕ) × (is_alone : Bool) × (leaf_begun self.old.options.now is_alone defined
+            → (leaf_begun self.old.options.now (defined_in self.old)
             depth (is_whole && is_in_paragraph (state_of self.old).leaf) (rest_of position.now)
             (ending_of self.old.bytes.now position.now) (state_of self.old)
             ≡ if_begun has_begun (state_of self.new))
-            × (has_begun ≡ false → state_of self.new ≡ unless_underlined defined
+            × (has_begun ≡ false → state_of self.new ≡ unless_underlined (defined_in self.old)
             (is_whole && is_in_paragraph (state_of self.old).leaf) (rest_of position.now)
             (state_of self.old))) }
         ensures document { self.new.bytes ≡ self.old.bytes }
@@ -245,9 +247,9 @@ impl<'a> Pass<'a> {
         requires in_document { IsIn self.old.bytes.now position.now }
         requires is_paragraph { in_paragraph ≡ true → self.old.leaf ≡ leaf.Paragraph }
         ensures state { IfOk result (λ has_begun. byte ≡ get_or (text_at position.now) 0 0
-            → (defined : ℕ) × (marks_begun defined depth in_paragraph (rest_of position.now)
+            → (marks_begun (defined_in self.old) depth in_paragraph (rest_of position.now)
             (state_of self.old) ≡ if_begun has_begun (state_of self.new))
-            × (has_begun ≡ false → state_of self.new ≡ unless_underlined defined in_paragraph
+            × (has_begun ≡ false → state_of self.new ≡ unless_underlined (defined_in self.old) in_paragraph
             (rest_of position.now) (state_of self.old))) }
         ensures document { self.new.bytes ≡ self.old.bytes }
         ensures options { self.new.options ≡ self.old.options }
@@ -270,7 +272,7 @@ impl<'a> Pass<'a> {
         depth: usize,
     ) -> Result<bool, AllocError>
         ensures state { IfOk result (λ has_begun. byte ≡ get_or (text_at position.now) 0 0
-            → break_at (defined_by self.old self.new) depth (text_at position.now)
+            → break_at (defined_in self.old) depth (text_at position.now)
             (state_of self.old) ≡ if_begun has_begun (state_of self.new)) }
         ensures same { IfOk result (λ has_begun.
             has_begun ≡ false → state_of self.new ≡ state_of self.old) }
@@ -287,7 +289,7 @@ impl<'a> Pass<'a> {
     fn begin_heading(&mut self, position: &Position<'_>, depth: usize) -> Result<bool, AllocError>
         requires in_document { IsIn self.old.bytes.now position.now }
         ensures state { IfOk result (λ has_begun.
-            heading_begun (defined_by self.old self.new) depth (text_at position.now)
+            heading_begun (defined_in self.old) depth (text_at position.now)
             (state_of self.old) ≡ if_begun has_begun (state_of self.new)) }
         ensures same { IfOk result (λ has_begun.
             has_begun ≡ false → state_of self.new ≡ state_of self.old) }
@@ -314,9 +316,9 @@ impl<'a> Pass<'a> {
         depth: usize,
     ) -> Result<bool, AllocError>
         requires in_document { IsIn self.old.bytes.now position.now }
-        ensures state { IfOk result (λ has_begun. (defined : ℕ)
-            × (code_begun defined mark depth (rest_of position.now) (state_of self.old)
-            ≡ if_begun has_begun (state_of self.new))) }
+        ensures state { IfOk result (λ has_begun.
+            code_begun (defined_in self.old) mark depth (rest_of position.now) (state_of self.old)
+            ≡ if_begun has_begun (state_of self.new)) }
         ensures same { IfOk result (λ has_begun.
             has_begun ≡ false → state_of self.new ≡ state_of self.old) }
         ensures document { self.new.bytes ≡ self.old.bytes }
@@ -334,10 +336,10 @@ impl<'a> Pass<'a> {
     /// Begins math after a line of dollar signs.
     fn begin_math(&mut self, position: &Position<'_>, depth: usize) -> Result<bool, AllocError>
         requires in_document { IsIn self.old.bytes.now position.now }
-        ensures state { IfOk result (λ has_begun. (defined : ℕ)
-            × (math_begun defined depth (rest_of position.now)
+        ensures state { IfOk result (λ has_begun.
+            math_begun (defined_in self.old) depth (rest_of position.now)
             (ending_of self.old.bytes.now position.now) (state_of self.old)
-            ≡ if_begun has_begun (state_of self.new))) }
+            ≡ if_begun has_begun (state_of self.new)) }
         ensures same { IfOk result (λ has_begun.
             has_begun ≡ false → state_of self.new ≡ state_of self.old) }
         ensures document { self.new.bytes ≡ self.old.bytes }
@@ -370,11 +372,10 @@ impl<'a> Pass<'a> {
         in_paragraph: bool,
     ) -> Result<bool, AllocError>
         requires in_document { IsIn self.old.bytes.now position.now }
-        ensures state { IfOk result (λ has_begun. (is_alone : Bool) × (defined : ℕ)
-            × (in_paragraph ≡ true → is_alone ≡ false)
-            × (html_begun defined depth (kind_begun is_alone (text_at position.now))
+        ensures state { IfOk result (λ has_begun.
+            html_begun (defined_in self.old) depth (kind_begun (not in_paragraph) (text_at position.now))
             (rest_of position.now) (ending_of self.old.bytes.now position.now) (state_of self.old)
-            ≡ if_begun has_begun (state_of self.new))) }
+            ≡ if_begun has_begun (state_of self.new)) }
         ensures same { IfOk result (λ has_begun.
             has_begun ≡ false → state_of self.new ≡ state_of self.old) }
         ensures document { self.new.bytes ≡ self.old.bytes }
@@ -397,10 +398,11 @@ impl<'a> Pass<'a> {
         requires in_document { IsIn self.old.bytes.now position.now }
         requires is_paragraph { self.old.leaf ≡ leaf.Paragraph }
         ensures state { IfOk result (λ has_begun. heading_underlined
-            (defined_by self.old self.new) mark (text_at position.now) (leaf_lines self.old)
+            (defined_in self.old) mark (text_at position.now) (leaf_lines self.old)
             (state_of self.old) ≡ if_begun has_begun (state_of self.new)) }
-        ensures rest { IfOk result (λ has_begun. has_begun ≡ false → state_of self.new
-            ≡ definitions_taken (defined_by self.old self.new) (leaf_lines self.old)
+        ensures rest { IfOk result (λ has_begun. has_begun ≡ false
+            → is_underline mark (text_at position.now) ≡ true → state_of self.new
+            ≡ definitions_taken (defined_in self.old) (leaf_lines self.old)
             (state_of self.old)) }
         ensures same { IfOk result (λ _. is_underline mark (text_at position.now) ≡ false
             → self.new ≡ self.old) }
@@ -430,7 +432,7 @@ impl<'a> Pass<'a> {
         depth: usize,
     ) -> Result<bool, AllocError>
         ensures state { IfOk result (λ has_begun.
-            break_begun (defined_by self.old self.new) mark depth (text_at position.now)
+            break_begun (defined_in self.old) mark depth (text_at position.now)
             (state_of self.old) ≡ if_begun has_begun (state_of self.new)) }
         ensures same { IfOk result (λ has_begun.
             has_begun ≡ false → state_of self.new ≡ state_of self.old) }
@@ -482,7 +484,7 @@ impl<'a> Pass<'a> {
         is_whole: bool,
     ) -> Result<(), AllocError>
         requires in_document { IsIn self.old.bytes.now position.now }
-        ensures state { OnOk result (state_of self.new ≡ text_read (defined_by self.old self.new)
+        ensures state { OnOk result (state_of self.new ≡ text_read (defined_in self.old)
             depth is_whole (text_line self.old.bytes.now position.now) (state_of self.old)) }
         ensures document { self.new.bytes ≡ self.old.bytes }
         ensures options { self.new.options ≡ self.old.options }
@@ -525,10 +527,10 @@ impl<'a> Pass<'a> {
     fn begin_table(&mut self, position: &Position<'_>) -> Result<bool, AllocError>
         requires in_document { IsIn self.old.bytes.now position.now }
         requires is_paragraph { self.old.leaf ≡ leaf.Paragraph }
-        ensures state { IfOk result (λ has_begun. (defined : ℕ)
-            × (table_begun self.old.options.now.tables defined (text_at position.now)
+        ensures state { IfOk result (λ has_begun.
+            table_begun self.old.options.now.tables (text_at position.now)
             (ending_of self.old.bytes.now position.now) (leaf_lines self.old) (state_of self.old)
-            ≡ if_begun has_begun (state_of self.new))) }
+            ≡ if_begun has_begun (state_of self.new)) }
         ensures same { IfOk result (λ has_begun. has_begun ≡ false → self.new ≡ self.old) }
         ensures document { self.new.bytes ≡ self.old.bytes }
         ensures options { self.new.options ≡ self.old.options }
@@ -570,8 +572,8 @@ impl<'a> Pass<'a> {
     fn split_paragraph(&mut self) -> Result<(), AllocError>
         requires is_paragraph { self.old.leaf ≡ leaf.Paragraph }
         requires some { self.old.nesting.leaves.start < vec_len self.old.nesting.leaves.lines }
-        ensures state { OnOk result ((defined : ℕ) × (state_of self.new
-            ≡ paragraph_split defined (leaf_lines self.old) (state_of self.old))) }
+        ensures state { OnOk result (state_of self.new
+            ≡ paragraph_split (leaf_lines self.old) (state_of self.old)) }
         ensures lines { OnOk result (leaf_lines self.new ≡ last_line (leaf_lines self.old) ∷ []) }
         ensures document { self.new.bytes ≡ self.old.bytes }
         ensures options { self.new.options ≡ self.old.options }

@@ -17,5 +17,5 @@ pub use find::find_any;
 pub use line::{Line, after_ending, line_end};
 pub use link::{Title, read_destination, read_label, read_title};
 pub use span::Span;
-pub use tag::read_tag;
+pub use tag::{read_tag, skip_tag};
 pub use trim::{trim_end, trim_start};

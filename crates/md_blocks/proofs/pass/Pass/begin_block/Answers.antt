@@ -1,11 +1,11 @@
 -- The indentation and the first byte decide.
-use Rattle.std.proofs.Common.{ℕ, Bool, ap, sym, ◌∙◌, ◌≡◌, true, false}
+use Rattle.std.proofs.Common.{Bool, ap, sym, ◌∙◌, ◌≡◌, true}
 use Rattle.std.specs.Prelude.{get_or, nat_lt, if◌then◌else◌}
 use Rattle.std.proofs.lemmas.Bool.{le-ltb, lt-ltb}
 use Rattle.std.proofs.lemmas.Result.{IfOk-weaker}
 use Rattle.md_blocks.specs.BlockStructure.{Step, Ends, GoesOn, block_begun, deep_read}
 use Rattle.md_blocks.specs.LeafBlocks.{a_line, text_read}
-use Rattle.md_blocks.specs.Passes.{defined_by, state_of}
+use Rattle.md_blocks.specs.Passes.{defined_in, state_of}
 use Rattle.md_blocks.specs.Positions.{ending_of, rest_of, text_at}
 use Rattle.md_blocks.specs.Progress.{begun_of, is_text}
 use Rattle.md_blocks.specs.Rests.{indent, unindented}
@@ -27,14 +27,11 @@ returns-then-position-ge-CODE_INDENT-clause-state c is =
     let depth = c.args.depth in
     let whole = c.args.is_whole in
     let ending = ending_of p.bytes.now place in
-    let n = defined_by p new in (
-      n,
-      false,
-      ap (λ so. shallow so (block_begun p.options.now false n depth whole rest ending (state_of p))
-          (deep_read n depth whole rest ending (state_of p)))
-          (ap (λ i. nat_lt i 4) (sym place.indents) ∙ le-ltb place.indent 4 c.if-position-ge-CODE_INDENT.true)
-          ∙ ap Ends (sym c.in_ok-read_deep.ensures.state),
-    )
+    let n = defined_in p in
+    ap (λ so. shallow so (block_begun p.options.now n depth whole rest ending (state_of p))
+    (deep_read n depth whole rest ending (state_of p)))
+    (ap (λ i. nat_lt i 4) (sym place.indents) ∙ le-ltb place.indent 4 c.if-position-ge-CODE_INDENT.true)
+    ∙ ap Ends (sym c.in_ok-read_deep.ensures.state)
 
 pub returns-then-is_text-clause-state : goal.returns-then-is_text-clause-state
 returns-then-is_text-clause-state c is =
@@ -45,20 +42,17 @@ returns-then-is_text-clause-state c is =
     let depth = c.args.depth in
     let whole = c.args.is_whole in
     let ending = ending_of p.bytes.now place in
-    let n = defined_by p new in
+    let n = defined_in p in
     let text : is_text (get_or (unindented rest) 0 0) ≡ true =
     ap is_text (ap (λ t. get_or t 0 0) (text_is place) ∙ sym is) ∙ sym c.is_text.ensures
-    ∙ c.if-is_text.true in (
-      n,
-      false,
-      ap (λ so. shallow so (block_begun p.options.now false n depth whole rest ending (state_of p))
-          (deep_read n depth whole rest ending (state_of p)))
-          (ap (λ i. nat_lt i 4) (sym place.indents)
-          ∙ lt-ltb place.indent 4 c.if-position-ge-CODE_INDENT.false)
-          ∙ text_block p.options.now n depth whole rest ending (state_of p) text
-          ∙ ap (λ t. Ends (text_read n depth whole (a_line t ending) (state_of p))) (text_is place)
-          ∙ ap Ends (sym c.in_ok-read_text.ensures.state),
-    )
+    ∙ c.if-is_text.true in
+    ap (λ so. shallow so (block_begun p.options.now n depth whole rest ending (state_of p))
+    (deep_read n depth whole rest ending (state_of p)))
+    (ap (λ i. nat_lt i 4) (sym place.indents)
+    ∙ lt-ltb place.indent 4 c.if-position-ge-CODE_INDENT.false)
+    ∙ text_block p.options.now n depth whole rest ending (state_of p) text
+    ∙ ap (λ t. Ends (text_read n depth whole (a_line t ending) (state_of p))) (text_is place)
+    ∙ ap Ends (sym c.in_ok-read_text.ensures.state)
 
 pub returns-clause-state : goal.returns-clause-state
 returns-clause-state c =
@@ -73,18 +67,15 @@ returns-clause-state c =
     let few = ap (λ i. nat_lt i 4) (sym place.indents)
     ∙ lt-ltb place.indent 4 c.if-position-ge-CODE_INDENT.false in
     IfOk-weaker c.begin_at_mark.result
-    (λ on. byte ≡ get_or (text_at place) 0 0 → (n : ℕ) × (alone : Bool)
-    × (block_begun p.options.now alone n depth whole rest ending (state_of p)
+    (λ on. byte ≡ get_or (text_at place) 0 0
+    → (block_begun p.options.now (defined_in p) depth whole rest ending (state_of p)
     ≡ (if on then GoesOn (begun_of new.self new.position) else Ends (state_of new.self))))
-    (λ on. byte ≡ get_or (text_at place) 0 0 → (n : ℕ) × (alone : Bool)
-    × (shallow (nat_lt (indent rest) 4) (block_begun p.options.now alone n depth whole rest ending
+    (λ on. byte ≡ get_or (text_at place) 0 0
+    → (shallow (nat_lt (indent rest) 4) (block_begun p.options.now (defined_in p) depth whole rest ending
     (state_of p))
-    (deep_read n depth whole rest ending (state_of p))
+    (deep_read (defined_in p) depth whole rest ending (state_of p))
     ≡ (if on then GoesOn (begun_of new.self new.position) else Ends (state_of new.self))))
-    (λ on found is. let begun = found is in (
-      begun.0,
-      begun.1,
-      ap (λ so. shallow so (block_begun p.options.now begun.1 begun.0 depth whole rest ending (state_of p))
-          (deep_read begun.0 depth whole rest ending (state_of p))) few ∙ begun.2,
-    ))
+    (λ on found is. let begun = found is in
+    ap (λ so. shallow so (block_begun p.options.now (defined_in p) depth whole rest ending (state_of p))
+    (deep_read (defined_in p) depth whole rest ending (state_of p))) few ∙ begun)
     c.begin_at_mark.ensures.state

@@ -1,11 +1,11 @@
 -- Each step begins what the definition says.
-use Rattle.std.proofs.Common.{ℕ, Bool, ap, sym, subst, refl, ◌∙◌, ◌≡◌, ◌<◌, ◌-◌, true, false}
+use Rattle.std.proofs.Common.{ap, sym, subst, refl, ◌∙◌, ◌≡◌, ◌<◌, ◌-◌, true, false}
 use Rattle.std.proofs.Common.{length, nat_lt, arith, is_some}
 use Rattle.std.specs.Prelude.{get_or, if◌then◌else◌}
 use Rattle.std.proofs.lemmas.Bool.{false≢true}
 use Rattle.md_blocks.specs.BlockStructure.{Ends, GoesOn, begun, blank_or, step_read}
 use Rattle.md_blocks.specs.LeafBlocks.{blank_read, blank_waits}
-use Rattle.md_blocks.specs.Passes.{defined_by, state_of}
+use Rattle.md_blocks.specs.Passes.{defined_in, state_of}
 use Rattle.md_blocks.specs.Positions.{ending_of, rest_of}
 use Rattle.md_blocks.specs.Progress.{begun_of}
 use Rattle.md_blocks.specs.Rests.{is_blank_rest, unindented}
@@ -27,7 +27,7 @@ parts-init c =
       left = (
         length (rest_of place).text,
         long place.line.now place.at place.column place.is_in_tab,
-        λ n alone. (n, alone, refl),
+        refl,
       );
     }
 
@@ -49,17 +49,17 @@ returns-then-not-branch-clause-state c =
     (first_is (unindented rest) c.in-Some.byte some ∙ ap (λ t. get_or t 0 0) (text_is at)) in
     let ending_is : ending_of q.bytes.now at ≡ ending =
     ap (λ b. ending_of b.now at) inv.document ∙ same_ending p.bytes.now place at inv.line inv.ending in
-    let step : step_read p.options.now found.1 found.0 depth whole rest ending (state_of q)
+    let step : step_read p.options.now (defined_in q) depth whole rest ending (state_of q)
     ≡ Ends (state_of new.self) =
-    ap (λ o. step_read o.now found.1 found.0 depth whole rest ending (state_of q)) (sym inv.options)
-    ∙ ap (λ e. step_read q.options.now found.1 found.0 depth whole rest e (state_of q)) (sym ending_is)
-    ∙ found.2
+    ap (λ o. step_read o.now (defined_in q) depth whole rest ending (state_of q)) (sym inv.options)
+    ∙ ap (λ e. step_read q.options.now (defined_in q) depth whole rest e (state_of q)) (sym ending_is)
+    ∙ found
     ∙ ap (λ so. if so then GoesOn (begun_of new.self new.position) else Ends (state_of new.self))
     c.if-not-branch.true in
-    ends_so (length at.line.now - at.at) p.options.now found.1 found.0 depth whole ended
+    ends_so (length at.line.now - at.at) p.options.now depth whole ended
     c.parts.has_begun rest
     ending (state_of q) (state_of new.self)
-    (λ n alone. begun (length (rest_of place).text) p.options.now alone n c.args.matched whole ended false
+    (begun (length (rest_of place).text) p.options.now (defined_in p) c.args.matched whole ended false
     (rest_of place) ending (state_of p))
     (some_text (unindented rest) c.in-Some.byte some)
     (omega (arith, c.byte.ensures.there (ap is_some c.in-Some.is), at.before_text)) step inv.left
@@ -83,18 +83,18 @@ parts-preserved c =
     let ending_is : ending_of q.bytes.now at ≡ ending =
     ap (λ b. ending_of b.now at) inv.document ∙ same_ending p.bytes.now place at inv.line inv.ending in
     let next = begun_of new.self new.position in
-    let step : step_read p.options.now found.1 found.0 depth whole rest ending (state_of q) ≡ GoesOn next =
-    ap (λ o. step_read o.now found.1 found.0 depth whole rest ending (state_of q)) (sym inv.options)
-    ∙ ap (λ e. step_read q.options.now found.1 found.0 depth whole rest e (state_of q)) (sym ending_is)
-    ∙ found.2
+    let step : step_read p.options.now (defined_in q) depth whole rest ending (state_of q) ≡ GoesOn next =
+    ap (λ o. step_read o.now (defined_in q) depth whole rest ending (state_of q)) (sym inv.options)
+    ∙ ap (λ e. step_read q.options.now (defined_in q) depth whole rest e (state_of q)) (sym ending_is)
+    ∙ found
     ∙ ap (λ so. if so then GoesOn next else Ends (state_of new.self)) c.if-not-branch.false in
     let further = c.in_ok-begin_block.ensures.goes_on c.if-not-branch.false in
     let line_is : length new.position.line.now ≡ length at.line.now =
     ap (λ l. length l.now) c.begin_block.ensures.same_line in
     let less : length new.position.line.now - new.position.at < length at.line.now - at.at =
     omega (arith, further, line_is, c.byte.ensures.there (ap is_some c.in-Some.is), at.before_text) in
-    let line : ℕ → Bool → State = λ n alone. begun (length
-    (rest_of place).text) p.options.now alone n c.args.matched whole ended
+    let line : State = begun (length
+    (rest_of place).text) p.options.now (defined_in p) c.args.matched whole ended
     false (rest_of place) ending (state_of p) in
     record {
       line = c.begin_block.ensures.same_line ∙ inv.line;
@@ -108,7 +108,7 @@ parts-preserved c =
           (rest_of new.position) ending (state_of new.self) line)
           (sym (c.depth-depth.ensures ∙ new.self.nesting.stack.ok.0))
           (goes_on (length at.line.now - at.at) (length new.position.line.now - new.position.at) p.options.now
-          found.1 found.0 depth whole ended c.parts.has_begun rest ending (state_of q) next line
+          depth whole ended c.parts.has_begun rest ending (state_of q) next line
           (some_text (unindented rest) c.in-Some.byte some) less step inv.left);
     }
 
@@ -125,14 +125,11 @@ returns-then-has_begun-clause-state c =
     let ending = ending_of p.bytes.now place in
     let rest = rest_of at in
     let blank = no_text (unindented rest) (sym c.byte.ensures.value ∙ c.in_default.is) in
-    let given = inv.left.2 0 false in (
-      given.0,
-      given.1,
-      sym (begun_blank inv.left.0 p.options.now false 0 depth whole ended c.parts.has_begun rest
-          ending (state_of q) blank
-          ∙ ap (λ so. blank_or 0 depth whole ended so rest ending (state_of q)) c.if-has_begun.true)
-          ∙ given.2,
-    )
+    let given = inv.left.2 in
+    sym (begun_blank inv.left.0 p.options.now (defined_in q) depth whole ended c.parts.has_begun rest
+    ending (state_of q) blank
+    ∙ ap (λ so. blank_or (defined_in q) depth whole ended so rest ending (state_of q)) c.if-has_begun.true)
+    ∙ given
 
 pub returns-clause-state : goal.returns-clause-state
 returns-clause-state c =
@@ -148,25 +145,22 @@ returns-clause-state c =
     let ended = nat_lt 0 place.ending in
     let ending = ending_of p.bytes.now place in
     let rest = rest_of at in
-    let n = defined_by q new in
+    let n = defined_in q in
     let ending_is : ending_of q.bytes.now at ≡ ending =
     ap (λ b. ending_of b.now at) inv.document ∙ same_ending p.bytes.now place at inv.line inv.ending in
     let blank = no_text (unindented rest) (sym c.byte.ensures.value ∙ c.in_default.is) in
-    let given = inv.left.2 n false in
-    let read = c.in_ok-read_blank_line.ensures.state in (
-      given.0,
-      given.1,
-      read
-          ∙ ap (λ b. blank_waits (nat_lt 0 b) (blank_read n matched whole rest
-          (ending_of q.bytes.now at) (state_of q))) inv.ending
-          ∙ ap (λ e. blank_waits ended (blank_read n matched whole rest e (state_of q))) ending_is
-          ∙ ap (λ d. blank_waits ended (blank_read n d whole rest ending (state_of q))) (sym
-          (inv.first c.if-has_begun.false))
-          ∙ sym (begun_blank inv.left.0 p.options.now false n depth whole ended c.parts.has_begun
-          rest ending (state_of q) blank
-          ∙ ap (λ so. blank_or n depth whole ended so rest ending (state_of q)) c.if-has_begun.false)
-          ∙ given.2,
-    )
+    let given = inv.left.2 in
+    let read = c.in_ok-read_blank_line.ensures.state in
+    read
+    ∙ ap (λ b. blank_waits (nat_lt 0 b) (blank_read n matched whole rest
+    (ending_of q.bytes.now at) (state_of q))) inv.ending
+    ∙ ap (λ e. blank_waits ended (blank_read n matched whole rest e (state_of q))) ending_is
+    ∙ ap (λ d. blank_waits ended (blank_read n d whole rest ending (state_of q))) (sym
+    (inv.first c.if-has_begun.false))
+    ∙ sym (begun_blank inv.left.0 p.options.now n depth whole ended c.parts.has_begun
+    rest ending (state_of q) blank
+    ∙ ap (λ so. blank_or n depth whole ended so rest ending (state_of q)) c.if-has_begun.false)
+    ∙ given
 
 pub returns-clause-blank : goal.returns-clause-blank
 returns-clause-blank c _ =
@@ -175,16 +169,13 @@ returns-clause-blank c _ =
     let at = c.parts.position in
     let whole = c.args.is_whole in
     let matched = c.args.matched in
-    let n = defined_by q c.read_blank_line.new.self in
+    let n = defined_in q in
     let same = c.parts.invariant.same c.if-has_begun.false in
     let blank = no_text (unindented (rest_of at)) (sym c.byte.ensures.value ∙ c.in_default.is) in (
       ap (λ a. is_blank_rest (rest_of a)) (sym same.1) ∙ blank,
-      (
-        n,
-        c.in_ok-read_blank_line.ensures.state
-            ∙ ap (λ a. blank_waits (nat_lt 0 a.ending) (blank_read n matched whole (rest_of a)
-            (ending_of q.bytes.now a) (state_of q))) same.1
-            ∙ ap (λ s. blank_waits (nat_lt 0 place.ending) (blank_read n matched whole (rest_of place)
-            (ending_of s.bytes.now place) (state_of s))) same.0,
-      ),
+      c.in_ok-read_blank_line.ensures.state
+          ∙ ap (λ a. blank_waits (nat_lt 0 a.ending) (blank_read n matched whole (rest_of a)
+          (ending_of q.bytes.now a) (state_of q))) same.1
+          ∙ ap (λ s. blank_waits (nat_lt 0 place.ending) (blank_read (defined_in s) matched whole (rest_of place)
+          (ending_of s.bytes.now place) (state_of s))) same.0,
     )

@@ -1,7 +1,7 @@
 -- Each iteration moves forward in the same line, and what is left of it gives the same state.
 use Rattle.std.proofs.Common.{◌≡◌, ◌-◌, length, nat_lt, false}
 use Rattle.md_blocks.specs.BlockStructure.{begun}
-use Rattle.md_blocks.specs.Passes.{state_of}
+use Rattle.md_blocks.specs.Passes.{defined_in, state_of}
 use Rattle.md_blocks.specs.Positions.{ending_of, rest_of}
 use Rattle.md_blocks.proofs.Folds.{Left}
 use Rattle.md_blocks.proofs.pass.Pass.begin_blocks.Given as goal
@@ -17,9 +17,9 @@ invariant-parts l = record {
   left : Left (length l.position.line.now - l.position.at) l.initial.self.options.now l.depth l.is_whole
       (nat_lt 0 l.initial.position.ending) l.has_begun (rest_of l.position)
       (ending_of l.initial.self.bytes.now l.initial.position) (state_of l.self)
-      (λ defined is_alone. begun (length
-      (rest_of l.initial.position).text) l.initial.self.options.now is_alone
-      defined l.matched l.is_whole (nat_lt 0 l.initial.position.ending) false
+      (begun (length
+      (rest_of l.initial.position).text) l.initial.self.options.now
+      (defined_in l.initial.self) l.matched l.is_whole (nat_lt 0 l.initial.position.ending) false
       (rest_of l.initial.position) (ending_of l.initial.self.bytes.now l.initial.position)
       (state_of l.initial.self));
 }

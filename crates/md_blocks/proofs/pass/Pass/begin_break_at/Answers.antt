@@ -3,7 +3,7 @@ use Rattle.std.proofs.Common.{ℕ, List, ap, sym, ◌∙◌, ◌≡◌, ◌==◌
 use Rattle.std.specs.Prelude.{◌||◌, get_or, if◌then◌else◌}
 use Rattle.std.proofs.lemmas.Result.{IfOk-weaker}
 use Rattle.md_blocks.specs.LeafBlocks.{break_begun, if_begun}
-use Rattle.md_blocks.specs.Passes.{defined_by, state_of}
+use Rattle.md_blocks.specs.Passes.{defined_in, state_of}
 use Rattle.md_blocks.specs.Positions.{text_at}
 use Rattle.md_blocks.specs.States.{State}
 use Rattle.md_blocks.proofs.pass.Pass.begin_break_at.Goals as goal
@@ -17,7 +17,7 @@ pub returns-then-not-is_break_mark-clause-state : goal.returns-then-not-is_break
 returns-then-not-is_break_mark-clause-state c is =
     let p = c.args.self.now in
     let text = text_at c.args.position.now in
-    let defined = defined_by p p in
+    let defined = defined_in p in
     ap (λ mark. chosen mark defined c.args.depth text (state_of p)) (sym is)
     ∙ ap (λ so. if so then break_begun defined c.args.byte c.args.depth text (state_of p) else None)
     (sym c.is_break_mark.ensures ∙ c.if-not-is_break_mark.true)
@@ -27,7 +27,7 @@ returns-clause-state c =
     let p = c.args.self.now in
     let new = c.begin_break.new.self in
     let text = text_at c.args.position.now in
-    let defined = defined_by p new in
+    let defined = defined_in p in
     IfOk-weaker c.begin_break.result
     (λ has. break_begun defined c.args.byte c.args.depth text (state_of p) ≡ if_begun has (state_of new))
     (λ has. c.args.byte ≡ get_or text 0 0

@@ -4,7 +4,7 @@ use Rattle.std.proofs.lemmas.List.{drop-drop}
 use Rattle.md_blocks.specs.Leaves.{opens_code}
 use Rattle.md_blocks.specs.Marks.{run_of}
 use Rattle.md_blocks.specs.LeafBlocks.{fence_of, first_word, if_begun}
-use Rattle.md_blocks.specs.Passes.{defined_by, state_of}
+use Rattle.md_blocks.specs.Passes.{defined_in, state_of}
 use Rattle.md_blocks.specs.Positions.{rest_of, text_at}
 use Rattle.md_blocks.specs.Rests.{unindented}
 use Rattle.md_blocks.specs.States.{InFenced, room, with_leaf}
@@ -28,7 +28,7 @@ returns-clause-state c =
     let found = c.in-Some.ensures in
     let info = c.first_word-info.result in
     let from = c.run_end.result in
-    let defined = defined_by p m in
+    let defined = defined_in p in
     let made = room defined c.args.depth state in
     let fence_is : fence ≡ fence_of mark rest =
     fence_at place mark fence found.mark found.length found.indent in
@@ -41,25 +41,21 @@ returns-clause-state c =
     ∙ ap (λ bytes. text_between info bytes.now) c.make_room.ensures.document
     ∙ word_is p.bytes.now line from info.start info.end c.requires.in_document inside
     c.first_word-info.ensures.start c.first_word-info.ensures.end
-    ∙ ap first_word after in (
-      defined,
-      ap (λ is. if_begun is (with_leaf (InFenced (fence_of mark rest) (first_word (drop (run_of mark text) text)) []) made))
-          (ap (opens_code mark) (text_is place) ∙ sym found.there)
-          ∙ ap Some (sym (c.in_ok-begin.ensures.state
-          ∙ ap (λ t. with_leaf (InFenced fence t []) (state_of m)) word
-          ∙ ap (λ f. with_leaf (InFenced f (first_word (drop (run_of mark text) text)) []) (state_of m)) fence_is
-          ∙ ap (with_leaf (InFenced (fence_of mark rest) (first_word (drop (run_of mark text) text)) []))
-          c.in_ok-make_room.ensures.state)),
-    )
+    ∙ ap first_word after in
+    ap (λ is. if_begun is (with_leaf (InFenced (fence_of mark rest) (first_word (drop (run_of mark text) text)) []) made))
+    (ap (opens_code mark) (text_is place) ∙ sym found.there)
+    ∙ ap Some (sym (c.in_ok-begin.ensures.state
+    ∙ ap (λ t. with_leaf (InFenced fence t []) (state_of m)) word
+    ∙ ap (λ f. with_leaf (InFenced f (first_word (drop (run_of mark text) text)) []) (state_of m)) fence_is
+    ∙ ap (with_leaf (InFenced (fence_of mark rest) (first_word (drop (run_of mark text) text)) []))
+    c.in_ok-make_room.ensures.state))
 
 pub returns-in_default-clause-state : goal.returns-in_default-clause-state
 returns-in_default-clause-state c =
     let place = c.args.position.now in
     let mark = c.args.mark in
     let rest = rest_of place in
-    let text = unindented rest in (
-      0,
-      ap (λ is. if_begun is (with_leaf (InFenced (fence_of mark rest) (first_word (drop (run_of mark text) text)) [])
-          (room 0 c.args.depth (state_of c.args.self.now))))
-          (ap (opens_code mark) (text_is place) ∙ sym c.in_default.ensures.there),
-    )
+    let text = unindented rest in
+    ap (λ is. if_begun is (with_leaf (InFenced (fence_of mark rest) (first_word (drop (run_of mark text) text)) [])
+    (room (defined_in c.args.self.now) c.args.depth (state_of c.args.self.now))))
+    (ap (opens_code mark) (text_is place) ∙ sym c.in_default.ensures.there)

@@ -6,7 +6,7 @@ use Rattle.md_blocks.specs.ContainerBlocks.{container_of}
 use Rattle.md_blocks.specs.Entries.{FootnoteBegins}
 use Rattle.md_blocks.specs.LeafBlocks.{if_begun}
 use Rattle.md_blocks.specs.OwnBlocks.{label_length, label_of, opens_footnote}
-use Rattle.md_blocks.specs.Passes.{state_of}
+use Rattle.md_blocks.specs.Passes.{defined_in, state_of}
 use Rattle.md_blocks.specs.Positions.{rest_of}
 use Rattle.md_blocks.specs.Rests.{passed, unindented}
 use Rattle.md_blocks.specs.States.{State, opened_in, room, with_entries}
@@ -23,15 +23,13 @@ pub returns-in_default-clause-state : goal.returns-in_default-clause-state
 returns-in_default-clause-state c =
     let p = c.args.self.now in
     let place = c.args.position.now in
-    let start = p.nesting.leaves.start in
-    ap (λ is. if_begun is (begun (start - start) c.args.depth (unindented (rest_of place)) (state_of p)))
+    ap (λ is. if_begun is (begun (defined_in p) c.args.depth (unindented (rest_of place)) (state_of p)))
     (ap opens_footnote (text_is place) ∙ sym c.in_default.ensures.there)
 
 pub returns-clause-state : goal.returns-clause-state
 returns-clause-state c =
     let p = c.args.self.now in
     let m = c.make_room.new.self in
-    let e = c.enter.new.self in
     let place = c.args.position.now in
     let line = place.line.now in
     let at = place.text in
@@ -41,7 +39,6 @@ returns-clause-state c =
     let count = label_length (drop 2 (drop at line)) in
     let depth = c.args.depth in
     let state = state_of p in
-    let start = p.nesting.leaves.start in
     let within : at + 2 + count ≤ length line = omega (arith, found.within.1, found.end) in
     let label_is : text_between label m.bytes.now ≡ label_of text =
     ap (λ bytes. text_between label bytes.now) c.make_room.ensures.document
@@ -50,7 +47,7 @@ returns-clause-state c =
     ∙ part_is p.bytes.now line (at + 2) count c.requires.in_document within
     ∙ ap (take count) (sym (drop-drop 2 at line))
     ∙ ap label_of (sym (text_is place)) in
-    ap (λ is. if_begun is (begun (e.nesting.leaves.start - start) depth text state))
+    ap (λ is. if_begun is (begun (defined_in p) depth text state))
     (ap opens_footnote (text_is place) ∙ sym found.there)
     ∙ ap Some (sym (c.in_ok-enter.ensures.state
     ∙ ap (λ one. opened_in one (with_entries (FootnoteBegins (text_between label m.bytes.now) ∷ [])
@@ -58,8 +55,7 @@ returns-clause-state c =
     ∙ ap (λ t. opened_in (container_of FootnoteDefinition 0 0)
     (with_entries (FootnoteBegins t ∷ []) (state_of m))) label_is
     ∙ ap (λ s. opened_in (container_of FootnoteDefinition 0 0)
-    (with_entries (FootnoteBegins (label_of text) ∷ []) s)) c.in_ok-make_room.ensures.state
-    ∙ ap (λ leaves. begun (leaves.start - start) depth text state) (sym c.enter.ensures.leaves)))
+    (with_entries (FootnoteBegins (label_of text) ∷ []) s)) c.in_ok-make_room.ensures.state))
 
 pub returns-clause-rest : goal.returns-clause-rest
 returns-clause-rest c is =

@@ -7,7 +7,7 @@ use Rattle.md_blocks.specs.Leaves.{blanks, heading_content}
 use Rattle.md_blocks.specs.Entries.{Entry, Heading}
 use Rattle.md_blocks.specs.States.{room, with_entries}
 use Rattle.md_blocks.specs.LeafBlocks.{a_line, if_begun}
-use Rattle.md_blocks.specs.Passes.{state_of}
+use Rattle.md_blocks.specs.Passes.{defined_in, state_of}
 use Rattle.md_blocks.specs.Positions.{text_at}
 use Rattle.md_blocks.specs.Tapes.{text_between}
 use Rattle.md_blocks.proofs.LineLemmas.{content_begins, part_is}
@@ -20,7 +20,6 @@ pub returns-clause-state : goal.returns-clause-state
 returns-clause-state c =
     let p = c.args.self.now in
     let m = c.make_room.new.self in
-    let n = c.put.new.self in
     let line = c.args.position.now.line.now in
     let at = c.args.position.now.text in
     let text = text_at c.args.position.now in
@@ -29,8 +28,7 @@ returns-clause-state c =
     let span = c.new.result in
     let content = c.heading_content-content.result.now in
     let inside = heading_content (drop (run_of 35 text) text) in
-    let start = p.nesting.leaves.start in
-    let made = room (n.nesting.leaves.start - start) c.args.depth (state_of p) in
+    let made = room (defined_in p) c.args.depth (state_of p) in
     let level : marks.end - marks.start ≡ run_of 35 text = omega (arith, found.start, found.end) in
     let to : marks.start + (marks.end - marks.start) ≡ marks.end = omega (arith, marks.in_order) in
     let after : drop marks.end line ≡ drop (run_of 35 text) text =
@@ -58,5 +56,4 @@ returns-clause-state c =
     ∙ ap Some (sym (c.in_ok-put.ensures.state
     ∙ ap (λ l. with_entries (entry l (drop (marks.end - marks.start) (text_between span m.bytes.now)) ∷ []) (state_of m)) level
     ∙ ap (λ those. with_entries (entry (run_of 35 text) those ∷ []) (state_of m)) whole
-    ∙ ap (with_entries (entry (run_of 35 text) inside ∷ [])) (c.in_ok-make_room.ensures.state
-    ∙ ap (λ leaves. room (leaves.start - start) c.args.depth (state_of p)) (sym c.put.ensures.leaves))))
+    ∙ ap (with_entries (entry (run_of 35 text) inside ∷ [])) c.in_ok-make_room.ensures.state))

@@ -5,15 +5,16 @@ use Rattle.std.specs.Prelude.{if◌then◌else◌}
 use Rattle.std.proofs.lemmas.List.{get_or-drop, length-drop}
 use Rattle.std.proofs.lemmas.Result.{on_ok_weaker}
 use Rattle.md_blocks.specs.declared.block.ContainerKind.TheVariants.{Item}
-use Rattle.md_blocks.specs.ContainerBlocks.{container_of, is_task, list_begun, padding, task_begun}
+use Rattle.md_blocks.specs.ContainerBlocks.{container_of, is_task, item_begun, list_begun, padding, task_begun}
 use Rattle.md_blocks.specs.Entries.{ItemBegins}
 use Rattle.md_blocks.specs.Marks.{number_length}
-use Rattle.md_blocks.specs.Passes.{defined_by, state_of}
+use Rattle.md_blocks.specs.Passes.{defined_in, state_of}
 use Rattle.md_blocks.specs.Positions.{ending_of, rest_of}
 use Rattle.md_blocks.specs.Rests.{Rest, rest_at, indent, passed, skipped, unindented}
 use Rattle.md_blocks.specs.States.{State, opened_in, with_entries}
 use Rattle.md_blocks.proofs.LineLemmas.{text_is}
 use Rattle.md_blocks.proofs.Markers.{digits_are, number_is, same_ending}
+use Rattle.md_blocks.proofs.Steps.{ok_to}
 use Rattle.md_blocks.proofs.pass.Pass.begin_item.Goals as goal
 
 -- the item, if its marker has so many digits and ends with a byte
@@ -45,6 +46,31 @@ same_marker defined depth rest ending state digits marker digits_is marker_is =
     ap (whole defined depth rest ending state digits) marker_is
     ∙ ap (λ n. whole defined depth rest ending state n (get_or (unindented rest) n 0)) digits_is
 
+-- the item after its marker: with a task, or without
+with_task : (n depth : ℕ) (rest : Rest) (ending : List ℕ) (state entered : State)
+    (digits marker : ℕ) → entered ≡ begun n depth rest state digits marker →
+    is_task (passed (digits + 1) rest) ≡ true → digits ≡ number_length (unindented rest) →
+    marker ≡ get_or (unindented rest) digits 0 →
+    task_begun (passed (digits + 1) rest) ending entered ≡ (item_begun n depth rest ending state).state
+with_task n depth rest ending state entered digits marker entered_is is digits_is marker_is =
+    let there = passed (digits + 1) rest in
+    ap (task_begun there ending) entered_is
+    ∙ ap (λ so. if so then task_begun there ending (begun n depth rest state digits marker)
+    else begun n depth rest state digits marker) (sym is)
+    ∙ same_marker n depth rest ending state digits marker digits_is marker_is
+
+without_task : (n depth : ℕ) (rest : Rest) (ending : List ℕ) (state entered : State)
+    (digits marker : ℕ) → entered ≡ begun n depth rest state digits marker →
+    is_task (passed (digits + 1) rest) ≡ false → digits ≡ number_length (unindented rest) →
+    marker ≡ get_or (unindented rest) digits 0 →
+    entered ≡ (item_begun n depth rest ending state).state
+without_task n depth rest ending state entered digits marker entered_is is digits_is marker_is =
+    let there = passed (digits + 1) rest in
+    entered_is
+    ∙ ap (λ so. if so then task_begun there ending (begun n depth rest state digits marker)
+    else begun n depth rest state digits marker) (sym is)
+    ∙ same_marker n depth rest ending state digits marker digits_is marker_is
+
 pub begin_list-requires-clause-number : goal.begin_list-requires-clause-number
 begin_list-requires-clause-number c =
     let place = c.args.position.now in
@@ -70,7 +96,7 @@ returns-in-Some-clause-state c =
     let depth = c.args.depth in
     let ending = ending_of p.bytes.now place in
     let state = state_of p in
-    let defined = defined_by p l in
+    let defined = defined_in p in
     let pad = c.padding-padding.result in
     let there = passed (digits + 1) rest in
     let digits_is = c.requires.number ∙ ap number_length (sym (text_is place)) in
@@ -93,16 +119,13 @@ returns-in-Some-clause-state c =
     ap is_task (sym c.pass.ensures.rest) ∙ sym c.in-Some.ensures.there in
     let same = ap (λ b. ending_of b.now q) (c.enter.ensures.document ∙ c.begin_list.ensures.document)
     ∙ same_ending p.bytes.now place q c.pass.ensures.line c.pass.ensures.ending in
-    on_ok_weaker c.begin_task.result (λ task. (
-      defined,
-      task
-          ∙ ap (λ r. task_begun r (ending_of e.bytes.now q) (state_of e)) c.pass.ensures.rest
-          ∙ ap (λ x. task_begun there x (state_of e)) same
-          ∙ ap (task_begun there ending) entered
-          ∙ ap (λ so. if so then task_begun there ending (begun defined depth rest state digits marker)
-          else begun defined depth rest state digits marker) (sym is)
-          ∙ same_marker defined depth rest ending state digits marker digits_is marker_is,
-    )) c.begin_task.ensures.state
+    let begins = task_begun (rest_of q) (ending_of e.bytes.now q) (state_of e) in
+    let done : begins ≡ (item_begun defined depth rest ending state).state =
+    ap (λ r. task_begun r (ending_of e.bytes.now q) (state_of e)) c.pass.ensures.rest
+    ∙ ap (λ x. task_begun there x (state_of e)) same
+    ∙ with_task defined depth rest ending state (state_of e) digits marker entered is digits_is marker_is in
+    ok_to c.begin_task.result (state_of c.begin_task.new.self) begins
+    (item_begun defined depth rest ending state).state done c.begin_task.ensures.state
 
 pub returns-in-Some-clause-rest : goal.returns-in-Some-clause-rest
 returns-in-Some-clause-rest c =
@@ -133,7 +156,7 @@ returns-in-None-clause-state c =
     let depth = c.args.depth in
     let ending = ending_of p.bytes.now place in
     let state = state_of p in
-    let defined = defined_by p l in
+    let defined = defined_in p in
     let pad = c.padding-padding.result in
     let there = passed (digits + 1) rest in
     let digits_is = c.requires.number ∙ ap number_length (sym (text_is place)) in
@@ -153,13 +176,8 @@ returns-in-None-clause-state c =
     (with_entries (ItemBegins ∷ []) listed))
     (c.padding-padding.ensures.value ∙ ap padding c.pass.ensures.rest) in
     let none : is_task there ≡ false =
-    ap is_task (sym c.pass.ensures.rest) ∙ sym c.in-None.ensures.there in (
-      defined,
-      entered
-          ∙ ap (λ so. if so then task_begun there ending (begun defined depth rest state digits marker)
-          else begun defined depth rest state digits marker) (sym none)
-          ∙ same_marker defined depth rest ending state digits marker digits_is marker_is,
-    )
+    ap is_task (sym c.pass.ensures.rest) ∙ sym c.in-None.ensures.there in
+    without_task defined depth rest ending state (state_of e) digits marker entered none digits_is marker_is
 
 pub returns-in-None-clause-rest : goal.returns-in-None-clause-rest
 returns-in-None-clause-rest c =

@@ -4,7 +4,7 @@ use Rattle.std.specs.Prelude.{if◌then◌else◌}
 use Rattle.std.proofs.lemmas.Bool.{lt-ltb}
 use Rattle.md_blocks.specs.BlockStructure.{begins_item}
 use Rattle.md_blocks.specs.ContainerBlocks.{item_begun}
-use Rattle.md_blocks.specs.Passes.{state_of}
+use Rattle.md_blocks.specs.Passes.{defined_in, state_of}
 use Rattle.md_blocks.specs.Positions.{ending_of, rest_of}
 use Rattle.md_blocks.proofs.LineLemmas.{text_is}
 use Rattle.md_blocks.proofs.Steps.{with_rest}
@@ -16,12 +16,10 @@ returns-in_default-clause-state c =
     let place = c.args.position.now in
     let rest = rest_of place in
     let depth = c.args.depth in
-    let one = item_begun 0 depth rest (ending_of p.bytes.now place) (state_of p) in (
-      0,
-      ap (λ is. if nat_lt depth 95 && is then Some one else None)
-          (ap (begins_item c.args.in_paragraph) (text_is place) ∙ sym c.in_default.ensures.there)
-          ∙ ap (λ is. if is && false then Some one else None) (lt-ltb depth 95 c.requires.shallow),
-    )
+    let one = item_begun (defined_in p) depth rest (ending_of p.bytes.now place) (state_of p) in
+    ap (λ is. if nat_lt depth 95 && is then Some one else None)
+    (ap (begins_item c.args.in_paragraph) (text_is place) ∙ sym c.in_default.ensures.there)
+    ∙ ap (λ is. if is && false then Some one else None) (lt-ltb depth 95 c.requires.shallow)
 
 pub returns-clause-state : goal.returns-clause-state
 returns-clause-state c =
@@ -31,11 +29,9 @@ returns-clause-state c =
     let depth = c.args.depth in
     let new = c.begin_item.new in
     let state = c.in_ok-begin_item.ensures.state in
-    let one = item_begun state.0 depth rest (ending_of p.bytes.now place) (state_of p) in (
-      state.0,
-      ap (λ is. if nat_lt depth 95 && is then Some one else None)
-          (ap (begins_item c.args.in_paragraph) (text_is place) ∙ sym c.in-Some.ensures.there)
-          ∙ ap (λ is. if is && true then Some one else None) (lt-ltb depth 95 c.requires.shallow)
-          ∙ ap (λ s. Some (with_rest one.rest s)) (sym state.1)
-          ∙ ap (λ r. Some (with_rest r (state_of new.self))) (sym c.in_ok-begin_item.ensures.rest),
-    )
+    let one = item_begun (defined_in p) depth rest (ending_of p.bytes.now place) (state_of p) in
+    ap (λ is. if nat_lt depth 95 && is then Some one else None)
+    (ap (begins_item c.args.in_paragraph) (text_is place) ∙ sym c.in-Some.ensures.there)
+    ∙ ap (λ is. if is && true then Some one else None) (lt-ltb depth 95 c.requires.shallow)
+    ∙ ap (λ s. Some (with_rest one.rest s)) (sym state)
+    ∙ ap (λ r. Some (with_rest r (state_of new.self))) (sym c.in_ok-begin_item.ensures.rest)

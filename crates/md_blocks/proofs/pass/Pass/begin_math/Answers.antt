@@ -6,7 +6,7 @@ use Rattle.md_blocks.specs.Leaves.{blanks, opens_math}
 use Rattle.md_blocks.specs.Marks.{run_of}
 use Rattle.md_blocks.specs.LeafBlocks.{a_line, fence_of, if_begun, line_added}
 use Rattle.md_blocks.specs.OwnBlocks.{after_dollars}
-use Rattle.md_blocks.specs.Passes.{defined_by, state_of}
+use Rattle.md_blocks.specs.Passes.{defined_in, state_of}
 use Rattle.md_blocks.specs.Positions.{ending_of, rest_of, text_at}
 use Rattle.md_blocks.specs.Rests.{is_none, unindented}
 use Rattle.md_blocks.specs.States.{InMath, room, with_leaf}
@@ -23,12 +23,10 @@ returns-in_default-clause-state c =
     let place = c.args.position.now in
     let rest = rest_of place in
     let content = after_dollars (unindented rest) in
-    let line = a_line content (ending_of p.bytes.now place) in (
-      0,
-      ap (λ is. if_begun is (with_leaf (InMath (fence_of 36 rest)
-          (if is_none content then [] else line ∷ [])) (room 0 c.args.depth (state_of p))))
-          (ap opens_math (text_is place) ∙ sym c.in_default.ensures.there),
-    )
+    let line = a_line content (ending_of p.bytes.now place) in
+    ap (λ is. if_begun is (with_leaf (InMath (fence_of 36 rest)
+    (if is_none content then [] else line ∷ [])) (room (defined_in p) c.args.depth (state_of p))))
+    (ap opens_math (text_is place) ∙ sym c.in_default.ensures.there)
 
 pub returns-in_ok-push_line-clause-state : goal.returns-in_ok-push_line-clause-state
 returns-in_ok-push_line-clause-state c =
@@ -45,7 +43,7 @@ returns-in_ok-push_line-clause-state c =
     let found = c.in-Some.ensures in
     let from = c.run_end-after.result in
     let start = c.trim_start-start.result in
-    let defined = defined_by p m in
+    let defined = defined_in p in
     let made = room defined c.args.depth (state_of p) in
     let one = a_line (after_dollars text) ending in
     let fence_is : fence ≡ fence_of 36 rest =
@@ -62,20 +60,18 @@ returns-in_ok-push_line-clause-state c =
     ∙ sym (drop-drop (blanks (drop from line)) from line)
     ∙ ap (λ t. drop (blanks t) t) after_is in
     let some : is_none (after_dollars text) ≡ false =
-    ap is_none (sym content_is) ∙ is_some_drop line start c.if-start-end.true in (
-      defined,
-      ap (λ is. if_begun is (with_leaf (InMath (fence_of 36 rest)
-          (if is_none (after_dollars text) then [] else one ∷ [])) made))
-          (ap opens_math (text_is place) ∙ sym found.there)
-          ∙ ap Some (sym (c.in_ok-push_line.ensures.state
-          ∙ ap (λ bytes. line_added (a_line (between start (length line) bytes.now)
-          (take place.ending (drop (length line) bytes.now))) (state_of b))
-          (c.begin.ensures.document ∙ c.make_room.ensures.document)
-          ∙ ap (λ t. line_added (a_line t ending) (state_of b))
-          (ap (drop start) (sym c.requires.in_document) ∙ content_is)
-          ∙ ap (line_added one) begun_is
-          ∙ ap (λ is. with_leaf (InMath (fence_of 36 rest) (if is then [] else one ∷ [])) made) (sym some))),
-    )
+    ap is_none (sym content_is) ∙ is_some_drop line start c.if-start-end.true in
+    ap (λ is. if_begun is (with_leaf (InMath (fence_of 36 rest)
+    (if is_none (after_dollars text) then [] else one ∷ [])) made))
+    (ap opens_math (text_is place) ∙ sym found.there)
+    ∙ ap Some (sym (c.in_ok-push_line.ensures.state
+    ∙ ap (λ bytes. line_added (a_line (between start (length line) bytes.now)
+    (take place.ending (drop (length line) bytes.now))) (state_of b))
+    (c.begin.ensures.document ∙ c.make_room.ensures.document)
+    ∙ ap (λ t. line_added (a_line t ending) (state_of b))
+    (ap (drop start) (sym c.requires.in_document) ∙ content_is)
+    ∙ ap (line_added one) begun_is
+    ∙ ap (λ is. with_leaf (InMath (fence_of 36 rest) (if is then [] else one ∷ [])) made) (sym some)))
 
 pub returns-else-start-end-clause-state : goal.returns-else-start-end-clause-state
 returns-else-start-end-clause-state c =
@@ -92,7 +88,7 @@ returns-else-start-end-clause-state c =
     let found = c.in-Some.ensures in
     let from = c.run_end-after.result in
     let start = c.trim_start-start.result in
-    let defined = defined_by p m in
+    let defined = defined_in p in
     let made = room defined c.args.depth (state_of p) in
     let one = a_line (after_dollars text) ending in
     let fence_is : fence ≡ fence_of 36 rest =
@@ -109,11 +105,9 @@ returns-else-start-end-clause-state c =
     ∙ sym (drop-drop (blanks (drop from line)) from line)
     ∙ ap (λ t. drop (blanks t) t) after_is in
     let none : is_none (after_dollars text) ≡ true =
-    ap is_none (sym content_is) ∙ is_none_drop line start c.if-start-end.false in (
-      defined,
-      ap (λ is. if_begun is (with_leaf (InMath (fence_of 36 rest)
-          (if is_none (after_dollars text) then [] else one ∷ [])) made))
-          (ap opens_math (text_is place) ∙ sym found.there)
-          ∙ ap Some (sym (begun_is
-          ∙ ap (λ is. with_leaf (InMath (fence_of 36 rest) (if is then [] else one ∷ [])) made) (sym none))),
-    )
+    ap is_none (sym content_is) ∙ is_none_drop line start c.if-start-end.false in
+    ap (λ is. if_begun is (with_leaf (InMath (fence_of 36 rest)
+    (if is_none (after_dollars text) then [] else one ∷ [])) made))
+    (ap opens_math (text_is place) ∙ sym found.there)
+    ∙ ap Some (sym (begun_is
+    ∙ ap (λ is. with_leaf (InMath (fence_of 36 rest) (if is then [] else one ∷ [])) made) (sym none)))

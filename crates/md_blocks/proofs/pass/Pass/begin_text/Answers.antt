@@ -5,7 +5,7 @@ use Rattle.std.proofs.lemmas.Bool.{and_parts}
 use Rattle.std.proofs.lemmas.Result.{on_ok_weaker}
 use Rattle.md_blocks.specs.BlockStructure.{paragraph_lines}
 use Rattle.md_blocks.specs.LeafBlocks.{a_line, if_begun, table_begun, text_read}
-use Rattle.md_blocks.specs.Passes.{defined_by, leaf_lines, leaf_of, state_of}
+use Rattle.md_blocks.specs.Passes.{defined_in, leaf_lines, leaf_of, state_of}
 use Rattle.md_blocks.specs.Positions.{ending_of, rest_of, text_at}
 use Rattle.md_blocks.specs.Rests.{unindented}
 use Rattle.md_blocks.proofs.LineLemmas.{text_is}
@@ -21,18 +21,16 @@ returns-then-not-is_in_paragraph-clause-state c =
     let depth = c.args.depth in
     let whole = c.args.is_whole in
     let ending = ending_of p.bytes.now place in
-    let defined = defined_by p c.read_text.new.self in
+    let defined = defined_in p in
     let text = unindented rest in
     let state = state_of p in
-    let table = table_begun p.options.now.tables defined text ending (paragraph_lines state.leaf) state in
-    on_ok_weaker c.read_text.result (λ read. (
-      defined,
-      read
-          ∙ ap (λ t. text_read defined depth whole (a_line t ending) state) (sym (text_is place))
-          ∙ ap (λ so. or_text (if so then table else None)
-          (text_read defined depth whole (a_line text ending) state))
-          (sym (sym c.is_in_paragraph.ensures.value ∙ c.if-not-is_in_paragraph.true)),
-    )) c.read_text.ensures.state
+    let table = table_begun p.options.now.tables text ending (paragraph_lines state.leaf) state in
+    on_ok_weaker c.read_text.result (λ read. read
+    ∙ ap (λ t. text_read defined depth whole (a_line t ending) state) (sym (text_is place))
+    ∙ ap (λ so. or_text (if so then table else None)
+    (text_read defined depth whole (a_line text ending) state))
+    (sym (sym c.is_in_paragraph.ensures.value ∙ c.if-not-is_in_paragraph.true)))
+    c.read_text.ensures.state
 
 pub returns-then-branch-clause-state : goal.returns-then-branch-clause-state
 returns-then-branch-clause-state c =
@@ -51,15 +49,13 @@ returns-then-branch-clause-state c =
     let lines : paragraph_lines state.leaf ≡ leaf_lines p =
     ap (λ l. paragraph_lines (leaf_of l (leaf_lines p)))
     (c.is_in_paragraph.ensures.is c.if-not-is_in_paragraph.false) in
-    let table = table_begun tables found.0 text ending (paragraph_lines state.leaf) state in
-    let read = text_read found.0 depth whole (a_line text ending) state in (
-      found.0,
-      sym (ap (λ so. or_text (if so then table else None) read) on
-          ∙ ap (λ t. or_text (table_begun tables found.0 t ending
-          (paragraph_lines state.leaf) state) read) (text_is place)
-          ∙ ap (λ those. or_text (table_begun tables found.0 (text_at place) ending those state) read) lines
-          ∙ ap (λ t. or_text t read) (found.1 ∙ ap (λ so. if_begun so (state_of new)) c.if-branch.true)),
-    )
+    let table = table_begun tables text ending (paragraph_lines state.leaf) state in
+    let read = text_read (defined_in p) depth whole (a_line text ending) state in
+    sym (ap (λ so. or_text (if so then table else None) read) on
+    ∙ ap (λ t. or_text (table_begun tables t ending
+    (paragraph_lines state.leaf) state) read) (text_is place)
+    ∙ ap (λ those. or_text (table_begun tables (text_at place) ending those state) read) lines
+    ∙ ap (λ t. or_text t read) (found ∙ ap (λ so. if_begun so (state_of new)) c.if-branch.true))
 
 pub returns-clause-state : goal.returns-clause-state
 returns-clause-state c =
@@ -79,21 +75,19 @@ returns-clause-state c =
     let lines : paragraph_lines state.leaf ≡ leaf_lines p =
     ap (λ l. paragraph_lines (leaf_of l (leaf_lines p)))
     (c.is_in_paragraph.ensures.is c.if-not-is_in_paragraph.false) in
-    let table = table_begun tables found.0 text ending (paragraph_lines state.leaf) state in
+    let table = table_begun tables text ending (paragraph_lines state.leaf) state in
     let same = c.in_ok-begin_table.ensures.same c.if-branch.false in
     let line = a_line text ending in
-    let read = text_read found.0 depth whole line state in
-    on_ok_weaker c.read_text-2.result (λ begun. (
-      found.0,
-      begun
-          ∙ ap (λ q. text_read (defined_by t new) depth whole (a_line (text_at place)
-          (ending_of q.bytes.now place)) (state_of q)) same
-          ∙ ap (λ those. text_read (defined_by t new) depth whole (a_line those ending) state)
-          (sym (text_is place))
-          ∙ texts_alike (defined_by t new) found.0 depth whole line state (and_parts _ _ on).1
-          ∙ sym (ap (λ so. or_text (if so then table else None) read) on
-          ∙ ap (λ those. or_text (table_begun tables found.0 those ending
-          (paragraph_lines state.leaf) state) read) (text_is place)
-          ∙ ap (λ those. or_text (table_begun tables found.0 (text_at place) ending those state) read) lines
-          ∙ ap (λ so. or_text so read) (found.1 ∙ ap (λ so. if_begun so (state_of t)) c.if-branch.false)),
-    )) c.read_text-2.ensures.state
+    let read = text_read (defined_in p) depth whole line state in
+    on_ok_weaker c.read_text-2.result (λ begun. begun
+    ∙ ap (λ q. text_read (defined_in t) depth whole (a_line (text_at place)
+    (ending_of q.bytes.now place)) (state_of q)) same
+    ∙ ap (λ those. text_read (defined_in t) depth whole (a_line those ending) state)
+    (sym (text_is place))
+    ∙ texts_alike (defined_in t) (defined_in p) depth whole line state (and_parts _ _ on).1
+    ∙ sym (ap (λ so. or_text (if so then table else None) read) on
+    ∙ ap (λ those. or_text (table_begun tables those ending
+    (paragraph_lines state.leaf) state) read) (text_is place)
+    ∙ ap (λ those. or_text (table_begun tables (text_at place) ending those state) read) lines
+    ∙ ap (λ so. or_text so read) (found ∙ ap (λ so. if_begun so (state_of t)) c.if-branch.false)))
+    c.read_text-2.ensures.state

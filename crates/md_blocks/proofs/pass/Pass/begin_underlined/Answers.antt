@@ -9,13 +9,29 @@ use Rattle.std.proofs.lemmas.List.Sums.{prefix_len-le-length}
 use Rattle.md_blocks.specs.Entries.{Line, Heading}
 use Rattle.md_blocks.specs.LeafBlocks.{if_begun, with_line}
 use Rattle.md_blocks.specs.Marks.{run_of}
-use Rattle.md_blocks.specs.Passes.{leaf_lines, leaf_of, state_of}
+use Rattle.md_blocks.specs.Passes.{HasWholeLines, defined_in, defined_to, leaf_lines, leaf_of, lines_to, state_of}
+use Rattle.md_blocks.specs.BlockStructure.{paragraph_lines}
+use Rattle.md_blocks.specs.LinkDefinitions.{defined_lines}
+use Rattle.md_blocks.specs.declared.pass.Pass.{Pass}
+use Rattle.md_blocks.specs.declared.pass.OpenLeaf.TheVariants as leaf
 use Rattle.md_blocks.specs.Positions.{text_at}
 use Rattle.md_blocks.specs.States.{State, Leaf, InParagraph, NoLeaf, blank_written, with_entries, with_leaf}
-use Rattle.md_blocks.specs.Tapes.{line_of, lines_of, text_between, underlined}
+use Rattle.md_blocks.specs.Tapes.{are_whole, is_paragraph, line_of, lines_of, text_between, underlined}
 use Rattle.md_blocks.proofs.LineLemmas.{mark_first, part_is}
 use Rattle.md_blocks.proofs.StateLemmas.{lines_after, some_remain, underline_is}
 use Rattle.md_blocks.proofs.pass.Pass.begin_underlined.Goals as goal
+
+-- how many lines of the open paragraph are definitions
+defined_is : (p : Pass) (end : ℕ) → length p.nesting.leaves.lines.items ≤ end → p.leaf ≡ leaf.Paragraph →
+    (count : ℕ) → count ≡ defined_to end p →
+    (HasWholeLines end p → defined_to end p ≡ defined_lines (lines_to end p)) → count ≡ defined_in p
+defined_is p end all is count counted whole =
+    let leaves = p.nesting.leaves in
+    let every = take_all end leaves.lines.items all in
+    counted
+    ∙ whole (ap (λ those. are_whole (drop leaves.start those)) every ∙ p.whole (ap is_paragraph is))
+    ∙ ap (λ those. defined_lines (map (line_of p.bytes.now) (drop leaves.start those))) every
+    ∙ sym (ap (λ l. defined_lines (paragraph_lines (leaf_of l (leaf_lines p)))) is)
 
 abbrev lines_in : Leaf → List Line
 lines_in leaf = elim leaf [ InParagraph lines ↦ lines | _ ↦ [] ]
@@ -44,7 +60,7 @@ returns-clause-state c =
     let start = p.nesting.leaves.start in
     let from = n.nesting.leaves.start in
     let count = run_of mark text in
-    let defined = from - start in
+    let defined = defined_in p in
     let taken = c.in_ok-take_definitions.ensures in
     let marks = c.in-Some.marks in
     let found = c.in-Some.ensures in
@@ -73,6 +89,9 @@ returns-clause-state c =
     ap (λ leaves. leaves.start) c.put.ensures.leaves ∙ c.push_line.ensures.start
     ∙ ap (λ leaves. leaves.start) c.put_blank_line.ensures.leaves in
     let forward : start ≤ t.nesting.leaves.start = taken.forward in
+    let counted_is : t.nesting.leaves.start - start ≡ defined =
+    defined_is p c.len-end.result (omega (arith, c.len-end.ensures, kept.ok)) c.requires.is_paragraph
+    _ taken.defined taken.whole in
     let remain : leaf_lines b ≡ drop defined lines =
     ap (λ bytes. map (line_of bytes.now) (drop b.nesting.leaves.start b.nesting.leaves.lines.items))
     (c.put_blank_line.ensures.document ∙ c.take_definitions.ensures.document)
@@ -81,7 +100,7 @@ returns-clause-state c =
     ∙ ap (λ those. map (line_of p.bytes.now) (drop t.nesting.leaves.start those.items))
     c.take_definitions.ensures.lines
     ∙ lines_after p.bytes.now all start t.nesting.leaves.start forward
-    ∙ ap (λ i. drop (i - start) lines) (sym from_is) in
+    ∙ ap (λ n. drop n lines) counted_is in
     let lines_q : leaf_lines q ≡ leaf_lines b ++ under ∷ [] =
     sym (ap (λ k. lines_in (leaf_of k (leaf_lines q))) q_leaf)
     ∙ ap (λ s. lines_in s.leaf) c.in_ok-push_line.ensures.state
@@ -101,7 +120,8 @@ returns-clause-state c =
     let before : t.nesting.leaves.start < c.len-end.result =
     ltb-true t.nesting.leaves.start c.len-end.result (sym taken.some ∙ c.if-not-branch.false) in
     let remains : nat_lt defined (length lines) ≡ true =
-    some_remain start from (length all) (length lines) (omega (arith, forward, from_is)) counted
+    ap (λ n. nat_lt n (length lines)) (sym counted_is ∙ ap (λ i. i - start) (sym from_is))
+    ∙ some_remain start from (length all) (length lines) (omega (arith, forward, from_is)) counted
     (omega (arith, before, from_is, c.len-end.ensures, kept.ok)) in
     ap (λ is. if_begun (is && nat_lt defined (length lines)) (made mark defined lines state)) (sym found.there)
     ∙ ap (λ is. if_begun is (made mark defined lines state)) remains
@@ -118,7 +138,7 @@ returns-then-not-branch-clause-state c =
     let t = c.take_definitions.new.self in
     let kept = p.nesting.leaves.lines in
     let start = p.nesting.leaves.start in
-    let defined = t.nesting.leaves.start - start in
+    let defined = defined_in p in
     let lines = leaf_lines p in
     let x = made c.args.mark defined lines (state_of p) in
     let taken = c.in_ok-take_definitions.ensures in
@@ -126,7 +146,12 @@ returns-then-not-branch-clause-state c =
     ltb-false t.nesting.leaves.start c.len-end.result (sym taken.some ∙ c.if-not-branch.true) in
     let count : length lines ≡ length kept.items - start =
     length-map (drop start kept.items) (line_of p.bytes.now) ∙ length-drop start kept.items in
-    let none : nat_lt defined (length lines) ≡ false = le-ltb defined (length lines)
+    let counted_is : t.nesting.leaves.start - start ≡ defined =
+    defined_is p c.len-end.result (omega (arith, c.len-end.ensures, kept.ok)) c.requires.is_paragraph
+    _ taken.defined taken.whole in
+    let none : nat_lt defined (length lines) ≡ false =
+    ap (λ n. nat_lt n (length lines)) (sym counted_is)
+    ∙ le-ltb (t.nesting.leaves.start - start) (length lines)
     (omega (arith, after, count, c.len-end.ensures, kept.ok)) in
     ap (λ is. if_begun (is && nat_lt defined (length lines)) x) (sym c.in-Some.ensures.there)
     ∙ ap (λ is. if_begun is x) none
@@ -136,7 +161,7 @@ returns-in_default-clause-state c =
     let p = c.args.self.now in
     let text = text_at c.args.position.now in
     let lines = leaf_lines p in
-    ap (λ is. if_begun (is && nat_lt (p.nesting.leaves.start - p.nesting.leaves.start) (length lines))
+    ap (λ is. if_begun (is && nat_lt (defined_in p) (length lines))
     (with_leaf NoLeaf (with_entries (Heading (if c.args.mark == 61 then 1 else 2)
-    (drop (p.nesting.leaves.start - p.nesting.leaves.start) lines) ∷ []) (blank_written (state_of p)))))
+    (drop (defined_in p) lines) ∷ []) (blank_written (state_of p)))))
     (sym c.in_default.ensures.there)

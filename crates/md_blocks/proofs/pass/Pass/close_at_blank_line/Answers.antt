@@ -3,7 +3,7 @@ use Rattle.std.proofs.Common.{Bool, ap, sym, ◌∙◌, ◌≡◌, ◌&&◌, tru
 use Rattle.std.specs.Prelude.{if◌then◌else◌}
 use Rattle.std.proofs.lemmas.Result.{on_ok_weaker}
 use Rattle.md_blocks.specs.LeafBlocks.{a_line, is_indented, line_added}
-use Rattle.md_blocks.specs.Passes.{defined_by, leaf_lines, state_of}
+use Rattle.md_blocks.specs.Passes.{defined_in, leaf_lines, state_of}
 use Rattle.md_blocks.specs.Positions.{ending_of, rest_of}
 use Rattle.md_blocks.specs.Rests.{skipped}
 use Rattle.md_blocks.specs.States.{State, closed_to}
@@ -28,10 +28,10 @@ returns-then-is_indented-clause-state c =
     c.advance.ensures.rest in
     let goes_on : (c.args.is_whole && is_indented state.leaf) ≡ true =
     ap (λ whole. whole && is_indented state.leaf) c.if-is_whole.true
-    ∙ sym (c.is_indented.ensures (leaf_lines p)) ∙ c.if-is_indented.true in
+    ∙ sym (c.is_indented.ensures.state (leaf_lines p)) ∙ c.if-is_indented.true in
     on_ok_weaker c.push_line.result (λ is. is ∙ ap (λ l. line_added l state) line_is
     ∙ ap (λ on. either on (line_added line state)
-    (closed_to (defined_by p c.push_line.new.self) c.args.matched state)) (sym goes_on))
+    (closed_to (defined_in p) c.args.matched state)) (sym goes_on))
     c.push_line.ensures.state
 
 pub returns-clause-state : goal.returns-clause-state
@@ -43,11 +43,11 @@ returns-clause-state c =
     let none : (c.args.is_whole && is_indented state.leaf) ≡ false = elim c.else-is_whole.branch [
       | else-is_whole-via-then-is_whole+else-is_indented w ↦
           ap (λ whole. whole && is_indented state.leaf) w.if-is_whole.true
-          ∙ sym (w.is_indented.ensures (leaf_lines p)) ∙ w.if-is_indented.false
+          ∙ sym (w.is_indented.ensures.state (leaf_lines p)) ∙ w.if-is_indented.false
       | else-is_whole-via-else-is_whole w ↦
           ap (λ whole. whole && is_indented state.leaf) w.if-is_whole.false
     ] in
     on_ok_weaker c.close_unmatched.result (λ is. is
     ∙ ap (λ on. either on (line_added line state)
-    (closed_to (defined_by p c.close_unmatched.new.self) c.args.matched state)) (sym none))
+    (closed_to (defined_in p) c.args.matched state)) (sym none))
     c.close_unmatched.ensures.state

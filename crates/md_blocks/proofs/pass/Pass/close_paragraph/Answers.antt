@@ -60,3 +60,22 @@ returns-then-branch-clause-state c =
     ∙ ap (λ has. if has
     then with_entries (Paragraph (drop (from - start) lines) ∷ []) (blank_written state)
     else with_entries (OnlyDefinitions ∷ []) state) (sym some)) c.put.ensures.state
+
+pub returns-then-branch-clause-whole : goal.returns-then-branch-clause-whole
+returns-then-branch-clause-whole c =
+    let p = c.args.self.now in
+    let start = p.nesting.leaves.start in
+    on_ok_weaker c.put.result (λ _ whole.
+    ap (λ leaves. leaves.start - start) c.put.ensures.leaves
+    ∙ ap (λ leaves. leaves.start - start) c.put_blank_line.ensures.leaves
+    ∙ c.in_ok-take_definitions.ensures.defined ∙ c.in_ok-take_definitions.ensures.whole whole)
+    c.put.ensures.state
+
+pub returns-clause-whole : goal.returns-clause-whole
+returns-clause-whole c =
+    let p = c.args.self.now in
+    let start = p.nesting.leaves.start in
+    on_ok_weaker c.put-2.result (λ _ whole.
+    ap (λ leaves. leaves.start - start) c.put-2.ensures.leaves
+    ∙ c.in_ok-take_definitions.ensures.defined ∙ c.in_ok-take_definitions.ensures.whole whole)
+    c.put-2.ensures.state

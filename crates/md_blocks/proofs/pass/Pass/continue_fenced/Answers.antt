@@ -5,7 +5,7 @@ use Rattle.std.proofs.Common.{inl, inr}
 use Rattle.std.proofs.lemmas.Result.{on_ok_weaker}
 use Rattle.md_blocks.specs.LeafBlocks.{a_line, line_added}
 use Rattle.md_blocks.specs.Leaves.{closes_fence}
-use Rattle.md_blocks.specs.Passes.{defined_by, leaf_of, leaf_lines, state_of}
+use Rattle.md_blocks.specs.Passes.{defined_in, leaf_of, leaf_lines, state_of}
 use Rattle.md_blocks.specs.Positions.{ending_of, rest_of}
 use Rattle.md_blocks.specs.Rests.{indent, skipped, unindented}
 use Rattle.md_blocks.specs.States.{is_in_paragraph, leaf_closed}
@@ -28,7 +28,7 @@ returns-then-is_closed_by-clause-state c =
     && closes_fence fence.mark fence.length (unindented (rest_of place))) ≡ true =
     sym (closes_is place fence.mark fence.length) ∙ sym c.is_closed_by.ensures ∙ c.if-is_closed_by.true in
     on_ok_weaker c.close_leaf.result (λ is. is
-    ∙ closed_alike p.leaf (leaf_lines p) state (defined_by p c.close_leaf.new.self) 0 fenced
+    ∙ closed_alike p.leaf (leaf_lines p) state (defined_in p) 0 fenced
     ∙ ap (λ b. if b then leaf_closed 0 state else line_added line state) (sym closes))
     c.close_leaf.ensures.state
 

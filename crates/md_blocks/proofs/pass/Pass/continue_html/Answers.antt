@@ -4,7 +4,7 @@ use Rattle.std.specs.Prelude.{if◌then◌else◌}
 use Rattle.std.proofs.lemmas.List.{take_rest}
 use Rattle.md_blocks.specs.HtmlBlocks.{ends_at_blank_line, is_html_end}
 use Rattle.md_blocks.specs.LeafBlocks.{a_line, if_begun, line_added}
-use Rattle.md_blocks.specs.Passes.{defined_by, leaf_of, leaf_lines, state_of}
+use Rattle.md_blocks.specs.Passes.{defined_in, leaf_of, leaf_lines, state_of}
 use Rattle.md_blocks.specs.Positions.{ending_of, rest_of}
 use Rattle.md_blocks.specs.Rests.{is_blank_rest}
 use Rattle.md_blocks.specs.States.{State, is_in_paragraph, leaf_closed}
@@ -42,7 +42,7 @@ returns-in_ok-close_leaf-clause-state c =
     ap (λ on. if_begun on (after ends longer)) goes_on
     ∙ ap (λ is. Some (after is longer)) ended
     ∙ ap Some (sym (c.in_ok-close_leaf.ensures.state
-    ∙ closed_alike q.leaf (leaf_lines q) (state_of q) (defined_by q c.close_leaf.new.self) 0 is_html
+    ∙ closed_alike q.leaf (leaf_lines q) (state_of q) (defined_in q) 0 is_html
     ∙ ap (leaf_closed 0) (c.in_ok-push_line.ensures.state
     ∙ ap (λ l. line_added l (state_of p)) (c.rest.ensures.line p.bytes.now c.requires.in_document))))
 

@@ -4,7 +4,8 @@ use Rattle.std.proofs.Common.{arith, true}
 use Rattle.std.proofs.lemmas.List.{length-map, length-drop}
 use Rattle.md_blocks.specs.Passes.{leaf_of, leaf_lines, state_of}
 use Rattle.md_blocks.specs.States.{with_leaf}
-use Rattle.md_blocks.specs.Tapes.{has_info, line_of}
+use Rattle.md_blocks.specs.Tapes.{are_whole, has_info, line_of}
+use Rattle.md_blocks.proofs.LinkLemmas.{whole_pushed}
 use Rattle.md_blocks.proofs.StateLemmas.{alike, leaf_with, pushed}
 use Rattle.md_blocks.proofs.pass.Pass.push_line.Goals as goal
 
@@ -12,9 +13,15 @@ pub invariant_of-self : goal.invariant_of-self
 invariant_of-self c =
     let p = c.args.self.now in
     let pushed = c.push_line.ensures in
+    let leaves = p.nesting.leaves in
     record {
       short = p.short;
       info = λ is. omega (arith, p.info is, pushed.start, pushed.grows);
+      whole = λ is. ap (λ n. are_whole (drop n c.push_line.new.self.leaves.lines.items)) pushed.start
+          ∙ whole_pushed c.push_line.result leaves.lines.items c.push_line.new.self.leaves.lines.items
+          c.args.line leaves.start pushed.lines pushed.unchanged
+          (subst (λ n. leaves.start ≤ n) leaves.lines.ok.0 leaves.begun) (p.whole is)
+          (c.requires.whole is);
     }
 
 pub returns-clause-state : goal.returns-clause-state

@@ -3,7 +3,7 @@ use Rattle.std.proofs.Common.{ap, sym, ◌∙◌}
 use Rattle.std.specs.Prelude.{if◌then◌else◌}
 use Rattle.std.proofs.lemmas.Result.{on_ok_weaker}
 use Rattle.md_blocks.specs.LeafBlocks.{a_line, indented_read, text_read}
-use Rattle.md_blocks.specs.Passes.{defined_by, leaf_lines, state_of}
+use Rattle.md_blocks.specs.Passes.{defined_in, leaf_lines, state_of}
 use Rattle.md_blocks.specs.Positions.{ending_of, rest_of}
 use Rattle.md_blocks.specs.Rests.{unindented}
 use Rattle.md_blocks.proofs.LineLemmas.{text_is}
@@ -17,7 +17,7 @@ returns-then-not-is_paragraph-clause-state c =
     let depth = c.args.depth in
     let whole = c.args.is_whole in
     let ending = ending_of p.bytes.now place in
-    let defined = defined_by p c.read_indented.new.self in
+    let defined = defined_in p in
     let line = a_line (unindented rest) ending in
     on_ok_weaker c.read_indented.result (λ read. read
     ∙ ap (λ so. if so then text_read defined depth whole line (state_of p)
@@ -33,7 +33,7 @@ returns-clause-state c =
     let depth = c.args.depth in
     let whole = c.args.is_whole in
     let ending = ending_of p.bytes.now place in
-    let defined = defined_by p c.read_text.new.self in
+    let defined = defined_in p in
     let line = a_line (unindented rest) ending in
     on_ok_weaker c.read_text.result (λ read. read
     ∙ ap (λ t. text_read defined depth whole (a_line t ending) (state_of p)) (sym (text_is place))

@@ -3,7 +3,7 @@ use Rattle.std.proofs.Common.{Bool, ap, sym, ◌∙◌, ◌≡◌, ◌&&◌, [],
 use Rattle.std.specs.Prelude.{if◌then◌else◌}
 use Rattle.std.proofs.lemmas.Result.{on_ok_weaker}
 use Rattle.md_blocks.specs.LeafBlocks.{a_line, is_indented, line_added}
-use Rattle.md_blocks.specs.Passes.{defined_by, leaf_lines, state_of}
+use Rattle.md_blocks.specs.Passes.{defined_in, leaf_lines, state_of}
 use Rattle.md_blocks.specs.Positions.{ending_of, rest_of}
 use Rattle.md_blocks.specs.Rests.{skipped}
 use Rattle.md_blocks.specs.Tapes.{line_of}
@@ -34,7 +34,7 @@ returns-then-is_indented-clause-state c =
     c.advance.ensures.rest in
     let goes_on : (c.args.is_whole && is_indented state.leaf) ≡ true =
     ap (λ whole. whole && is_indented state.leaf) c.if-is_whole.true
-    ∙ sym (c.is_indented.ensures (leaf_lines p)) ∙ c.if-is_indented.true in
+    ∙ sym (c.is_indented.ensures.state (leaf_lines p)) ∙ c.if-is_indented.true in
     on_ok_weaker c.push_line.result (λ is. is
     ∙ ap (λ l. line_added l (without_blank state)) line_is
     ∙ ap (λ on. after on line state (room 0 c.args.depth state)) (sym goes_on))
@@ -56,7 +56,7 @@ returns-clause-state c =
     let none : (c.args.is_whole && is_indented state.leaf) ≡ false = elim c.else-is_whole.branch [
       | else-is_whole-via-then-is_whole+else-is_indented w ↦
           ap (λ whole. whole && is_indented state.leaf) w.if-is_whole.true
-          ∙ sym (w.is_indented.ensures (leaf_lines p)) ∙ w.if-is_indented.false
+          ∙ sym (w.is_indented.ensures.state (leaf_lines p)) ∙ w.if-is_indented.false
       | else-is_whole-via-else-is_whole w ↦
           ap (λ whole. whole && is_indented state.leaf) w.if-is_whole.false
     ] in
@@ -65,5 +65,5 @@ returns-clause-state c =
     c.make_room.ensures.document
     ∙ ap (λ l. with_leaf (InIndented (l ∷ [])) (without_blank (state_of m))) line_is
     ∙ ap (λ s. with_leaf (InIndented (line ∷ [])) (without_blank s)) (c.in_ok-make_room.ensures.state
-    ∙ room_alike p.leaf (leaf_lines p) state (defined_by p m) 0 c.args.depth c.requires.no_paragraph)
+    ∙ room_alike p.leaf (leaf_lines p) state (defined_in p) 0 c.args.depth c.requires.no_paragraph)
     ∙ ap (λ on. after on line state made) (sym none)) c.begin.ensures.state

@@ -1,9 +1,0 @@
--- Each iteration moves on to the next line.
-use Rattle.std.proofs.Common.{◌≡◌, ◌-◌, length}
-use Rattle.md_blocks.proofs.pass.Pass.run.Given as goal
-
-abbrev pub invariant-lines : goal.invariant-lines
-invariant-lines l = l.self.bytes.now ≡ l.bytes
-
-abbrev pub decreases-lines : goal.decreases-lines
-decreases-lines l = length l.bytes - l.at
